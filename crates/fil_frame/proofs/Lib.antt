@@ -1,0 +1,3 @@
+pub mod CrcLemmas
+pub mod Bytes
+pub mod Sealed

@@ -1,0 +1,11 @@
+pub mod WordLists
+pub mod Texts
+pub mod CameLemmas
+pub mod Chains
+pub mod Told
+pub mod SchemaReading
+pub mod FileReading
+pub mod Outcomes
+pub mod Widths
+pub mod RowTexts
+pub mod RowsOfChain

@@ -1,0 +1,36 @@
+-- A text that grew piece by piece.
+use Rattle.std.proofs.Common.{◌≡◌, ℕ, ◌+◌, suc, ◌<◌, ◌≤◌, get_or, flat_map, drop, Result, Ok, Err, OnErr, ◌∷◌, List, ◌++◌, length, take, Option, Some, None, sym, ap, ◌∙◌, subst, arith, append_assoc, length-append}
+use Rattle.std.proofs.Math.Seq.{take-append-add, take-length, split_at}
+use Rattle.std.proofs.lemmas.List.{take-append-le}
+use Rattle.std.proofs.lemmas.List.Concat.{flat_map-append}
+use Rattle.page_source.specs.Objects.{GrowsBy, GrowsByPart}
+
+pub grows_on : (a b c : Option (List ℕ)) (xs ys : List ℕ) → GrowsBy a b xs → GrowsBy b c ys → GrowsBy a c (xs ++ ys)
+grows_on None b c xs ys first second = let e : b ≡ None = first in let f : GrowsBy None c ys = subst (λ (o : Option (List ℕ)). GrowsBy o c ys) e second in f
+grows_on (Some old) b c xs ys first second =
+    let f : GrowsBy (Some (old ++ xs)) c ys = subst (λ (o : Option (List ℕ)). GrowsBy o c ys) first second in
+    f ∙ ap Some (append_assoc old xs ys)
+
+-- after some whole pieces, a part of the next one
+pub grows_part : (a b c : Option (List ℕ)) (xs piece rest : List ℕ) → GrowsBy a b xs → GrowsByPart b c piece → GrowsByPart a c (xs ++ (piece ++ rest))
+grows_part None b c xs piece rest first second = subst (λ (o : Option (List ℕ)). GrowsByPart o c piece) first second
+grows_part (Some old) b c xs piece rest first second =
+    let f : GrowsByPart (Some (old ++ xs)) c piece = subst (λ (o : Option (List ℕ)). GrowsByPart o c piece) first second in
+    let k = f.0 in
+    let within : length xs + k ≤ length (xs ++ (piece ++ rest)) = omega (arith, length-append xs (piece ++ rest), length-append piece rest, f.1) in
+    let cut : take (length xs + k) (xs ++ (piece ++ rest)) ≡ xs ++ take k piece = take-append-add xs (piece ++ rest) k ∙ ap (λ (t : List ℕ). xs ++ t) (take-append-le k piece rest f.1) in
+    (length xs + k, within, f.2 ∙ ap Some (append_assoc old xs (take k piece) ∙ ap (λ (t : List ℕ). old ++ t) (sym cut)))
+
+-- a whole text is a part of itself
+pub grows_whole : (a b : Option (List ℕ)) (xs : List ℕ) → GrowsBy a b xs → GrowsByPart a b xs
+grows_whole None b xs first = first
+grows_whole (Some old) b xs first = (length xs, omega arith, first ∙ ap (λ (t : List ℕ). Some (old ++ t)) (sym (take-length xs)))
+
+-- the pieces before one, that piece, and those behind it
+pub pieces_at : {X : Type 0} (text : X → List ℕ) (pieces : List X) (i : ℕ) (d : X) → i < length pieces
+    → flat_map text pieces ≡ flat_map text (take i pieces) ++ (text (get_or pieces i d) ++ flat_map text (drop (suc i) pieces))
+pieces_at text pieces i d within = ap (flat_map text) (split_at pieces i d within) ∙ flat_map-append text (take i pieces) (get_or pieces i d ∷ drop (suc i) pieces)
+
+pub on_err : {A E : Type 0} (result : Result A E) (P : Type 0) → P → OnErr result P
+on_err (Ok a) P p = tt
+on_err (Err e) P p = p

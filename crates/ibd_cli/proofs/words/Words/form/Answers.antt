@@ -1,0 +1,15 @@
+use Rattle.std.proofs.Common.{refl}
+use Rattle.ibd_cli.proofs.WordLists.{three_words, four_words}
+use Rattle.ibd_cli.proofs.words.Words.form.Goals as goal
+
+pub returns-then-is_command : goal.returns-then-is_command
+returns-then-is_command c =
+    let shape = c.if-is_command.ensures.0 refl in three_words c.args.self.now _ shape.0 shape.1
+
+pub returns-then-is_command-2 : goal.returns-then-is_command-2
+returns-then-is_command-2 c =
+    let shape = c.if-is_command-2.ensures.0 refl in three_words c.args.self.now _ shape.0 shape.1
+
+pub returns-then-is_command-3 : goal.returns-then-is_command-3
+returns-then-is_command-3 c =
+    let shape = c.if-is_command-3.ensures.0 refl in four_words c.args.self.now _ shape.0 shape.1

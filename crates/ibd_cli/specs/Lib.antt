@@ -1,0 +1,11 @@
+pub mod Forms
+pub mod Lines
+pub mod Causes
+pub mod Reading
+pub mod Head
+pub mod IndexPage
+pub mod Checks
+pub mod Rows
+pub mod Outcome
+pub mod Answers
+pub mod Run

@@ -1,0 +1,50 @@
+-- What is printed: the line of a status.
+use Rattle.std.specs.Prelude.{ℕ, List, [], ◌++◌, codes, decimal}
+use Rattle.page_source.specs.declared.rule.Fault.{Fault}
+use Rattle.page_source.specs.Rules.{rule_number, rule_name}
+use Rattle.schema_text.specs.declared.errors.SchemaWhy.{SchemaWhy}
+use Rattle.schema_text.specs.declared.errors.SchemaWhy.TheVariants as whys
+use Rattle.ibd_cli.specs.declared.status.Status.{Status}
+use Rattle.ibd_cli.specs.declared.status.Status.TheVariants.{Done, Usage, SchemaRefused, Broken, SourceFault, SinkFault, Memory, Unbuilt}
+
+-- a number behind its name
+abbrev pub counted : List ℕ → ℕ → List ℕ
+counted name n = name ++ decimal n
+
+abbrev pub why_word : SchemaWhy → List ℕ
+why_word whys.Size = codes "size"
+why_word whys.End = codes "end"
+why_word whys.Form = codes "form"
+why_word whys.Name = codes "name"
+why_word whys.Number = codes "number"
+why_word whys.Count = codes "count"
+why_word whys.Twice = codes "twice"
+why_word whys.Unknown = codes "unknown"
+why_word whys.Key = codes "key"
+why_word whys.Root = codes "root"
+
+abbrev pub fault_line : Fault → List ℕ
+fault_line fault =
+    counted (codes "broken ") (rule_number fault.rule) ++ codes " " ++ rule_name fault.rule ++ counted (codes " page ") fault.page ++ codes "\n"
+
+-- what a status writes to the standard error: nothing where all is done
+abbrev pub status_line : Status → List ℕ
+status_line Done = []
+status_line Usage = codes "usage\n"
+status_line (SchemaRefused line why) = counted (codes "schema line ") line ++ codes " " ++ why_word why ++ codes "\n"
+status_line (Broken fault) = fault_line fault
+status_line SourceFault = codes "source\n"
+status_line SinkFault = codes "sink\n"
+status_line Memory = codes "memory\n"
+status_line Unbuilt = codes "unbuilt\n"
+
+-- the exit status of the process
+abbrev pub status_number : Status → ℕ
+status_number Done = 0
+status_number Usage = 1
+status_number (SchemaRefused line why) = 2
+status_number (Broken fault) = 3
+status_number SourceFault = 5
+status_number SinkFault = 6
+status_number Memory = 8
+status_number Unbuilt = 10

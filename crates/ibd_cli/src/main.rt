@@ -1,0 +1,62 @@
+//! Checks, dumps and builds tablespaces of MySQL 5.7: the whole program as one call, and `main`,
+//! which hands it the real objects.
+#![tactic(auto)]
+
+ghost use Rattle.std.specs.Prelude.{◌≡◌, ◌<◌};
+
+mod checks;
+mod command_line;
+mod dump;
+mod head;
+mod index_page;
+mod layout;
+mod record;
+mod report;
+mod root;
+mod rows;
+mod run;
+mod schema_file;
+mod status;
+#[cfg(test)]
+mod tests;
+mod words;
+
+use command_line::read_words;
+use page_source::{ByteSink, FileBytes, FilePages, FileStore, StdSink, Steps};
+pub use run::run;
+pub use status::Status;
+use std::marker::Brand;
+use std::process::ExitCode;
+use std::sync::ledger::{Blank, Ledger};
+pub use words::Words;
+
+fn main(rt: HostRuntime) -> ExitCode {
+    let status = match read_words(rt.alloc(), &rt) {
+        Ok(words) => start::<Brand>(&rt, &words, Blank::new(1)),
+        Err(_) => {
+            let _ = StdSink::new(rt.stderr()).put(b"memory\n");
+            Status::Memory
+        }
+    };
+    ExitCode::from(status.number())
+}
+
+// Hands the real objects to the program: the schema text is named by the first word behind the
+// command, the file by the second, or in a build the rows by the second and the file by the third.
+fn start<L: Ledger>(rt: &HostRuntime, words: &Words, blank: Blank) -> Status
+    requires name { blank.name ≡ L.name }
+    requires parts { blank.parts ≡ L.parts }
+    requires shared { 0 < blank.parts }
+{
+    run(
+        rt.alloc(),
+        words,
+        &mut FilePages::new(rt, words.get(2)),
+        &mut FileBytes::new(rt, words.get(1)),
+        &mut FileBytes::new(rt, words.get(2)),
+        &mut StdSink::new(rt.stdout()),
+        &mut StdSink::new(rt.stderr()),
+        &mut FileStore::new(rt, words.get(3)),
+        &mut Steps::<L>::new(blank),
+    )
+}

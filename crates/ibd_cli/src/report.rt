@@ -1,0 +1,101 @@
+//! The line of a status on the standard error.
+
+ghost use Rattle.std.specs.Prelude.{◌≡◌, ◌≤◌, flat_map, OnOk, OnErr};
+ghost use Rattle.page_source.specs.Faults.{HasCause};
+ghost use Rattle.page_source.specs.Objects.{GrowsBy, GrowsByPart};
+ghost use Rattle.ibd_cli.specs.Causes.{Reports};
+ghost use Rattle.ibd_cli.specs.Lines.{status_line, fault_line, why_word};
+
+use crate::status::Status;
+use itoa::Buffer;
+use page_source::{ByteSink, Failed, Fault};
+use schema_text::SchemaWhy;
+
+/// Writes the status's line. A fault of this sink changes nothing else.
+pub fn report<E: ByteSink>(err: &mut E, status: Status)
+    ensures text { Reports (E.written err.old) (E.written err.new) (E.faults err.old) (E.faults err.new) (status_line status) }
+    ensures later { E.faults err.old ≤ E.faults err.new }
+{
+    let _ = put_status(err, status);
+}
+
+fn put_status<E: ByteSink>(err: &mut E, status: Status) -> Result<(), Failed>
+    ensures ok { OnOk result (GrowsBy (E.written err.old) (E.written err.new) (status_line status)) }
+    ensures failed { OnErr result (GrowsByPart (E.written err.old) (E.written err.new) (status_line status)) }
+    ensures cause { HasCause (E.faults err.old) (E.faults err.new) result }
+{
+    match status {
+        Status::Done => err.put(b""),
+        Status::Usage => err.put(b"usage\n"),
+        Status::SchemaRefused { line, why } => put_refusal(err, line, why),
+        Status::Broken(fault) => put_fault(err, fault),
+        Status::SourceFault => err.put(b"source\n"),
+        Status::SinkFault => err.put(b"sink\n"),
+        Status::Memory => err.put(b"memory\n"),
+        Status::Unbuilt => err.put(b"unbuilt\n"),
+    }
+}
+
+fn put_refusal<E: ByteSink>(err: &mut E, line: u32, why: SchemaWhy) -> Result<(), Failed>
+    ensures ok { OnOk result (GrowsBy (E.written err.old) (E.written err.new) (status_line (Status.SchemaRefused line why))) }
+    ensures failed { OnErr result (GrowsByPart (E.written err.old) (E.written err.new) (status_line (Status.SchemaRefused line why))) }
+    ensures cause { HasCause (E.faults err.old) (E.faults err.new) result }
+{
+    let mut digits = Buffer::new();
+    let pieces = [
+        b"schema line ".as_slice(),
+        digits.format(line).as_bytes(),
+        b" ",
+        why_name(why).as_bytes(),
+        b"\n",
+    ];
+    put_pieces(err, &pieces)
+}
+
+fn put_fault<E: ByteSink>(err: &mut E, fault: Fault) -> Result<(), Failed>
+    ensures ok { OnOk result (GrowsBy (E.written err.old) (E.written err.new) (fault_line fault)) }
+    ensures failed { OnErr result (GrowsByPart (E.written err.old) (E.written err.new) (fault_line fault)) }
+    ensures cause { HasCause (E.faults err.old) (E.faults err.new) result }
+{
+    let mut rule = Buffer::new();
+    let mut page = Buffer::new();
+    let pieces = [
+        b"broken ".as_slice(),
+        rule.format(fault.rule.number()).as_bytes(),
+        b" ",
+        fault.rule.name().as_bytes(),
+        b" page ",
+        page.format(fault.page).as_bytes(),
+        b"\n",
+    ];
+    put_pieces(err, &pieces)
+}
+
+fn why_name(why: SchemaWhy) -> &'static str
+    ensures { result.now ≡ why_word why }
+{
+    match why {
+        SchemaWhy::Size => "size",
+        SchemaWhy::End => "end",
+        SchemaWhy::Form => "form",
+        SchemaWhy::Name => "name",
+        SchemaWhy::Number => "number",
+        SchemaWhy::Count => "count",
+        SchemaWhy::Twice => "twice",
+        SchemaWhy::Unknown => "unknown",
+        SchemaWhy::Key => "key",
+        SchemaWhy::Root => "root",
+    }
+}
+
+// Puts the pieces, up to the first that fails.
+fn put_pieces<E: ByteSink>(err: &mut E, pieces: &[&[u8]]) -> Result<(), Failed>
+    ensures ok { OnOk result (GrowsBy (E.written err.old) (E.written err.new) (flat_map (λ piece. piece.now) pieces.now)) }
+    ensures failed { OnErr result (GrowsByPart (E.written err.old) (E.written err.new) (flat_map (λ piece. piece.now) pieces.now)) }
+    ensures cause { HasCause (E.faults err.old) (E.faults err.new) result }
+{
+    for piece in pieces {
+        err.put(piece)?;
+    }
+    Ok(())
+}

@@ -1,0 +1,438 @@
+//! The whole program over objects in memory.
+
+ghost use Rattle.std.specs.Prelude.{◌≡◌, ◌<◌};
+
+mod edits;
+mod worked;
+
+use self::edits::{ALL, Edit};
+use self::worked::{LEAF_KINDS, ONE_INT, Piece, THREE_ROWS, TWO_LEVELS, Worked};
+use crate::{Status, Words, run};
+use itoa::Buffer;
+use page_source::{
+    ByteList, Fails, MemoryBytes, MemoryPages, MemorySink, MemoryStore, NoMemory, Steps,
+};
+use std::alloc::Global;
+use std::marker::Brand;
+use std::process::Abort;
+use std::sync::ledger::{Blank, Ledger};
+use std::test::Fail;
+
+/// More than any text that is written here.
+const ROOM: usize = 1000;
+
+/// A command and what it is given. The calls with these numbers fail.
+#[derive(Clone, Copy)]
+struct Command<'a> {
+    words: &'a [&'a str],
+    file: &'a [u8],
+    file_fails: &'a [u64],
+    schema: &'a [u8],
+    schema_fails: &'a [u64],
+    room: usize,
+    out_fails: &'a [u64],
+    err_fails: &'a [u64],
+}
+
+impl<'a> Command<'a> {
+    /// A dump of the file with the schema of the worked files.
+    fn dump(file: &'a [u8]) -> Command<'a> {
+        Command {
+            words: &["dump", "s", "f"],
+            file,
+            file_fails: &[],
+            schema: ONE_INT.as_bytes(),
+            schema_fails: &[],
+            room: ROOM,
+            out_fails: &[],
+            err_fails: &[],
+        }
+    }
+
+    /// The exit status, the standard output and the standard error, with bars between. No call may
+    /// be made of the rows and the target.
+    fn answer(&self, alloc: Global) -> Result<ByteList, NoMemory> {
+        let words = words_of(alloc, self.words)?;
+        let mut inputs = self.inputs(alloc)?;
+        let mut outputs = self.outputs(alloc)?;
+        let status = status::<Brand>(alloc, &words, &mut inputs, &mut outputs, Blank::new(1));
+        answer_text(alloc, status, outputs.out.bytes(), outputs.err.bytes())
+    }
+
+    fn inputs(&self, alloc: Global) -> Result<Inputs, NoMemory> {
+        let file = pages_of(alloc, self.file, self.file_fails)?;
+        let schema = bytes_of(alloc, self.schema, self.schema_fails)?;
+        let rows = bytes_of(alloc, b"", &[1])?;
+        Ok(Inputs { file, schema, rows })
+    }
+
+    fn outputs(&self, alloc: Global) -> Result<Outputs, NoMemory> {
+        let out = sink_of(alloc, self.room, self.out_fails)?;
+        let err = sink_of(alloc, ROOM, self.err_fails)?;
+        let target = store_of(alloc)?;
+        Ok(Outputs { out, err, target })
+    }
+}
+
+/// What the program reads.
+#[derive(Drop)]
+struct Inputs {
+    file: MemoryPages,
+    schema: MemoryBytes,
+    rows: MemoryBytes,
+}
+
+/// What the program writes.
+#[derive(Drop)]
+struct Outputs {
+    out: MemorySink,
+    err: MemorySink,
+    target: MemoryStore,
+}
+
+fn status<L: Ledger>(
+    alloc: Global,
+    words: &Words,
+    inputs: &mut Inputs,
+    outputs: &mut Outputs,
+    blank: Blank,
+) -> Status
+    requires name { blank.name ≡ L.name }
+    requires parts { blank.parts ≡ L.parts }
+    requires shared { 0 < blank.parts }
+{
+    run(
+        alloc,
+        words,
+        &mut inputs.file,
+        &mut inputs.schema,
+        &mut inputs.rows,
+        &mut outputs.out,
+        &mut outputs.err,
+        &mut outputs.target,
+        &mut Steps::<L>::new(blank),
+    )
+}
+
+fn words_of(alloc: Global, texts: &[&str]) -> Result<Words, NoMemory> {
+    let mut words = Words::new(alloc);
+    for text in texts {
+        words.push(text.as_bytes())?;
+    }
+    Ok(words)
+}
+
+fn pages_of(alloc: Global, bytes: &[u8], fails: &[u64]) -> Result<MemoryPages, NoMemory> {
+    Ok(MemoryPages::new(copy(alloc, bytes)?, Fails::of(alloc, fails)?))
+}
+
+fn bytes_of(alloc: Global, bytes: &[u8], fails: &[u64]) -> Result<MemoryBytes, NoMemory> {
+    Ok(MemoryBytes::new(copy(alloc, bytes)?, Fails::of(alloc, fails)?))
+}
+
+fn sink_of(alloc: Global, room: usize, fails: &[u64]) -> Result<MemorySink, NoMemory> {
+    MemorySink::new(alloc, room, Fails::of(alloc, fails)?)
+}
+
+/// A file for no page, whose first call fails.
+fn store_of(alloc: Global) -> Result<MemoryStore, NoMemory> {
+    MemoryStore::new(alloc, 0, Fails::of(alloc, &[1])?)
+}
+
+fn answer_text(
+    alloc: Global,
+    status: Status,
+    out: &[u8],
+    err: &[u8],
+) -> Result<ByteList, NoMemory> {
+    let mut text = ByteList::new(alloc);
+    text.extend(Buffer::new().format(status.number()).as_bytes())?;
+    for part in [b"|", out, b"|", err] {
+        text.extend(part)?;
+    }
+    Ok(text)
+}
+
+fn copy(alloc: Global, bytes: &[u8]) -> Result<ByteList, NoMemory> {
+    let mut list = ByteList::new(alloc);
+    list.extend(bytes)?;
+    Ok(list)
+}
+
+/// Fails the test where the command answers something else.
+fn expect(rt: &impl Abort, alloc: Global, command: Command, want: &str) -> Result<(), Fail> {
+    let found = command.answer(alloc)?;
+    assert_eq!(rt; found.bytes(), want.as_bytes());
+    Ok(())
+}
+
+#[test]
+fn dumps_the_worked_files(rt: HostRuntime) -> Result<(), Fail> {
+    let file = Worked::of(&THREE_ROWS).bytes(&rt, rt.alloc())?;
+    expect(&rt, rt.alloc(), Command::dump(file.bytes()), ALL)?;
+    let file = Worked::of(&[]).bytes(&rt, rt.alloc())?;
+    expect(&rt, rt.alloc(), Command::dump(file.bytes()), "0||")?;
+    let two_levels = Worked {
+        kinds: LEAF_KINDS,
+        ..Worked::of(&TWO_LEVELS)
+    };
+    let file = two_levels.bytes(&rt, rt.alloc())?;
+    expect(
+        &rt,
+        rt.alloc(),
+        Command::dump(file.bytes()),
+        "10||unbuilt\n",
+    )
+}
+
+#[test]
+fn dumps_other_integers(rt: HostRuntime) -> Result<(), Fail> {
+    let tables: [(&str, &[Piece], &str); 2] = [
+        (
+            "table t dynamic\ncolumn id bigint notnull\nclustered root 3 id\n",
+            &[
+                (3, 41, &[146, 0x80, 3]),
+                (3, 55, &[1]),
+                (3, 98, &[26]),
+                (3, 107, &[2]),
+                (3, 120, &[0, 0, 0x10, 0xFF, 0xF3]),
+            ],
+            "0|INSERT INTO `t` VALUES (-9223372036854775808);\n|",
+        ),
+        (
+            "table t dynamic\ncolumn id mediumint notnull\ncolumn n smallint unsigned notnull\nclustered root 3 id\n",
+            &[
+                (3, 41, &[166, 0x80, 4]),
+                (3, 55, &[2]),
+                (3, 98, &[26]),
+                (3, 107, &[3]),
+                (3, 120, &[0, 0, 0x10, 0, 23]),
+                (
+                    3,
+                    141,
+                    &[0xFF, 0xFF, 0, 0, 0x18, 0xFF, 0xDC, 0xFF, 0xFF, 0xFF],
+                ),
+                (3, 164, &[1, 2]),
+            ],
+            "0|INSERT INTO `t` VALUES (-8388608,65535);\nINSERT INTO `t` VALUES (8388607,258);\n|",
+        ),
+    ];
+    for (schema, rows, want) in tables {
+        let file = Worked::of(rows).bytes(&rt, rt.alloc())?;
+        let command = Command {
+            schema: schema.as_bytes(),
+            ..Command::dump(file.bytes())
+        };
+        expect(&rt, rt.alloc(), command, want)?;
+    }
+    Ok(())
+}
+
+/// Fails the test where a dump of the file with three rows and one of these edits answers something
+/// else.
+fn expect_edits(rt: &impl Abort, alloc: Global, edits: &[Edit]) -> Result<(), Fail> {
+    for (edits, want) in edits {
+        let worked = Worked {
+            edits,
+            ..Worked::of(&THREE_ROWS)
+        };
+        let file = worked.bytes(rt, alloc)?;
+        let found = Command::dump(file.bytes()).answer(alloc)?;
+        assert_eq!(rt; found.bytes(), want.as_bytes(), "{edits:?}");
+    }
+    Ok(())
+}
+
+#[test]
+fn checks_the_head(rt: HostRuntime) -> Result<(), Fail> {
+    expect_edits(&rt, rt.alloc(), &edits::HEAD)
+}
+
+#[test]
+fn checks_the_place_of_the_root(rt: HostRuntime) -> Result<(), Fail> {
+    expect_edits(&rt, rt.alloc(), &edits::ROOT)
+}
+
+#[test]
+fn checks_the_page_header(rt: HostRuntime) -> Result<(), Fail> {
+    expect_edits(&rt, rt.alloc(), &edits::PAGE_HEADER)
+}
+
+#[test]
+fn checks_the_page_ends(rt: HostRuntime) -> Result<(), Fail> {
+    expect_edits(&rt, rt.alloc(), &edits::PAGE_ENDS)
+}
+
+#[test]
+fn checks_the_record_chain(rt: HostRuntime) -> Result<(), Fail> {
+    expect_edits(&rt, rt.alloc(), &edits::RECORD_CHAIN)
+}
+
+#[test]
+fn dumps_edited_records(rt: HostRuntime) -> Result<(), Fail> {
+    expect_edits(&rt, rt.alloc(), &edits::ROWS)
+}
+
+/// The file with the lowest bit of byte `at` of page `n` changed.
+fn flipped(alloc: Global, file: &[u8], n: usize, at: usize) -> Result<ByteList, NoMemory> {
+    let mut bytes = ByteList::new(alloc);
+    for (place, byte) in file.iter().enumerate() {
+        let is_it = place / 16384 == n && place % 16384 == at;
+        bytes.push(if is_it { byte ^ 1 } else { *byte })?;
+    }
+    Ok(bytes)
+}
+
+/// What a dump answers where the lowest bit of this byte is changed, in a frame field of page `n`.
+/// The flush LSN is in no sum, and page 0 has to tell its space before its frame can be judged.
+fn want_flipped(n: usize, at: usize) -> &'static str {
+    match (n, at) {
+        (0 | 3, 26..=33) => ALL,
+        (0, 34..=37) => "3||broken 4 head-space page 0\n",
+        (0, _) => "3||broken 2 head-frame page 0\n",
+        (3, _) => "3||broken 25 frame page 3\n",
+        _ => ALL,
+    }
+}
+
+#[test]
+fn sees_each_byte_of_the_frames(rt: HostRuntime) -> Result<(), Fail> {
+    let alloc = rt.alloc();
+    let file = Worked::of(&THREE_ROWS).bytes(&rt, alloc)?;
+    for n in 0..6 {
+        for at in (0..38).chain(16376..16384) {
+            let edited = flipped(alloc, file.bytes(), n, at)?;
+            let found = Command::dump(edited.bytes()).answer(alloc)?;
+            assert_eq!(rt;
+                found.bytes(),
+                want_flipped(n, at).as_bytes(),
+                "byte {at} of page {n}"
+            );
+        }
+    }
+    Ok(())
+}
+
+#[test]
+fn reads_files_of_any_size(rt: HostRuntime) -> Result<(), Fail> {
+    let mut file = Worked::of(&THREE_ROWS).bytes(&rt, rt.alloc())?;
+    file.extend(b"extra")?;
+    let sizes = [
+        (98_309, ALL),
+        (98_304, ALL),
+        (98_303, "3||broken 6 head-size page 0\n"),
+        (65_536, "3||broken 6 head-size page 0\n"),
+        (65_535, "3||broken 1 file-size page 0\n"),
+        (0, "3||broken 1 file-size page 0\n"),
+    ];
+    for (size, want) in sizes {
+        let (front, _) = file.bytes().split_at_checked(size).ok_or("a short file")?;
+        expect(&rt, rt.alloc(), Command::dump(front), want)?;
+    }
+    Ok(())
+}
+
+#[test]
+fn serves_no_other_words(rt: HostRuntime) -> Result<(), Fail> {
+    let commands: [(&[&str], &str); 16] = [
+        (&[], "1||usage\n"),
+        (&["dump"], "1||usage\n"),
+        (&["dump", "s"], "1||usage\n"),
+        (&["dump", "s", "f", "g"], "1||usage\n"),
+        (&["Dump", "s", "f"], "1||usage\n"),
+        (&["check", "s"], "1||usage\n"),
+        (&["build", "s", "r"], "1||usage\n"),
+        (&["sample"], "1||usage\n"),
+        (&["sample", "07"], "1||usage\n"),
+        (&["sample", "200001"], "1||usage\n"),
+        (&["sample", "-1"], "1||usage\n"),
+        (&["sample", "1", "2"], "1||usage\n"),
+        (&["check", "s", "f"], "10||unbuilt\n"),
+        (&["build", "s", "r", "f"], "10||unbuilt\n"),
+        (&["sample", "0"], "10||unbuilt\n"),
+        (&["sample", "200000"], "10||unbuilt\n"),
+    ];
+    for (words, want) in commands {
+        let command = Command {
+            words,
+            file_fails: &[1],
+            schema_fails: &[1],
+            out_fails: &[1],
+            ..Command::dump(b"")
+        };
+        expect(&rt, rt.alloc(), command, want)?;
+    }
+    Ok(())
+}
+
+#[test]
+fn serves_no_other_schema(rt: HostRuntime) -> Result<(), Fail> {
+    let file = Worked::of(&THREE_ROWS).bytes(&rt, rt.alloc())?;
+    let long = Vec::from_elem(rt.alloc(), b'x', 70_000)?;
+    let schemas: [&[u8]; 5] = [
+        b"",
+        b"table t dynamic\ncolumn id int notnull\nclustered root 3 id",
+        b"table t compact\ncolumn id int notnull\nclustered root 3 id\n",
+        b"table t dynamic\ncolumn id int null\nclustered root 3 id\n",
+        &long,
+    ];
+    for schema in schemas {
+        let command = Command {
+            schema,
+            ..Command::dump(file.bytes())
+        };
+        expect(&rt, rt.alloc(), command, "10||unbuilt\n")?;
+    }
+    Ok(())
+}
+
+#[test]
+fn tells_which_object_failed(rt: HostRuntime) -> Result<(), Fail> {
+    let file = Worked::of(&THREE_ROWS).bytes(&rt, rt.alloc())?;
+    let source = "5||source\n";
+    // The calls of the file, of the schema and of the output that fail, and the output's room.
+    let cases: [([&[u64]; 3], usize, &str); 9] = [
+        ([&[1], &[], &[]], ROOM, source),
+        ([&[2], &[], &[]], ROOM, source),
+        ([&[3], &[], &[]], ROOM, source),
+        ([&[], &[1], &[]], ROOM, source),
+        ([&[], &[2], &[]], ROOM, source),
+        ([&[], &[], &[1]], ROOM, "6||sink\n"),
+        ([&[], &[], &[]], 0, "6||sink\n"),
+        ([&[], &[], &[]], 93, "6||sink\n"),
+        ([&[4], &[3], &[2]], 94, ALL),
+    ];
+    for ([file_fails, schema_fails, out_fails], room, want) in cases {
+        let command = Command {
+            file_fails,
+            schema_fails,
+            room,
+            out_fails,
+            ..Command::dump(file.bytes())
+        };
+        expect(&rt, rt.alloc(), command, want)?;
+    }
+    Ok(())
+}
+
+#[test]
+fn goes_on_where_the_report_fails(rt: HostRuntime) -> Result<(), Fail> {
+    let wants = [
+        "3||",
+        "3||broken ",
+        "3||broken 1",
+        "3||broken 1 ",
+        "3||broken 1 file-size",
+        "3||broken 1 file-size page ",
+        "3||broken 1 file-size page 0",
+        "3||broken 1 file-size page 0\n",
+    ];
+    for (call, want) in (1..).zip(wants) {
+        let command = Command {
+            err_fails: &[call],
+            ..Command::dump(b"")
+        };
+        expect(&rt, rt.alloc(), command, want)?;
+    }
+    Ok(())
+}

@@ -1,0 +1,4 @@
+pub mod Numbers
+pub mod Edits
+pub mod Unique
+pub mod Slots

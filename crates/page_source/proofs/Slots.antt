@@ -1,0 +1,49 @@
+-- What a store in memory holds after a slot was added or written.
+use Rattle.std.proofs.Common.{◌≡◌, ℕ, zero, suc, ◌+◌, ◌<◌, Bool, true, false, cond, eqb, List, [], ◌∷◌, ◌++◌, length, set, Some, refl, sym, ap, ◌∙◌, arith, zero-add, add-zero}
+use Rattle.std.proofs.lemmas.Bool.Decides.{nat_tests}
+use Rattle.std.specs.Cmp.{nat_cmp_total, unsigned_tied}
+use Rattle.std.specs.FinMap.{get, insert, get-insert, same_map, nat_cmp-IsAntisymmetric}
+use Rattle.page_source.specs.declared.memory.store.Slot.{Slot}
+use Rattle.page_source.specs.Objects.{PageMap}
+use Rattle.page_source.specs.Slots.{held_from}
+
+-- a slot that nothing was put into adds no page
+pub held_from-push : (n : ℕ) (slots : List Slot) (slot : Slot) → slot.held ≡ false → held_from n (slots ++ slot ∷ []) ≡ held_from n slots
+held_from-push n [] slot none = rw none refl
+held_from-push n (first ∷ slots) slot none =
+    ap (λ (pages : PageMap). cond first.held (insert pages n first.page) pages) (held_from-push (suc n) slots slot none)
+
+get-insert_at : (pages : PageMap) (n : ℕ) (page : List ℕ) (q : ℕ) → get (insert pages n page) q ≡ cond (eqb q n) (Some page) (get pages q)
+get-insert_at pages n page q =
+    get-insert nat_cmp_total pages n page q ∙ ap (λ b. cond b (Some page) (get pages q)) (unsigned_tied q n)
+
+-- a page over the first one
+over_first : (rest : PageMap) (n q : ℕ) (held : Bool) (old new : List ℕ)
+    → get (insert rest n new) q ≡ cond (eqb q n) (Some new) (get (cond held (insert rest n old) rest) q)
+over_first rest n q true old new = grind (arith, nat_tests, get-insert_at rest n new q, get-insert_at rest n old q)
+over_first rest n q false old new = get-insert_at rest n new q
+
+-- a page at a later number
+after_first : (rest now : PageMap) (n m q : ℕ) (held : Bool) (old new : List ℕ) → n < m
+    → get now q ≡ cond (eqb q m) (Some new) (get rest q)
+    → get (cond held (insert now n old) now) q ≡ cond (eqb q m) (Some new) (get (cond held (insert rest n old) rest) q)
+after_first rest now n m q true old new later is = grind (arith, nat_tests, get-insert_at now n old q, get-insert_at rest n old q)
+after_first rest now n m q false old new later is = is
+
+get-held_from_set : (q n i : ℕ) (slots : List Slot) (slot : Slot) → i < length slots → slot.held ≡ true
+    → get (held_from n (set slots i slot)) q ≡ cond (eqb q (n + i)) (Some slot.page) (get (held_from n slots) q)
+get-held_from_set q n i [] slot inside put = absurd (omega arith)
+get-held_from_set q n zero (first ∷ slots) slot inside put =
+    rw (put, add-zero) (over_first (held_from (suc n) slots) n q first.held first.page slot.page)
+get-held_from_set q n (suc i) (first ∷ slots) slot inside put =
+    let place : suc n + i ≡ n + suc i = omega arith in
+    let rest : get (held_from (suc n) (set slots i slot)) q ≡ cond (eqb q (n + suc i)) (Some slot.page) (get (held_from (suc n) slots) q) = rw (← place) (get-held_from_set q (suc n) i slots slot (omega arith) put) in
+    after_first (held_from (suc n) slots) (held_from (suc n) (set slots i slot)) n (n + suc i) q first.held first.page slot.page (omega arith) rest
+
+-- a page that is put into slot i is the page at i
+pub held_from-set : (slots : List Slot) (i : ℕ) (slot : Slot) → i < length slots → slot.held ≡ true → held_from 0 (set slots i slot) ≡ insert (held_from 0 slots) i slot.page
+held_from-set slots i slot inside put =
+    same_map nat_cmp_total nat_cmp-IsAntisymmetric _ _
+    (λ q. get-held_from_set q 0 i slots slot inside put ∙ rw zero-add (sym (get-insert_at (held_from 0 slots) i slot.page q)))
+
+pub ruleset slot_changes = (held_from-push, held_from-set)

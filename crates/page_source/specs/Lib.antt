@@ -1,0 +1,9 @@
+pub mod Verdict
+pub mod Faults
+pub mod Pages
+pub mod Rules
+pub mod Answers
+pub mod Objects
+pub mod Memory
+pub mod MemoryCodes
+pub mod Slots

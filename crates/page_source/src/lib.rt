@@ -1,0 +1,26 @@
+//! Pages of a tablespace file and the numbers on them, the rules' names, and the objects that
+//! reach outside: a file of pages, a text that is read, a text that is written, a file that is made.
+#![tactic(auto)]
+
+mod bytes;
+mod counted;
+mod errors;
+mod files;
+mod memory;
+mod objects;
+mod page;
+mod rule;
+mod steps;
+mod streams;
+#[cfg(test)]
+mod tests;
+
+pub use bytes::ByteList;
+pub use errors::{Failed, NoMemory};
+pub use files::{FileBytes, FilePages, FileStore};
+pub use memory::{Fails, MemoryBytes, MemoryPages, MemorySink, MemoryStore};
+pub use objects::{ByteSink, ByteSource, PageSource, PageStore};
+pub use page::{Page, read_be, write_be};
+pub use rule::{Fault, Rule};
+pub use steps::Steps;
+pub use streams::StdSink;

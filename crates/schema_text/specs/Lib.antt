@@ -1,0 +1,5 @@
+pub mod Formats
+pub mod TableDef
+pub mod Grammar
+pub mod First
+pub mod Cuts

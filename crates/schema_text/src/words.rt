@@ -1,0 +1,90 @@
+//! Words, names and numbers of a line.
+
+ghost use Rattle.std.specs.Prelude.{◌≡◌, ◌<◌, ◌^◌, ◌↔◌, ◌==◌, ◌∷◌, ◌++◌, List, ℕ, All, IsTrue, IfSome, IsSomeAnd, Some, decimal, position};
+ghost use Rattle.schema_text.specs.Grammar.{IsName, IsNameByte, IsRoot};
+ghost use Rattle.schema_text.specs.Cuts.{Lacks};
+
+use itoa::Buffer;
+use std::str;
+
+const LONGEST_NAME: usize = 64;
+
+/// Root pages are behind the first three pages, which are the tablespace's own.
+const FIRST_ROOT: u32 = 3;
+
+const LAST_ROOT: u32 = 4_194_303;
+
+/// What follows the front that the text begins with.
+pub(crate) fn after<'a>(text: &'a [u8], front: &[u8]) -> Option<&'a [u8]>
+    ensures found { IfSome result (λ rest. text.now ≡ front.now ++ rest.now) }
+    ensures only { (rest : List ℕ) → text.now ≡ front.now ++ rest
+        → IsSomeAnd result (λ found. found.now ≡ rest) }
+{
+    text.strip_prefix(front)
+}
+
+/// What stands before the end that the text ends with.
+pub(crate) fn before<'a>(text: &'a [u8], end: &[u8]) -> Option<&'a [u8]>
+    ensures found { IfSome result (λ rest. text.now ≡ rest.now ++ end.now) }
+    ensures only { (rest : List ℕ) → text.now ≡ rest ++ end.now
+        → IsSomeAnd result (λ found. found.now ≡ rest) }
+{
+    text.strip_suffix(end)
+}
+
+/// The place of the first such byte.
+fn first_place(text: &[u8], byte: u8) -> Option<usize>
+    ensures { result ≡ position (λ b. b == byte) text.now }
+{
+    text.iter().position(|b| *b == byte)
+}
+
+/// What stands before the first such byte, and what follows it.
+pub(crate) fn cut(text: &[u8], byte: u8) -> Option<(&[u8], &[u8])>
+    ensures found { IfSome result (λ parts. text.now ≡ parts.0.now ++ byte ∷ parts.1.now) }
+    ensures only { (first rest : List ℕ) → Lacks byte first → text.now ≡ first ++ byte ∷ rest
+        → IsSomeAnd result (λ parts. (parts.0.now ≡ first) × (parts.1.now ≡ rest)) }
+{
+    let at = first_place(text, byte)?;
+    Some((&text[..at], &text[at + 1..]))
+}
+
+/// Whether the byte may stand in a name: `A-Z a-z 0-9 _ $`.
+fn is_name_byte(byte: u8) -> bool
+    ensures { IsTrue result ↔ IsNameByte byte }
+{
+    matches!(byte, b'A'..=b'Z' | b'a'..=b'z' | b'0'..=b'9' | b'_' | b'$')
+}
+
+/// Whether these bytes are a name.
+pub(crate) fn is_name(word: &[u8]) -> bool
+    ensures { IsTrue result ↔ IsName word.now }
+{
+    !word.is_empty() && word.len() <= LONGEST_NAME && word.iter().all(|b| is_name_byte(*b))
+}
+
+/// Whether the word is the number, in decimal without leading zeros.
+fn is_decimal(word: &[u8], number: u32) -> bool
+    ensures { IsTrue result ↔ (word.now ≡ decimal number) }
+{
+    Buffer::new().format(number).as_bytes() == word
+}
+
+/// The number that the word spells, in decimal without leading zeros; none for any other word, and
+/// for numbers of 2^32 and up.
+pub fn decimal_number(word: &[u8]) -> Option<u32>
+    ensures found { IfSome result (λ n. word.now ≡ decimal n) }
+    ensures only { (n : ℕ) → n < 2 ^ 32 → word.now ≡ decimal n → result ≡ Some n }
+{
+    let number: u32 = str::from_utf8(word).ok()?.parse().ok()?;
+    is_decimal(word, number).then_some(number)
+}
+
+/// The number of a root page.
+pub(crate) fn root_number(word: &[u8]) -> Option<u32>
+    ensures found { IfSome result (λ root. IsRoot root × (word.now ≡ decimal root)) }
+    ensures only { (root : ℕ) → IsRoot root → word.now ≡ decimal root → result ≡ Some root }
+{
+    let root = decimal_number(word)?;
+    (FIRST_ROOT <= root && root <= LAST_ROOT).then_some(root)
+}
