@@ -1,9 +1,10 @@
 // Texts that are schemas of the first kind and texts that are not, by a reading apart from this one.
 use crate::Schema;
+use page_source::NoMemory;
 use std::alloc::{AllocError, Global};
 use std::test::Fail;
 
-const ONE_COLUMN: &[u8] = b"table t dynamic\ncolumn id int notnull\nclustered root 3 id\n";
+const ONE_COLUMN: [u8; 58] = *b"table t dynamic\ncolumn id int notnull\nclustered root 3 id\n";
 
 #[test]
 fn reads_each_part(rt: HostRuntime) -> Result<(), Fail> {
@@ -148,8 +149,16 @@ fn reads_64_columns_at_most(rt: HostRuntime) -> Result<(), Fail> {
 const TWO_COLUMNS: [u8; 90] =
     *b"table t dynamic\ncolumn a int notnull\ncolumn b bigint unsigned notnull\nclustered root 30 b\n";
 
-/// The bytes that may stand at a place of `TWO_COLUMNS` in place of the one there.
-const CHANGES: [(usize, &[u8]); 5] = [
+/// The bytes that may stand at a place of a text in place of the one there.
+const CHANGES_OF_ONE_COLUMN: [(usize, &[u8]); 2] = [
+    (
+        6,
+        b"$0123456789ABCDEFGHIJKLMNOPQRSTUVWXYZ_abcdefghijklmnopqrsuvwxyz",
+    ),
+    (53, b"456789"),
+];
+
+const CHANGES_OF_TWO_COLUMNS: [(usize, &[u8]); 5] = [
     (
         6,
         b"$0123456789ABCDEFGHIJKLMNOPQRSTUVWXYZ_abcdefghijklmnopqrsuvwxyz",
@@ -163,19 +172,34 @@ const CHANGES: [(usize, &[u8]); 5] = [
     (88, b"a"),
 ];
 
-#[test]
-fn reads_few_texts_with_one_byte_changed(rt: HostRuntime) -> Result<(), Fail> {
-    for at in 0..90 {
-        let mut text = TWO_COLUMNS;
+/// The first place and byte where the text so changed reads and may not, or may and doesn't.
+fn first_wrong_change<const N: usize>(
+    alloc: Global,
+    text: [u8; N],
+    changes: &[(usize, &[u8])],
+) -> Result<Option<(usize, u8)>, NoMemory> {
+    for at in 0..N {
+        let mut changed = text;
         for byte in 0..=u8::MAX {
-            text[at] = byte;
-            let may_stand = byte == TWO_COLUMNS[at]
-                || CHANGES
+            changed[at] = byte;
+            let may_stand = byte == text[at]
+                || changes
                     .iter()
                     .any(|(place, bytes)| *place == at && bytes.contains(&byte));
-            let found = Schema::read_first(rt.alloc(), &text)?;
-            assert_eq!(rt; found.is_some(), may_stand, "{byte} at {at}");
+            if Schema::read_first(alloc, &changed)?.is_some() != may_stand {
+                return Ok(Some((at, byte)));
+            }
         }
     }
+    Ok(None)
+}
+
+#[test]
+fn reads_few_texts_with_one_byte_changed(rt: HostRuntime) -> Result<(), Fail> {
+    let alloc = rt.alloc();
+    let wrong = first_wrong_change(alloc, ONE_COLUMN, &CHANGES_OF_ONE_COLUMN)?;
+    assert_eq!(rt; wrong, None, "one column");
+    let wrong = first_wrong_change(alloc, TWO_COLUMNS, &CHANGES_OF_TWO_COLUMNS)?;
+    assert_eq!(rt; wrong, None, "two columns");
     Ok(())
 }
