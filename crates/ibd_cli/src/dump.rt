@@ -4,7 +4,7 @@ ghost use Rattle.std.specs.Prelude.{◌≡◌, ◌+◌, ◌≤◌, ◌≢◌, le
 ghost use Rattle.page_source.specs.Faults.{Rose};
 ghost use Rattle.schema_text.specs.Grammar.{IsTable};
 ghost use Rattle.schema_text.specs.First.{IsFirst};
-ghost use Rattle.ibd_cli.specs.Outcome.{Told, DumpGives};
+ghost use Rattle.ibd_cli.specs.Outcome.{Told, DumpGives, IsOtherSchema};
 ghost use Rattle.ibd_cli.specs.Answers.{ReadsSchema, ReadsRows, ReadsPage, Reads, Agrees, stop_of};
 
 use crate::checks::Halt;
@@ -48,6 +48,8 @@ pub fn read_text<F: PageSource, Q: ByteSource, L: Ledger>(
     ensures only { (told : Told) (given : Status) (output : List ℕ)
         → Q.left schema.old ≡ Some told.schema → F.content file.old ≡ Some told.file
         → DumpGives told given output → Agrees result given }
+    ensures untouched { (text : List ℕ) → Q.left schema.old ≡ Some text → IsOtherSchema text
+        → (file.new ≡ file.old) × (steps.new ≡ steps.old) }
     ensures same { F.content file.new ≡ F.content file.old }
     ensures cost { steps.new ≤ steps.old + 2 }
     ensures cause { result ≡ Err Stop.Source

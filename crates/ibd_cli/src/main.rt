@@ -1,5 +1,5 @@
-//! Checks, dumps and builds tablespaces of MySQL 5.7: the whole program as one call, and `main`,
-//! which hands it the real objects.
+//! Dumps tablespaces of MySQL 5.7: the whole program as one call, and `main`, which hands it the real
+//! objects.
 #![tactic(auto)]
 
 ghost use Rattle.std.specs.Prelude.{◌≡◌, ◌<◌};

@@ -5,7 +5,7 @@ ghost use Rattle.page_source.specs.Faults.{Rose};
 ghost use Rattle.ibd_cli.specs.Forms.{IsForm, HasNoForm};
 ghost use Rattle.ibd_cli.specs.Lines.{status_line};
 ghost use Rattle.ibd_cli.specs.Causes.{Reports};
-ghost use Rattle.ibd_cli.specs.Outcome.{Told, DumpGives};
+ghost use Rattle.ibd_cli.specs.Outcome.{Told, DumpGives, IsOtherSchema};
 ghost use Rattle.ibd_cli.specs.Run.{Leaves};
 
 use crate::dump::{Stop, read_text};
@@ -46,6 +46,8 @@ pub fn run<
     ensures file { ¬ (IsForm words.now Form.Dump) → file.new ≡ file.old }
     ensures schema { ¬ (IsForm words.now Form.Dump) → schema.new ≡ schema.old }
     ensures steps { ¬ (IsForm words.now Form.Dump) → steps.new ≡ steps.old }
+    ensures untouched { (text : List ℕ) → Q.left schema.old ≡ Some text → IsOtherSchema text
+        → (file.new ≡ file.old) × (steps.new ≡ steps.old) }
     ensures rows { rows.new ≡ rows.old }
     ensures target { target.new ≡ target.old }
 
@@ -97,6 +99,8 @@ fn dump<F: PageSource, Q: ByteSource, O: ByteSink, L: Ledger>(
         → ¬ (Rose (F.faults file.old) (F.faults file.new)) → ¬ (Rose (Q.faults schema.old) (Q.faults schema.new))
         → ¬ (Rose (O.faults out.old) (O.faults out.new))
         → (result ≡ given) ⊎ (result ≡ Status.Memory) }
+    ensures untouched { (text : List ℕ) → Q.left schema.old ≡ Some text → IsOtherSchema text
+        → (file.new ≡ file.old) × (steps.new ≡ steps.old) }
     ensures usage { result ≢ Status.Usage }
     ensures source { result ≡ Status.SourceFault
         → Rose (F.faults file.old) (F.faults file.new) ⊎ Rose (Q.faults schema.old) (Q.faults schema.new) }

@@ -379,6 +379,7 @@ fn serves_no_other_schema(rt: HostRuntime) -> Result<(), Fail> {
     for schema in schemas {
         let command = Command {
             schema,
+            file_fails: &[1],
             ..Command::dump(file.bytes())
         };
         expect(&rt, rt.alloc(), command, "10||unbuilt\n")?;
