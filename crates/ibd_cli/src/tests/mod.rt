@@ -315,11 +315,11 @@ fn sees_each_byte_of_the_frames(rt: HostRuntime) -> Result<(), Fail> {
 
 #[test]
 fn reads_files_of_any_size(rt: HostRuntime) -> Result<(), Fail> {
-    let mut file = Worked::of(&THREE_ROWS).bytes(&rt, rt.alloc())?;
+    let mut file = Worked::of(&[]).bytes(&rt, rt.alloc())?;
     file.extend(b"extra")?;
     let sizes = [
-        (98_309, ALL),
-        (98_304, ALL),
+        (98_309, "0||"),
+        (98_304, "0||"),
         (98_303, "3||broken 6 head-size page 0\n"),
         (65_536, "3||broken 6 head-size page 0\n"),
         (65_535, "3||broken 1 file-size page 0\n"),
