@@ -5,9 +5,7 @@ ghost use Rattle.std.specs.Bool.{OnTrue, OnFalse};
 ghost use Rattle.fil_frame.specs.Frame.{page_sum_of, kind_of, IsFramed, Seals, with_frame, sealed};
 
 use crate::crc::crc32c;
-use page_source::{Page, read_be, write_be};
-
-const PAGE_SIZE: usize = 16384;
+use page_source::{PAGE_SIZE, Page, read_be, write_be};
 
 // The places of the fields, with their names in fil0fil.h.
 

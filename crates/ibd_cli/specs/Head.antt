@@ -7,6 +7,10 @@ use Rattle.page_source.specs.Verdict.{Then}
 use Rattle.fil_frame.specs.Frame.{IsFramed, kind_of, space_of}
 use Rattle.page_source.specs.Answers.{Holds}
 
+-- the kind of page 0
+abbrev pub header_kind : ℕ
+header_kind = 8
+
 -- the space id that the space header names, the size in pages, the free limit and the flags
 abbrev pub header_space : List ℕ → ℕ
 header_space page = num page 38 4
@@ -45,7 +49,7 @@ pub record IsLimit (size limit : ℕ) : Type 0 where
 unfoldable pub HeaderChecks : List ℕ → ℕ → ℕ → Option Fault → Type 0
 HeaderChecks page pages flags =
     Then (Holds HeadFrame 0 (IsFramed page 0 (space_of page)))
-    (Then (Holds HeadType 0 (kind_of page ≡ 8))
+    (Then (Holds HeadType 0 (kind_of page ≡ header_kind))
     (Then (Holds HeadSpace 0 (space_of page ≡ header_space page))
     (Then (Holds HeadFlags 0 (HasFlags page flags))
     (Then (Holds HeadSize 0 (IsSize (stated_size page) pages))

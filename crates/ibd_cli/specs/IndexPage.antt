@@ -60,8 +60,8 @@ pub record HasHeader (page : List ℕ) : Type 0 where
 
 -- infimum and supremum are as they must be
 pub record HasEnds (page : List ℕ) : Type 0 where
-  pub infimum_text : slice_range page 99 107 ≡ codes "infimum" ++ 0 ∷ []
-  pub supremum_text : slice_range page 112 120 ≡ codes "supremum"
+  pub infimum_text : slice_range page infimum (infimum + 8) ≡ codes "infimum" ++ 0 ∷ []
+  pub supremum_text : slice_range page supremum (supremum + 8) ≡ codes "supremum"
   pub infimum_heap : heap_number page infimum ≡ 0
   pub supremum_heap : heap_number page supremum ≡ 1
   pub infimum_status : status_of page infimum ≡ 2

@@ -36,6 +36,17 @@ pub enum Stop {
     Memory,
 }
 
+impl From<Halt> for Stop {
+    ghost from_gives = { λ halt stop. stop ≡ stop_of halt };
+
+    fn from(halt: Halt) -> Self {
+        match halt {
+            Halt::Broken(fault) => Stop::Broken(fault),
+            Halt::Source => Stop::Source,
+        }
+    }
+}
+
 /// The lines of the rows of the table that the schema text describes. All checks are made before.
 pub fn read_text<F: PageSource, Q: ByteSource, L: Ledger>(
     alloc: Global,
@@ -116,16 +127,7 @@ pub fn read_rows<F: PageSource, L: Ledger>(
     };
     match check_root(file, schema.flags(), root, &mut page, steps) {
         Ok(()) => rows_of_page(alloc, &page, root, schema),
-        Err(halt) => Err(halted(halt)),
-    }
-}
-
-fn halted(halt: Halt) -> Stop
-    ensures { result ≡ stop_of halt }
-{
-    match halt {
-        Halt::Broken(fault) => Stop::Broken(fault),
-        Halt::Source => Stop::Source,
+        Err(halt) => Err(Stop::from(halt)),
     }
 }
 

@@ -1,6 +1,6 @@
 //! The first page of a tablespace: its frame and its space header (fsp0fsp).
 
-ghost use Rattle.std.specs.Prelude.{◌≡◌, ◌+◌, ◌-◌, ◌^◌, ◌≤◌, ◌<◌, ◌↔◌, ◌⊎◌, ℕ, min, IsTrue, IfOk, IfSome, Some, None};
+ghost use Rattle.std.specs.Prelude.{◌≡◌, ◌+◌, ◌-◌, ◌^◌, ◌≤◌, ◌<◌, ◌↔◌, ◌⊎◌, ℕ, min, IsTrue, IfOk, IfSome, Some};
 ghost use Rattle.page_source.specs.Pages.{page_of, page_count, num};
 ghost use Rattle.fil_frame.specs.Frame.{space_of};
 ghost use Rattle.ibd_cli.specs.Checks.{Halts, Finds, HaltsWithCause};

@@ -3,7 +3,7 @@
 
 ghost use Rattle.std.specs.Prelude.{◌≡◌, ◌+◌, ◌≤◌, ◌<◌, ◌↔◌, IsTrue, IfNone};
 ghost use Rattle.page_source.specs.Pages.{num};
-ghost use Rattle.ibd_cli.specs.IndexPage.{level_of, heap_top, HasHeader, HasEnds, IsOrigin, HasChain, HaveRoom, PageChecks};
+ghost use Rattle.ibd_cli.specs.IndexPage.{level_of, record_count, heap_top, HasHeader, HasEnds, IsOrigin, HasChain, HaveRoom, PageChecks};
 
 use crate::record::{
     INFIMUM, STATUS_INFIMUM, STATUS_SUPREMUM, SUPREMUM, heap_number, next_field, next_origin,
@@ -23,7 +23,7 @@ const HEAP_TOP: usize = 40;
 const HEAP_COUNT: usize = 42;
 
 /// PAGE_N_RECS, the number of records in the chain.
-pub const RECORD_COUNT: usize = 54;
+const RECORD_COUNT: usize = 54;
 
 /// PAGE_LEVEL, 0 on a leaf.
 const LEVEL: usize = 64;
@@ -39,6 +39,14 @@ const DIRECTORY_END: usize = 16376;
 
 /// The bytes of a record's header before its origin (REC_N_NEW_EXTRA_BYTES).
 const RECORD_HEADER: usize = 5;
+
+/// The number of records in the chain, infimum and supremum not counted.
+pub fn record_count(page: &Page) -> usize
+    ensures value { result ≡ record_count page.now }
+    ensures within { result < 65536 }
+{
+    field(page, RECORD_COUNT)
+}
 
 /// The level of the page in its tree, 0 on a leaf.
 pub fn level(page: &Page) -> u16
@@ -92,7 +100,7 @@ fn has_header(page: &Page) -> bool
         && top >= HEAP_START
         && top + 2 * slots <= DIRECTORY_END
         && heap >= COMPACT
-        && field(page, RECORD_COUNT) + 2 <= heap % COMPACT
+        && record_count(page) + 2 <= heap % COMPACT
 }
 
 fn has_ends(page: &Page) -> bool
@@ -118,7 +126,7 @@ fn has_chain(page: &Page) -> bool
     requires { HasHeader page.now }
     ensures { IsTrue result ↔ HasChain page.now }
 {
-    let records = field(page, RECORD_COUNT);
+    let records = record_count(page);
     let mut origin = INFIMUM;
     for _ in 0..records {
         origin = next_origin(page, origin);
@@ -135,7 +143,7 @@ fn have_room(page: &Page, size: usize) -> bool
     ensures { IsTrue result ↔ HaveRoom page.now size }
 {
     let top = field(page, HEAP_TOP);
-    let records = field(page, RECORD_COUNT);
+    let records = record_count(page);
     let mut origin = INFIMUM;
     for _ in 0..records {
         origin = next_origin(page, origin);

@@ -22,7 +22,8 @@ mod tests;
 mod words;
 
 use command_line::read_words;
-use page_source::{ByteSink, FileBytes, FilePages, FileStore, StdSink, Steps};
+use page_source::{FileBytes, FilePages, FileStore, StdSink, Steps};
+use report::report;
 pub use run::run;
 pub use status::Status;
 use std::marker::Brand;
@@ -34,15 +35,15 @@ fn main(rt: HostRuntime) -> ExitCode {
     let status = match read_words(rt.alloc(), &rt) {
         Ok(words) => start::<Brand>(&rt, &words, Blank::new(1)),
         Err(_) => {
-            let _ = StdSink::new(rt.stderr()).put(b"memory\n");
+            report(&mut StdSink::new(rt.stderr()), Status::Memory);
             Status::Memory
         }
     };
     ExitCode::from(status.number())
 }
 
-// Hands the real objects to the program: the schema text is named by the first word behind the
-// command, the file by the second, or in a build the rows by the second and the file by the third.
+/// Hands the real objects to the program: the schema text is named by the first word behind the
+/// command, the file by the second, or in a build the rows by the second and the file by the third.
 fn start<L: Ledger>(rt: &HostRuntime, words: &Words, blank: Blank) -> Status
     requires name { blank.name ≡ L.name }
     requires parts { blank.parts ≡ L.parts }

@@ -4,7 +4,7 @@
 ghost use Rattle.std.specs.Prelude.{◌≡◌, ◌≤◌};
 ghost use Rattle.ibd_cli.specs.IndexPage.{next_field, next_origin, heap_number, status_of, is_deleted};
 
-use page_source::{Page, read_be};
+use page_source::{PAGE_SIZE, Page, read_be};
 
 /// PAGE_NEW_INFIMUM, the origin of the record before the first one.
 pub const INFIMUM: usize = 99;
@@ -38,7 +38,7 @@ pub fn next_origin(page: &Page, origin: usize) -> usize
     if next == 0 {
         0
     } else {
-        (origin + next) % 16384
+        (origin + next) % PAGE_SIZE
     }
 }
 

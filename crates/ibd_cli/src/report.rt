@@ -88,7 +88,7 @@ fn why_name(why: SchemaWhy) -> &'static str
     }
 }
 
-// Puts the pieces, up to the first that fails.
+/// Puts the pieces, up to the first that fails.
 fn put_pieces<E: ByteSink>(err: &mut E, pieces: &[&[u8]]) -> Result<(), Failed>
     ensures ok { OnOk result (GrowsBy (E.written err.old) (E.written err.new) (flat_map (λ piece. piece.now) pieces.now)) }
     ensures failed { OnErr result (GrowsByPart (E.written err.old) (E.written err.new) (flat_map (λ piece. piece.now) pieces.now)) }

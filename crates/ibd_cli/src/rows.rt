@@ -9,12 +9,12 @@ ghost use Rattle.schema_text.specs.First.{IsFirst};
 ghost use Rattle.ibd_cli.specs.IndexPage.{HasChain, HaveRoom, IsChain, heap_top};
 ghost use Rattle.ibd_cli.specs.Rows.{record_size, value_at, row_at, rows_of, values_of, line_of, text_of};
 
-use crate::index_page::RECORD_COUNT;
+use crate::index_page::record_count;
 use crate::layout::{column_offset, column_width};
 use crate::record::{INFIMUM, is_deleted, next_origin};
 use column_values::{ColumnType, IntCode};
 use itoa::Buffer;
-use page_source::{ByteList, NoMemory, Page, read_be};
+use page_source::{ByteList, NoMemory, Page};
 use schema_text::Schema;
 use std::alloc::Global;
 
@@ -29,14 +29,14 @@ pub fn page_text(alloc: Global, page: &Page, schema: &Schema) -> Result<ByteList
 {
     let mut text = ByteList::new(alloc);
     let mut origin = INFIMUM;
-    for _ in 0..read_be::<2>(page, RECORD_COUNT) {
+    for _ in 0..record_count(page) {
         origin = next_origin(page, origin);
         push_record(&mut text, page, schema, origin)?;
     }
     Ok(text)
 }
 
-// The line of the record at this origin; a record with the delete mark has none.
+/// The line of the record at this origin; a record with the delete mark has none.
 fn push_record(
     text: &mut ByteList,
     page: &Page,
@@ -56,7 +56,7 @@ fn push_record(
     }
 }
 
-// The line of the record at this origin, whether or not it has the delete mark.
+/// The line of the record at this origin, whether or not it has the delete mark.
 fn push_line(
     text: &mut ByteList,
     page: &Page,
@@ -75,7 +75,7 @@ fn push_line(
     text.extend(b");\n")
 }
 
-// The values of the record at this origin, joined by commas.
+/// The values of the record at this origin, joined by commas.
 fn push_values(
     text: &mut ByteList,
     page: &Page,
@@ -97,14 +97,14 @@ fn push_values(
     Ok(())
 }
 
-// What stands before the value at this position.
+/// What stands before the value at this position.
 fn comma(position: usize) -> &'static [u8]
     ensures { result.now ≡ if position == 0 then [] else codes "," }
 {
     if position == 0 { b"" } else { b"," }
 }
 
-// The number of the column that begins at `at`.
+/// The number of the column that begins at `at`.
 fn push_value(text: &mut ByteList, page: &Page, at: usize, kind: ColumnType) -> Result<(), NoMemory>
     requires known { IsColumnType kind }
     requires inside { at + greatest_length kind ≤ 16384 }
@@ -115,7 +115,7 @@ fn push_value(text: &mut ByteList, page: &Page, at: usize, kind: ColumnType) -> 
     text.extend(Buffer::new().format(value).as_bytes())
 }
 
-// The number that these bytes of a column spell.
+/// The number that these bytes of a column spell.
 fn int_value(signed: bool, bytes: &[u8]) -> i128
     requires { IsWidth (length bytes.now) }
     ensures { result ≡ int_of signed (length bytes.now) bytes.now }
@@ -137,15 +137,15 @@ mod tests {
     use std::process::Abort;
     use std::test::Fail;
 
-    // What stands where on a page of zeros.
+    /// What stands where on a page of zeros.
     type Pieces = &'static [(usize, &'static [u8])];
 
-    // The infimum, whose next record is the first of the heap, and the supremum.
+    /// The infimum, whose next record is the first of the heap, and the supremum.
     const ENDS: &[u8] = b"\x01\x00\x02\x00\x1Ainfimum\0\x01\x00\x0B\x00\x00supremum";
 
     const ONE_INT: &[u8] = b"table t dynamic\ncolumn id int notnull\nclustered root 3 id\n";
 
-    // A leaf with these pieces besides the ends and their slots.
+    /// A leaf with these pieces besides the ends and their slots.
     fn leaf(rt: &impl Abort, alloc: Global, pieces: Pieces) -> Result<Page, NoMemory> {
         let mut page = Page::zeroed(alloc)?;
         page.put_bytes(94, ENDS);
@@ -157,7 +157,7 @@ mod tests {
         Ok(page)
     }
 
-    // The number of the root page, and the lines of this page.
+    /// The number of the root page, and the lines of this page.
     fn dumped(
         rt: &impl Abort,
         alloc: Global,

@@ -1,6 +1,6 @@
 //! The whole program as one call over the objects that reach outside.
 
-ghost use Rattle.std.specs.Prelude.{◌≡◌, ◌≢◌, ◌+◌, ◌≤◌, ◌⊎◌, ◌↔◌, ℕ, List, Some, OnErr};
+ghost use Rattle.std.specs.Prelude.{◌≡◌, ◌≢◌, ◌+◌, ◌≤◌, ◌⊎◌, ◌↔◌, ℕ, List, Some};
 ghost use Rattle.page_source.specs.Faults.{Rose};
 ghost use Rattle.ibd_cli.specs.Forms.{IsForm, HasNoForm};
 ghost use Rattle.ibd_cli.specs.Lines.{status_line};

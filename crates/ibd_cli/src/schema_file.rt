@@ -1,6 +1,6 @@
 //! The text of a schema, read from its source.
 
-ghost use Rattle.std.specs.Prelude.{◌≡◌, ◌<◌, ◌≤◌, length, IfOk, IfSome, MatchOption};
+ghost use Rattle.std.specs.Prelude.{◌<◌, ◌≤◌, length, IfOk, IfSome};
 ghost use Rattle.page_source.specs.Faults.{HasCause};
 ghost use Rattle.ibd_cli.specs.Reading.{CameUpTo};
 

@@ -1,6 +1,6 @@
 //! The words of the command line, and the form that they have.
 
-ghost use Rattle.std.specs.Prelude.{◌≡◌, ◌↔◌, ◌≤◌, [], ◌∷◌, ◌++◌, ℕ, List, length, slice_get, slice_index_or, Some, IsTrue, IfSome, OnOk, OnErr, MatchOption, decimal, vec_len};
+ghost use Rattle.std.specs.Prelude.{◌≡◌, ◌↔◌, ◌≤◌, [], ◌∷◌, ◌++◌, ℕ, List, length, slice_get, Some, IsTrue, OnOk, OnErr, MatchOption};
 
 use page_source::{ByteList, NoMemory};
 use schema_text::decimal_number;
@@ -85,7 +85,7 @@ impl Words {
         }
     }
 
-    // Whether these are so many words, the first of which is this one.
+    /// Whether these are so many words, the first of which is this one.
     fn is_command(&self, name: &str, count: usize) -> bool
         ensures { IsTrue result ↔ ((length self.now ≡ count) × (slice_get self.now 0 ≡ Some name.now)) }
     {

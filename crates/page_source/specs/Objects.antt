@@ -3,7 +3,7 @@ use Rattle.std.specs.Prelude.{◌≡◌, ◌≢◌, ℕ, ◌-◌, ◌%◌, ◌^�
 use Rattle.std.specs.List.{range_with_len}
 use Rattle.std.specs.FinMap.{FinMap, get, insert}
 use Rattle.std.specs.Ordering.{nat_cmp}
-use Rattle.page_source.specs.Pages.{page_count}
+use Rattle.page_source.specs.Pages.{page_size, page_count}
 
 -- the number of whole pages, or the greatest number where there are more
 abbrev pub TellsPages : List ℕ → ℕ → Type 0
@@ -47,7 +47,7 @@ untold = record { size = None; held = None; asked = None }
 
 -- a page that the map doesn't hold is zeros
 unfoldable pub held_page : PageMap → ℕ → List ℕ
-held_page held n = unwrap_or (get held n) (replicate 16384 0)
+held_page held n = unwrap_or (get held n) (replicate page_size 0)
 
 -- the bytes of a file of `size` pages
 unfoldable pub file_of : ℕ → PageMap → List ℕ

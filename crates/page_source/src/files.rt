@@ -1,7 +1,8 @@
 //! Real files as the outside objects. Each opens its file at its first call, counts its faults, and
-//! tells nothing of what the file holds.
+//! tells nothing of what the file holds: all that is seen of it is the count.
 
-ghost use Rattle.std.specs.Prelude.{◌≤◌, length, IfOk, None};
+ghost use Rattle.std.specs.Prelude.{◌≡◌, ◌+◌, ◌<◌, ◌≤◌, ℕ, length, IfOk, None, is_err};
+ghost use Rattle.page_source.specs.Faults.{HasCause, count_after};
 ghost use Rattle.page_source.specs.Objects.{untold};
 
 use crate::counted::counted;
@@ -12,6 +13,7 @@ use crate::steps::Steps;
 use std::fs::{Files, OpenFile, OpenOptions};
 use std::io;
 use std::io::{Error, ErrorKind, Read, Seek, SeekFrom, Write};
+use std::marker::Model;
 use std::sync::ledger::Ledger;
 
 #[derive(Clone, Copy)]
@@ -20,7 +22,7 @@ enum Opening {
     Anew,
 }
 
-// The file that a word of the command line names. A word that is missing or isn't UTF-8 names none.
+/// The file that a word of the command line names. A word that is missing or isn't UTF-8 names none.
 #[derive(Drop)]
 struct NamedFile<'a, R: Files> {
     rt: &'a R,
@@ -39,49 +41,52 @@ impl<'a, R: Files> NamedFile<'a, R> {
         }
     }
 
-    // The file that stands open, or at the first call the one that is opened.
-    fn take(&mut self) -> io::Result<R::File> {
-        match self.file.take() {
-            Some(file) => Ok(file),
-            None => open_word(self.rt, self.word, self.opening),
+    /// The file that stands open, or at the first call the one that is opened.
+    fn open(&mut self) -> io::Result<&mut R::File> {
+        if self.file.is_none() {
+            self.file = Some(open_word(self.rt, self.word, self.opening)?);
         }
+        self.file.as_mut().ok_or(Error::from(ErrorKind::NotFound))
     }
 
+    /// A folder can be opened and has a size of its own, but no pages.
     fn count_pages(&mut self) -> io::Result<u32> {
-        let mut file = self.take()?;
-        let done = count_pages(&mut file);
-        self.file = Some(file);
-        done
+        let file = self.open()?;
+        if file.metadata()?.is_dir() {
+            return Err(Error::from(ErrorKind::IsADirectory));
+        }
+        let pages = file.seek(SeekFrom::End(0))? / PAGE_SIZE as u64;
+        Ok(u32::try_from(pages).unwrap_or(u32::MAX))
     }
 
     fn read_page(&mut self, n: u32, page: &mut Page) -> io::Result<()> {
-        let mut file = self.take()?;
-        let done = read_page(&mut file, n, page);
-        self.file = Some(file);
-        done
+        let file = self.open()?;
+        file.seek(SeekFrom::Start(PAGE_SIZE as u64 * u64::from(n)))?;
+        page.fill_from(file)
     }
 
+    /// A read that a signal interrupts is tried again.
     fn read_some(&mut self, buffer: &mut [u8]) -> io::Result<usize>
         ensures { IfOk result (λ k. k ≤ length buffer.new) }
     {
-        let mut file = self.take()?;
-        let done = read_some(&mut file, buffer);
-        self.file = Some(file);
-        done
+        let file = self.open()?;
+        for _ in 0..u64::MAX {
+            match file.read(buffer) {
+                Err(error) if error.kind() == ErrorKind::Interrupted => {}
+                answer => return answer,
+            }
+        }
+        Err(Error::from(ErrorKind::Interrupted))
     }
 
     fn set_pages(&mut self, pages: u32) -> io::Result<()> {
-        let file = self.take()?;
-        let done = file.set_len(PAGE_SIZE as u64 * u64::from(pages));
-        self.file = Some(file);
-        done
+        self.open()?.set_len(PAGE_SIZE as u64 * u64::from(pages))
     }
 
     fn write_page(&mut self, n: u32, page: &Page) -> io::Result<()> {
-        let mut file = self.take()?;
-        let done = write_page(&mut file, n, page);
-        self.file = Some(file);
-        done
+        let file = self.open()?;
+        file.seek(SeekFrom::Start(PAGE_SIZE as u64 * u64::from(n)))?;
+        file.write_all(page.bytes())
     }
 }
 
@@ -100,38 +105,6 @@ fn open_word<R: Files>(rt: &R, word: Option<&[u8]>, opening: Opening) -> io::Res
     how.open(rt, path)
 }
 
-// A folder can be opened and has a size of its own, but no pages.
-fn count_pages<F: Seek + OpenFile>(file: &mut F) -> io::Result<u32> {
-    if file.metadata()?.is_dir() {
-        return Err(Error::from(ErrorKind::IsADirectory));
-    }
-    let pages = file.seek(SeekFrom::End(0))? / PAGE_SIZE as u64;
-    Ok(u32::try_from(pages).unwrap_or(u32::MAX))
-}
-
-fn read_page<F: Read + Seek>(file: &mut F, n: u32, page: &mut Page) -> io::Result<()> {
-    file.seek(SeekFrom::Start(PAGE_SIZE as u64 * u64::from(n)))?;
-    page.fill_from(file)
-}
-
-// A read that a signal interrupts is tried again.
-fn read_some<F: Read>(file: &mut F, buffer: &mut [u8]) -> io::Result<usize>
-    ensures { IfOk result (λ k. k ≤ length buffer.new) }
-{
-    for _ in 0..u64::MAX {
-        match file.read(buffer) {
-            Err(error) if error.kind() == ErrorKind::Interrupted => {}
-            answer => return answer,
-        }
-    }
-    Err(Error::from(ErrorKind::Interrupted))
-}
-
-fn write_page<F: Write + Seek>(file: &mut F, n: u32, page: &Page) -> io::Result<()> {
-    file.seek(SeekFrom::Start(PAGE_SIZE as u64 * u64::from(n)))?;
-    file.write_all(page.bytes())
-}
-
 /// A file that is read page by page.
 #[derive(Drop)]
 pub struct FilePages<'a, R: Files> {
@@ -139,9 +112,17 @@ pub struct FilePages<'a, R: Files> {
     faults: u64,
 }
 
+impl<'a, R: Files> Model for FilePages<'a, R> {
+    ghost Value = { ℕ };
+
+    ghost view = { λ s. s.faults };
+}
+
 impl<'a, R: Files> FilePages<'a, R> {
     /// The file that the word names; none where the word is missing.
-    pub fn new(rt: &'a R, word: Option<&'a [u8]>) -> Self {
+    pub fn new(rt: &'a R, word: Option<&'a [u8]>) -> Self
+        ensures { result ≡ 0 }
+    {
         FilePages {
             named: NamedFile::new(rt, word, Opening::ForReading),
             faults: 0,
@@ -152,9 +133,12 @@ impl<'a, R: Files> FilePages<'a, R> {
 impl<R: Files> PageSource for FilePages<'_, R> {
     ghost content = { λ s. None };
 
-    ghost faults = { λ s. s.faults };
+    ghost faults = { λ count. count };
 
-    fn pages(&mut self) -> Result<u32, Failed> {
+    fn pages(&mut self) -> Result<u32, Failed>
+        ensures count { self.new ≡ count_after self.old (is_err result) }
+        ensures cause { HasCause self.old self.new result }
+    {
         let done = self.named.count_pages();
         counted(&mut self.faults, done)
     }
@@ -164,7 +148,11 @@ impl<R: Files> PageSource for FilePages<'_, R> {
         n: u32,
         page: &mut Page,
         steps: &mut Steps<L>,
-    ) -> Result<(), Failed> {
+    ) -> Result<(), Failed>
+        ensures step { steps.new ≡ steps.old + 1 }
+        ensures count { self.new ≡ count_after self.old (is_err result) }
+        ensures cause { HasCause self.old self.new result }
+    {
         steps.tick();
         let done = self.named.read_page(n, page);
         counted(&mut self.faults, done)
@@ -178,9 +166,17 @@ pub struct FileBytes<'a, R: Files> {
     faults: u64,
 }
 
+impl<'a, R: Files> Model for FileBytes<'a, R> {
+    ghost Value = { ℕ };
+
+    ghost view = { λ s. s.faults };
+}
+
 impl<'a, R: Files> FileBytes<'a, R> {
     /// The file that the word names; none where the word is missing.
-    pub fn new(rt: &'a R, word: Option<&'a [u8]>) -> Self {
+    pub fn new(rt: &'a R, word: Option<&'a [u8]>) -> Self
+        ensures { result ≡ 0 }
+    {
         FileBytes {
             named: NamedFile::new(rt, word, Opening::ForReading),
             faults: 0,
@@ -191,9 +187,14 @@ impl<'a, R: Files> FileBytes<'a, R> {
 impl<R: Files> ByteSource for FileBytes<'_, R> {
     ghost left = { λ s. None };
 
-    ghost faults = { λ s. s.faults };
+    ghost faults = { λ count. count };
 
-    fn read(&mut self, buffer: &mut [u8]) -> Result<usize, Failed> {
+    fn read(&mut self, buffer: &mut [u8]) -> Result<usize, Failed>
+        requires { 0 < length buffer.old }
+        ensures bound { IfOk result (λ k. k ≤ length buffer.new) }
+        ensures count { self.new ≡ count_after self.old (is_err result) }
+        ensures cause { HasCause self.old self.new result }
+    {
         let done = self.named.read_some(buffer);
         counted(&mut self.faults, done)
     }
@@ -206,9 +207,17 @@ pub struct FileStore<'a, R: Files> {
     faults: u64,
 }
 
+impl<'a, R: Files> Model for FileStore<'a, R> {
+    ghost Value = { ℕ };
+
+    ghost view = { λ s. s.faults };
+}
+
 impl<'a, R: Files> FileStore<'a, R> {
     /// The file that the word names; none where the word is missing.
-    pub fn new(rt: &'a R, word: Option<&'a [u8]>) -> Self {
+    pub fn new(rt: &'a R, word: Option<&'a [u8]>) -> Self
+        ensures { result ≡ 0 }
+    {
         FileStore {
             named: NamedFile::new(rt, word, Opening::Anew),
             faults: 0,
@@ -219,14 +228,20 @@ impl<'a, R: Files> FileStore<'a, R> {
 impl<R: Files> PageStore for FileStore<'_, R> {
     ghost told = { λ s. untold };
 
-    ghost faults = { λ s. s.faults };
+    ghost faults = { λ count. count };
 
-    fn set_size(&mut self, pages: u32) -> Result<(), Failed> {
+    fn set_size(&mut self, pages: u32) -> Result<(), Failed>
+        ensures count { self.new ≡ count_after self.old (is_err result) }
+        ensures cause { HasCause self.old self.new result }
+    {
         let done = self.named.set_pages(pages);
         counted(&mut self.faults, done)
     }
 
-    fn put(&mut self, n: u32, page: &Page) -> Result<(), Failed> {
+    fn put(&mut self, n: u32, page: &Page) -> Result<(), Failed>
+        ensures count { self.new ≡ count_after self.old (is_err result) }
+        ensures cause { HasCause self.old self.new result }
+    {
         let done = self.named.write_page(n, page);
         counted(&mut self.faults, done)
     }

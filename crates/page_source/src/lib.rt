@@ -20,7 +20,7 @@ pub use errors::{Failed, NoMemory};
 pub use files::{FileBytes, FilePages, FileStore};
 pub use memory::{Fails, MemoryBytes, MemoryPages, MemorySink, MemoryStore};
 pub use objects::{ByteSink, ByteSource, PageSource, PageStore};
-pub use page::{Page, read_be, write_be};
+pub use page::{PAGE_SIZE, Page, read_be, write_be};
 pub use rule::{Fault, Rule};
 pub use steps::Steps;
 pub use streams::StdSink;

@@ -1,22 +1,31 @@
 //! The standard output and the standard error as a text that is written.
 
-ghost use Rattle.std.specs.Prelude.{None};
+ghost use Rattle.std.specs.Prelude.{◌≡◌, ℕ, None, is_err};
+ghost use Rattle.page_source.specs.Faults.{HasCause, count_after};
 
 use crate::counted::counted;
 use crate::errors::Failed;
 use crate::objects::ByteSink;
 use std::io;
 use std::io::{Error, ErrorKind, Print};
+use std::marker::Model;
 
-/// One of the two standard streams. It tells nothing of what was written.
+/// One of the two standard streams. It tells nothing of what was written: all that is seen of it is
+/// its count of faults.
 #[derive(Drop)]
 pub struct StdSink<P: Print> {
     stream: P,
     faults: u64,
 }
 
-// Writes the whole piece, in as many turns as the stream needs. A stream that takes nothing fails;
-// a write that a signal interrupts is tried again.
+impl<P: Print> Model for StdSink<P> {
+    ghost Value = { ℕ };
+
+    ghost view = { λ s. s.faults };
+}
+
+/// Writes the whole piece, in as many turns as the stream needs. A stream that takes nothing fails;
+/// a write that a signal interrupts is tried again.
 fn write_whole<P: Print>(stream: &P, piece: &[u8]) -> io::Result<()> {
     let mut rest = piece;
     for _ in 0..u64::MAX {
@@ -35,7 +44,9 @@ fn write_whole<P: Print>(stream: &P, piece: &[u8]) -> io::Result<()> {
 
 impl<P: Print> StdSink<P> {
     /// The stream that this handle of the runtime names, as `rt.stdout()` or `rt.stderr()`.
-    pub fn new(stream: P) -> Self {
+    pub fn new(stream: P) -> Self
+        ensures { result ≡ 0 }
+    {
         StdSink { stream, faults: 0 }
     }
 }
@@ -43,10 +54,81 @@ impl<P: Print> StdSink<P> {
 impl<P: Print> ByteSink for StdSink<P> {
     ghost written = { λ s. None };
 
-    ghost faults = { λ s. s.faults };
+    ghost faults = { λ count. count };
 
-    fn put(&mut self, piece: &[u8]) -> Result<(), Failed> {
+    fn put(&mut self, piece: &[u8]) -> Result<(), Failed>
+        ensures count { self.new ≡ count_after self.old (is_err result) }
+        ensures cause { HasCause self.old self.new result }
+    {
         let done = write_whole(&self.stream, piece);
         counted(&mut self.faults, done)
+    }
+}
+
+#[cfg(test)]
+mod tests {
+    use super::*;
+    use crate::bytes::ByteList;
+    use std::cell::{Cell, RefCell};
+    use std::fmt::Display;
+    use std::test::Fail;
+
+    /// A stream that takes three bytes at most at a time, and none once its room is full. Each second
+    /// call is interrupted.
+    #[derive(Drop)]
+    struct Narrow {
+        room: usize,
+        interrupts: Cell<bool>,
+        taken: RefCell<ByteList>,
+    }
+
+    impl Print for Narrow {
+        fn print<D: Display + Drop>(&self, _value: D) -> io::Result<()> {
+            Err(Error::from(ErrorKind::Unsupported))
+        }
+
+        fn println<D: Display + Drop>(&self, _value: D) -> io::Result<()> {
+            Err(Error::from(ErrorKind::Unsupported))
+        }
+
+        fn write_all(&self, _bytes: &[u8]) -> io::Result<()> {
+            Err(Error::from(ErrorKind::Unsupported))
+        }
+
+        fn write_some(&self, bytes: &[u8]) -> io::Result<usize> {
+            let interrupted = self.interrupts.get();
+            self.interrupts.set(!interrupted);
+            if interrupted {
+                return Err(Error::from(ErrorKind::Interrupted));
+            }
+            let Ok(mut taken) = self.taken.try_borrow_mut() else {
+                return Err(Error::from(ErrorKind::Unsupported));
+            };
+            let room = self.room.saturating_sub(taken.bytes().len());
+            let count = bytes.len().min(3).min(room);
+            match taken.extend(&bytes[..count]) {
+                Ok(()) => Ok(count),
+                Err(_) => Err(Error::from(ErrorKind::OutOfMemory)),
+            }
+        }
+    }
+
+    #[test]
+    fn writes_the_whole_piece_or_fails(rt: HostRuntime) -> Result<(), Fail> {
+        let cases: [(usize, Result<(), Failed>, &[u8]); 3] = [
+            (20, Ok(()), b"broken 5"),
+            (8, Ok(()), b"broken 5"),
+            (7, Err(Failed), b"broken "),
+        ];
+        for (room, want, written) in cases {
+            let stream = Narrow {
+                room,
+                interrupts: Cell::new(false),
+                taken: RefCell::new(ByteList::new(rt.alloc())),
+            };
+            assert_eq!(rt; StdSink::new(&stream).put(b"broken 5"), want, "{room}");
+            assert_eq!(rt; stream.taken.into_inner().bytes(), written, "{room}");
+        }
+        Ok(())
     }
 }

@@ -83,6 +83,7 @@ fn a_file_of_pages_is_made_anew(rt: HostRuntime) -> Result<(), Fail> {
     fs::write(&rt, "made.ibd", "what stood here before")?;
     let mut page = Page::zeroed(alloc)?;
     write_be::<2>(&mut page, 0, 0xABCD);
+    write_be::<2>(&mut page, 16382, 0x1234);
     let mut store = FileStore::new(&rt, Some(b"made.ibd"));
     assert_eq!(rt; store.set_size(64), Ok(()));
     assert_eq!(rt; store.put(3, &page), Ok(()));
@@ -92,6 +93,10 @@ fn a_file_of_pages_is_made_anew(rt: HostRuntime) -> Result<(), Fail> {
     assert_eq!(rt;
         &bytes[3 * 16384..3 * 16384 + 4],
         [0xAB, 0xCD, 0, 0].as_slice()
+    );
+    assert_eq!(rt;
+        &bytes[4 * 16384 - 4..4 * 16384],
+        [0, 0, 0x12, 0x34].as_slice()
     );
     assert_eq!(rt;
         FileStore::new(&rt, Some(b"none/made.ibd")).set_size(64),

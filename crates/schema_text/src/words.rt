@@ -1,6 +1,6 @@
 //! Words, names and numbers of a line.
 
-ghost use Rattle.std.specs.Prelude.{◌≡◌, ◌<◌, ◌^◌, ◌↔◌, ◌==◌, ◌∷◌, ◌++◌, List, ℕ, All, IsTrue, IfSome, IsSomeAnd, Some, decimal, position};
+ghost use Rattle.std.specs.Prelude.{◌≡◌, ◌<◌, ◌^◌, ◌↔◌, ◌==◌, ◌∷◌, ◌++◌, List, ℕ, IsTrue, IfSome, IsSomeAnd, Some, decimal, position};
 ghost use Rattle.schema_text.specs.Grammar.{IsName, IsNameByte, IsRoot};
 ghost use Rattle.schema_text.specs.Cuts.{Lacks};
 

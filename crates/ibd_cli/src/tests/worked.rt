@@ -158,7 +158,7 @@ impl Worked {
     }
 }
 
-// Puts the pieces of page `n`.
+/// Puts the pieces of page `n`.
 fn put_pieces(rt: &impl Abort, page: &mut Page, n: usize, pieces: &[Piece]) {
     for (number, at, bytes) in pieces {
         if *number == n {

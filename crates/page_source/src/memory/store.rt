@@ -69,7 +69,7 @@ impl MemoryStore {
     }
 }
 
-// So many slots that hold nothing.
+/// So many slots that hold nothing.
 #[tactic(auto, using(crate::proofs::Slots::slot_changes))]
 fn empty_slots(alloc: Global, count: u32) -> Result<Vec<Slot>, NoMemory>
     ensures count { IfOk result (λ slots. vec_len slots ≡ count) }

@@ -11,5 +11,5 @@ returns-in-Ok-check_root-clause-exact g c =
 pub returns-clause-exact : goal.returns-clause-exact
 returns-clause-exact g c =
     told1 (g.F.PageSource.content c.args.file.now)
-    (λ content checks. root_halts content c.args.schema.now c.flags.result c.root-root.result c.in-Err.halt c.halted.result c.flags.ensures c.root-root.ensures c.halted.ensures checks)
+    (λ content checks. root_halts content c.args.schema.now c.flags.result c.root-root.result c.in-Err.halt c.from.result c.flags.ensures c.root-root.ensures c.from.ensures checks)
     c.in-Err.ensures.exact

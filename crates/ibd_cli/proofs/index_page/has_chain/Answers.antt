@@ -3,7 +3,7 @@ use Rattle.ibd_cli.proofs.Chains.{ChainLeft-start, ChainLeft-next, ChainLeft-bro
 use Rattle.ibd_cli.proofs.index_page.has_chain.Goals as goal
 
 pub loop-init : goal.loop-init
-loop-init c = ChainLeft-start c.args.page.now _ c.field-records.ensures.value
+loop-init c = ChainLeft-start c.args.page.now _ c.record_count-records.ensures.value
 
 pub returns-then-not-is_origin : goal.returns-then-not-is_origin
 returns-then-not-is_origin c =

@@ -3,7 +3,7 @@ use Rattle.ibd_cli.proofs.Chains.{RoomLeft-start, RoomLeft-origin, RoomLeft-next
 use Rattle.ibd_cli.proofs.index_page.have_room.Goals as goal
 
 pub loop-init : goal.loop-init
-loop-init c = RoomLeft-start c.args.page.now c.args.size _ c.field-records.ensures.value c.requires.chain
+loop-init c = RoomLeft-start c.args.page.now c.args.size _ c.record_count-records.ensures.value c.requires.chain
 
 pub overflow_sub-top : goal.overflow_sub-top
 overflow_sub-top c =

@@ -21,7 +21,7 @@ loop-init c =
 -- the record that is met has room
 met : (c : goal.After-text-1) → HasRoom c.args.page.now (record_size c.args.schema.now) (next_origin c.args.page.now c.loop.origin)
 met c =
-    (next_has_room c.args.page.now (record_size c.args.schema.now) c.loop.origin (record_count c.args.page.now) c.loop.counter (omega (arith, c.loop-test.true, c.read_be-end.ensures.number))
+    (next_has_room c.args.page.now (record_size c.args.schema.now) c.loop.origin (record_count c.args.page.now) c.loop.counter (omega (arith, c.loop-test.true, c.record_count-end.ensures.value))
     c.loop.invariant.room).0
 
 pub push_record-requires-clause-least : goal.push_record-requires-clause-least
@@ -34,7 +34,7 @@ pub loop-preserved : goal.loop-preserved
 loop-preserved c =
     let page = c.args.page.now in
     let table = c.args.schema.now in
-    let within : c.loop.counter < record_count page = omega (arith, c.loop-test.true, c.read_be-end.ensures.number) in
+    let within : c.loop.counter < record_count page = omega (arith, c.loop-test.true, c.record_count-end.ensures.value) in
     let next = next_has_room page (record_size table) c.loop.origin (record_count page) c.loop.counter within c.loop.invariant.room in
     rw c.next_origin-origin.ensures
     (record {
@@ -50,7 +50,7 @@ returns c =
     let page = c.args.page.now in
     let table = c.args.schema.now in
     let chain = c.requires.chain in
-    let done : record_count page - c.loop.counter ≡ 0 = omega (arith, c.loop-test.false, c.read_be-end.ensures.number) in
+    let done : record_count page - c.loop.counter ≡ 0 = omega (arith, c.loop-test.false, c.record_count-end.ensures.value) in
     let whole : c.loop.text ++ chain_text page table [] ≡ chain_text page table (chain_after page infimum (record_count page)) = rw done at c.loop.invariant.text in (
       chain.0,
       chain.1,
