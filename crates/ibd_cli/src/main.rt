@@ -2,7 +2,9 @@
 //! objects.
 #![tactic(auto)]
 
-ghost use Rattle.std.specs.Prelude.{◌≡◌, ◌<◌};
+ghost use Rattle.std.specs.Prelude.{◌≡◌, ◌≢◌, ◌<◌, ◌↔◌};
+ghost use Rattle.ibd_cli.specs.Forms.{IsForm, HasNoForm};
+ghost use Rattle.ibd_cli.specs.declared.words.Form.{Form};
 
 mod checks;
 mod command_line;
@@ -48,6 +50,8 @@ fn start<L: Ledger>(rt: &HostRuntime, words: &Words, blank: Blank) -> Status
     requires name { blank.name ≡ L.name }
     requires parts { blank.parts ≡ L.parts }
     requires shared { 0 < blank.parts }
+    ensures usage { (result ≡ Status.Usage) ↔ HasNoForm words.now }
+    ensures unbuilt { (form : Form) → IsForm words.now form → form ≢ Form.Dump → result ≡ Status.Unbuilt }
 {
     run(
         rt.alloc(),

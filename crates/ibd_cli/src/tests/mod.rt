@@ -10,7 +10,7 @@ use self::worked::{LEAF_KINDS, ONE_INT, Piece, THREE_ROWS, TWO_LEVELS, Worked};
 use crate::{Status, Words, run};
 use itoa::Buffer;
 use page_source::{
-    ByteList, Fails, MemoryBytes, MemoryPages, MemorySink, MemoryStore, NoMemory, Steps,
+    ByteList, Fails, MemoryBytes, MemoryPages, MemorySink, MemoryStore, NoMemory, PAGE_SIZE, Steps,
 };
 use std::alloc::Global;
 use std::marker::Brand;
@@ -274,18 +274,20 @@ fn dumps_edited_records(rt: HostRuntime) -> Result<(), Fail> {
 }
 
 /// The file with the lowest bit of byte `at` of page `n` changed.
-fn flipped(alloc: Global, file: &[u8], n: usize, at: usize) -> Result<ByteList, NoMemory> {
+fn flipped(alloc: Global, file: &[u8], n: u16, at: u16) -> Result<ByteList, Fail> {
+    let place = usize::from(n) * PAGE_SIZE + usize::from(at);
+    let (front, rest) = file.split_at_checked(place).ok_or("a short file")?;
+    let (byte, back) = rest.split_first().ok_or("a short file")?;
     let mut bytes = ByteList::new(alloc);
-    for (place, byte) in file.iter().enumerate() {
-        let is_it = place / 16384 == n && place % 16384 == at;
-        bytes.push(if is_it { byte ^ 1 } else { *byte })?;
-    }
+    bytes.extend(front)?;
+    bytes.push(byte ^ 1)?;
+    bytes.extend(back)?;
     Ok(bytes)
 }
 
 /// What a dump answers where the lowest bit of this byte is changed, in a frame field of page `n`.
 /// The flush LSN is in no sum, and page 0 has to tell its space before its frame can be judged.
-fn want_flipped(n: usize, at: usize) -> &'static str {
+fn want_flipped(n: u16, at: u16) -> &'static str {
     match (n, at) {
         (0 | 3, 26..=33) => ALL,
         (0, 34..=37) => "3||broken 4 head-space page 0\n",
