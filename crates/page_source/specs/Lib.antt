@@ -1,8 +1,11 @@
 pub mod Verdict
 pub mod Faults
 pub mod Pages
+pub mod Lists
 pub mod Rules
 pub mod Answers
+pub mod Checks
+pub mod Calls
 pub mod Objects
 pub mod Memory
 pub mod MemoryCodes

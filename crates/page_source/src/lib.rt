@@ -3,6 +3,7 @@
 #![tactic(auto)]
 
 mod bytes;
+mod checks;
 mod counted;
 mod errors;
 mod files;
@@ -16,6 +17,7 @@ mod streams;
 mod tests;
 
 pub use bytes::ByteList;
+pub use checks::{Halt, Stop};
 pub use errors::{Failed, NoMemory};
 pub use files::{FileBytes, FilePages, FileStore};
 pub use memory::{Fails, MemoryBytes, MemoryPages, MemorySink, MemoryStore};

@@ -56,6 +56,7 @@ pub enum Rule {
     ChainPlace,
     ChainLength,
     UnreachedKind,
+    TextSpelling,
 }
 
 /// The first broken rule of a file, and the page that it names.
@@ -66,7 +67,7 @@ pub struct Fault {
 }
 
 impl Rule {
-    /// The rule's number, 1 to 50.
+    /// The rule's number, 1 to 51.
     pub fn number(self) -> u8
         ensures { result ≡ rule_number self }
     {
@@ -121,6 +122,7 @@ impl Rule {
             Rule::ChainPlace => 48,
             Rule::ChainLength => 49,
             Rule::UnreachedKind => 50,
+            Rule::TextSpelling => 51,
         }
     }
 
@@ -179,6 +181,7 @@ impl Rule {
             Rule::ChainPlace => "chain-place",
             Rule::ChainLength => "chain-length",
             Rule::UnreachedKind => "unreached-kind",
+            Rule::TextSpelling => "text-spelling",
         }
     }
 }
