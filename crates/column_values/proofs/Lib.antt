@@ -1,1 +1,4 @@
 pub mod Numbers
+pub mod DecimalLengths
+pub mod TextOrder
+pub mod FieldLists

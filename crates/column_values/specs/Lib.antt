@@ -1,2 +1,4 @@
+pub mod Lengths
 pub mod Types
 pub mod Spell
+pub mod Order

@@ -1,0 +1,96 @@
+//! The fields of an index.
+
+ghost use Rattle.std.specs.Prelude.{◌≡◌, ◌≤◌, [], length, OnOk, OnErr};
+ghost use Rattle.column_values.specs.Types.{CanFollow, with_field};
+
+use crate::kind::ColumnType;
+use page_source::NoMemory;
+use std::alloc::Global;
+use std::marker::Model;
+
+/// What a field of a record holds (rem0rec, data0type).
+#[derive(Clone, Copy, Debug, PartialEq, Eq)]
+pub enum FieldType {
+    Column(ColumnType),
+    /// The hidden row id, 6 bytes.
+    RowId,
+    /// The transaction that wrote the record last, 6 bytes.
+    TrxId,
+    /// Where the undo log has the version before, 7 bytes.
+    RollPointer,
+    /// The page that a node pointer leads to, 4 bytes.
+    Child,
+}
+
+/// A field of an index.
+#[derive(Clone, Copy, Debug, PartialEq, Eq)]
+pub struct Field {
+    pub kind: FieldType,
+    pub nullable: bool,
+    /// Whether a part of its value may stand on pages of its own.
+    pub may_leave: bool,
+}
+
+/// The fields of an index's records, in order, with how many nullable fields the whole index has, and how many
+/// fields at the front make the key.
+#[derive(Debug, Drop)]
+pub struct FieldList {
+    fields: Vec<Field>,
+    nullable: u32,
+    keys: u32,
+}
+
+impl Model for FieldList {
+    ghost use Rattle.column_values.specs.Types.{Fields, AreListed};
+
+    ghost Value = { Fields };
+
+    ghost view = { λ list. record { fields = list.fields.items; nullable = list.nullable; keys = list.keys } };
+
+    ghost invariant = { λ list. AreListed (record { fields = list.fields.items; nullable = list.nullable; keys = list.keys }) };
+}
+
+impl FieldList {
+    /// No field yet, of an index with so many nullable fields and so many key fields.
+    pub fn new(alloc: Global, nullable: u32, keys: u32) -> FieldList
+        ensures { result ≡ record { fields = []; nullable = nullable; keys = keys } }
+    {
+        FieldList {
+            fields: Vec::new(alloc),
+            nullable,
+            keys,
+        }
+    }
+
+    /// Adds a field at the end.
+    pub fn push(&mut self, field: Field) -> Result<(), NoMemory>
+        requires { CanFollow self.old field }
+        ensures ok { OnOk result (self.new ≡ with_field self.old field) }
+        ensures err { OnErr result (self.new ≡ self.old) }
+    {
+        self.fields.push(field)?;
+        Ok(())
+    }
+
+    /// The fields, in order.
+    pub fn fields(&self) -> &[Field]
+        ensures same { result.now ≡ self.now.fields }
+        ensures few { length result.now ≤ 128 }
+    {
+        &self.fields
+    }
+
+    /// How many nullable fields the whole index has.
+    pub fn nullable(&self) -> u32
+        ensures { result ≡ self.now.nullable }
+    {
+        self.nullable
+    }
+
+    /// How many fields make the key.
+    pub fn keys(&self) -> u32
+        ensures { result ≡ self.now.keys }
+    {
+        self.keys
+    }
+}
