@@ -4,6 +4,7 @@
 mod field;
 mod integers;
 mod kind;
+pub mod laws;
 mod lengths;
 mod order;
 

@@ -1,0 +1,16 @@
+//! Laws of the order of keys, each the contract of a function that does nothing.
+
+ghost use Rattle.std.specs.Prelude.{List};
+ghost use Rattle.column_values.specs.declared.field.FieldType.{FieldType};
+ghost use Rattle.column_values.specs.Laws.{IsStrict, IsTransitive, IsReflexive, Symmetric, Agrees, Splits, IsTotal};
+
+/// The keys of any fields have a strict order, up to equality.
+pub fn keys_have_an_order()
+    ensures strict { (kinds : List FieldType) → IsStrict kinds }
+    ensures transitive { (kinds : List FieldType) → IsTransitive kinds }
+    ensures reflexive { (kinds : List FieldType) → IsReflexive kinds }
+    ensures symmetric { (kinds : List FieldType) → Symmetric kinds }
+    ensures agrees { (kinds : List FieldType) → Agrees kinds }
+    ensures splits { (kinds : List FieldType) → Splits kinds }
+    ensures total { (kinds : List FieldType) → IsTotal kinds }
+{}
