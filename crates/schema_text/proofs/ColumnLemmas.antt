@@ -4,10 +4,9 @@ use Rattle.std.proofs.lemmas.List.{append_assoc, append-nil}
 use Rattle.std.proofs.lemmas.List.Concat.{flat_map-append}
 use Rattle.std.proofs.lemmas.List.Elements.{All-nil, All-push, All-head, All-tail}
 use Rattle.column_values.specs.declared.kind.ColumnType.{ColumnType}
-use Rattle.column_values.specs.Types.{IsColumnType}
 use Rattle.schema_text.specs.declared.table.Column.{Column}
 use Rattle.schema_text.specs.Grammar.{line_of, column_words, IsName, IsRoot}
-use Rattle.schema_text.specs.First.{first_column, first_clustered_words, column_lines, IsFirstColumn}
+use Rattle.schema_text.specs.First.{first_column, first_clustered_words, column_lines, IsFirstColumn, IsIntType}
 
 abbrev pub column_text_of : Column → List ℕ
 column_text_of column = line_of (column_words column)
@@ -49,15 +48,15 @@ no_column text root key name kind after whole e =
 -- where a column's line stands at the front of the text, it is this column's, and these bytes follow it
 pub record IsNext (text name : List ℕ) (kind : ColumnType) (after : List ℕ) : Type 0 where
   pub is_name : IsName name
-  pub is_type : IsColumnType kind
+  pub is_type : IsIntType kind
   pub line : text ≡ line_of (column_words (first_column name kind)) ++ after
-  pub only : (n : List ℕ) (k : ColumnType) (r : List ℕ) → IsName n → IsColumnType k → text ≡ line_of (column_words (first_column n k)) ++ r → (name ≡ n) × (kind ≡ k) × (after ≡ r)
+  pub only : (n : List ℕ) (k : ColumnType) (r : List ℕ) → IsName n → IsIntType k → text ≡ line_of (column_words (first_column n k)) ++ r → (name ≡ n) × (kind ≡ k) × (after ≡ r)
 
 others_more : (rest name : List ℕ) (kind : ColumnType) (after : List ℕ) (columns all later : List Column) (root : ℕ) (key : List ℕ) → IsNext rest name kind after → all ≡ columns ++ later → IsWhole rest later root key → (after_all : List Column) × (all ≡ (columns ++ first_column name kind ∷ []) ++ after_all) × IsWhole after after_all root key
 others_more rest name kind after columns all [] root key next e whole = absurd (no_column rest root key name kind after whole next.line)
 others_more rest name kind after columns all (c ∷ later) root key next e whole =
     let first = All-head IsFirstColumn c later whole.firsts in
-    let same = next.only c.name c.kind (column_lines later ++ line_of (first_clustered_words root key)) first.name first.kind (whole_apart rest c later root key whole) in
+    let same = next.only c.name c.kind (column_lines later ++ line_of (first_clustered_words root key)) first.name (first.kind, first.number) (whole_apart rest c later root key whole) in
     let is = same_columns name kind c first same.0 same.1 in (
       later,
       e ∙ ap (λ x. columns ++ x ∷ later) (sym is) ∙ sym (append_assoc columns (first_column name kind ∷ []) later),
@@ -66,7 +65,7 @@ others_more rest name kind after columns all (c ∷ later) root key next e whole
 
 pub one_read : (text : List ℕ) (columns : List Column) (rest name : List ℕ) (kind : ColumnType) (after : List ℕ) → AreRead text columns rest → IsNext rest name kind after → AreRead text (columns ++ first_column name kind ∷ []) after
 one_read text columns rest name kind after read next = record {
-  firsts = All-push IsFirstColumn columns (first_column name kind) read.firsts (record { name = next.is_name; kind = next.is_type; not_null = refl });
+  firsts = All-push IsFirstColumn columns (first_column name kind) read.firsts (record { name = next.is_name; kind = next.is_type.0; number = next.is_type.1; not_null = refl });
   lines =
       read.lines ∙ ap (λ r. column_lines columns ++ r) next.line
       ∙ sym (append_assoc (column_lines columns) (line_of (column_words (first_column name kind))) after)
@@ -75,13 +74,13 @@ one_read text columns rest name kind after read next = record {
 }
 
 -- where no column's line stands at the front, all columns are read
-pub all_read : (text : List ℕ) (columns : List Column) (rest : List ℕ) → AreRead text columns rest → ((n : List ℕ) (k : ColumnType) (r : List ℕ) → IsName n → IsColumnType k → rest ≡ line_of (column_words (first_column n k)) ++ r → ⊥) → (all : List Column) (root : ℕ) (key : List ℕ) → IsWhole text all root key → (columns ≡ all) × (rest ≡ line_of (first_clustered_words root key))
+pub all_read : (text : List ℕ) (columns : List Column) (rest : List ℕ) → AreRead text columns rest → ((n : List ℕ) (k : ColumnType) (r : List ℕ) → IsName n → IsIntType k → rest ≡ line_of (column_words (first_column n k)) ++ r → ⊥) → (all : List Column) (root : ℕ) (key : List ℕ) → IsWhole text all root key → (columns ≡ all) × (rest ≡ line_of (first_clustered_words root key))
 all_read text columns rest read none all root key whole =
     let before = read.others all root key whole in
     left_none rest columns all before.0 root key none before.1 before.2
   where
-    left_none : (rest : List ℕ) (columns all later : List Column) (root : ℕ) (key : List ℕ) → ((n : List ℕ) (k : ColumnType) (r : List ℕ) → IsName n → IsColumnType k → rest ≡ line_of (column_words (first_column n k)) ++ r → ⊥) → all ≡ columns ++ later → IsWhole rest later root key → (columns ≡ all) × (rest ≡ line_of (first_clustered_words root key))
+    left_none : (rest : List ℕ) (columns all later : List Column) (root : ℕ) (key : List ℕ) → ((n : List ℕ) (k : ColumnType) (r : List ℕ) → IsName n → IsIntType k → rest ≡ line_of (column_words (first_column n k)) ++ r → ⊥) → all ≡ columns ++ later → IsWhole rest later root key → (columns ≡ all) × (rest ≡ line_of (first_clustered_words root key))
     left_none rest columns all [] root key none e whole = (sym (append-nil columns) ∙ sym e, whole.lines)
     left_none rest columns all (c ∷ later) root key none e whole =
         let first = All-head IsFirstColumn c later whole.firsts in
-        absurd (none c.name c.kind _ first.name first.kind (whole_apart rest c later root key whole))
+        absurd (none c.name c.kind _ first.name (first.kind, first.number) (whole_apart rest c later root key whole))

@@ -12,12 +12,13 @@ use Rattle.std.specs.Fmt.{decimal}
 use Rattle.column_values.specs.declared.kind.ColumnType.{ColumnType}
 use Rattle.column_values.specs.declared.kind.ColumnType.TheVariants.{Int}
 use Rattle.schema_text.specs.Grammar.{space, line_feed, joined, line_of, int_word, type_words, column_words, IsName, IsNameByte, IsRoot}
-use Rattle.schema_text.specs.First.{first_column, first_table_words}
+use Rattle.schema_text.specs.First.{first_column, first_table_words, IsInt}
 use Rattle.schema_text.specs.Cuts.{Lacks}
 
-pub column_text : (name : List ℕ) (kind : ColumnType) → joined (column_words (first_column name kind)) ≡ codes "column " ++ ((name ++ space ∷ joined (type_words kind)) ++ codes " notnull")
-column_text name (Int width true) = simp append_assoc
-column_text name (Int width false) = simp append_assoc
+pub column_text : (name : List ℕ) (kind : ColumnType) → IsInt kind → joined (column_words (first_column name kind)) ≡ codes "column " ++ ((name ++ space ∷ joined (type_words kind)) ++ codes " notnull")
+column_text name (Int width true) number = simp append_assoc
+column_text name (Int width false) number = simp append_assoc
+column_text name _ number = absurd number
 
 -- a line before the rest of its text
 pub line_apart : (words : List (List ℕ)) (rest : List ℕ) → line_of words ++ rest ≡ joined words ++ line_feed ∷ rest
@@ -41,9 +42,10 @@ word_tested false false false false = refl
 int_lacks : (width : ℕ) → Lacks line_feed (int_word width)
 int_lacks width = lacks line_feed (int_word width) (word_tested (eqb width 1) (eqb width 2) (eqb width 3) (eqb width 4))
 
-type_lacks : (kind : ColumnType) → Lacks line_feed (joined (type_words kind))
-type_lacks (Int width true) = int_lacks width
-type_lacks (Int width false) = lacks_both line_feed (int_word width) (codes " unsigned") (int_lacks width) (lacks line_feed (codes " unsigned") refl)
+type_lacks : (kind : ColumnType) → IsInt kind → Lacks line_feed (joined (type_words kind))
+type_lacks (Int width true) number = int_lacks width
+type_lacks (Int width false) number = lacks_both line_feed (int_word width) (codes " unsigned") (int_lacks width) (lacks line_feed (codes " unsigned") refl)
+type_lacks _ number = absurd number
 
 -- neither space nor line feed stands in a name or in a number
 pub name_lacks : (byte : ℕ) (name : List ℕ) → byte < 36 → IsName name → Lacks byte name
@@ -71,11 +73,11 @@ table_line_lacks name h =
     lacks_both line_feed (codes "table ") (name ++ codes " dynamic") (lacks line_feed (codes "table ") refl)
     (lacks_both line_feed name (codes " dynamic") (name_lacks line_feed name (omega arith) h) (lacks line_feed (codes " dynamic") refl))
 
-pub column_line_lacks : (name : List ℕ) (kind : ColumnType) → IsName name → Lacks line_feed (joined (column_words (first_column name kind)))
-column_line_lacks name kind h =
-    subst (Lacks line_feed) (sym (column_text name kind))
+pub column_line_lacks : (name : List ℕ) (kind : ColumnType) → IsName name → IsInt kind → Lacks line_feed (joined (column_words (first_column name kind)))
+column_line_lacks name kind h number =
+    subst (Lacks line_feed) (sym (column_text name kind number))
     (lacks_both line_feed (codes "column ") _ (lacks line_feed (codes "column ") refl)
     (lacks_both line_feed (name ++ space ∷ joined (type_words kind)) (codes " notnull")
     (lacks_both line_feed name (space ∷ joined (type_words kind)) (name_lacks line_feed name (omega arith) h)
-    (lacks_both line_feed (space ∷ []) (joined (type_words kind)) (lacks line_feed (space ∷ []) refl) (type_lacks kind)))
+    (lacks_both line_feed (space ∷ []) (joined (type_words kind)) (lacks line_feed (space ∷ []) refl) (type_lacks kind number)))
     (lacks line_feed (codes " notnull") refl)))

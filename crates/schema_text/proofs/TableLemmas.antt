@@ -7,14 +7,14 @@ use Rattle.std.proofs.lemmas.List.Concat.{flat_map-append}
 use Rattle.std.proofs.lemmas.List.Elements.{All-nil, All-cons, All-head, All-tail, All-weaker}
 use Rattle.column_values.specs.declared.kind.ColumnType.{ColumnType}
 use Rattle.column_values.specs.declared.kind.ColumnType.TheVariants.{Int}
-use Rattle.column_values.specs.Types.{IsColumnType, greatest_length}
+use Rattle.column_values.specs.Types.{IsColumnType, greatest_length, is_long_kind}
 use Rattle.schema_text.specs.declared.table.Format.{Format}
 use Rattle.schema_text.specs.declared.table.Format.TheVariants.{Dynamic}
 use Rattle.schema_text.specs.declared.table.Column.{Column}
 use Rattle.schema_text.specs.declared.table.IndexDef.{IndexDef}
 use Rattle.schema_text.specs.TableDef.{TableDef, index_columns}
 use Rattle.schema_text.specs.Grammar.{line_of, column_words, schema_words, schema_text, IsName, IsRoot, IsKeyOf}
-use Rattle.schema_text.specs.First.{first_index, first_table, first_table_words, first_clustered_words, column_lines, IsFirstColumn, AreColumns, IsNamed, IsFirstTextOf}
+use Rattle.schema_text.specs.First.{first_index, first_table, first_table_words, first_clustered_words, column_lines, IsFirstColumn, IsInt, AreColumns, IsNamed, IsFirstTextOf}
 
 -- the lines of the columns, in two words
 lines_of_columns : (columns : List Column) → flat_map line_of (map column_words columns) ≡ column_lines columns
@@ -73,8 +73,13 @@ alone R x i j d before within = absurd (omega arith)
 one : {X : Type 0} (P : X → Type 0) (x : X) → P x → All P (x ∷ [])
 one P x h = All-cons P x [] h (All-nil P)
 
-short_kind : (kind : ColumnType) → IsColumnType kind → greatest_length kind ≤ 8
-short_kind (Int width signed) h = grind arith
+short_kind : (kind : ColumnType) → IsColumnType kind → IsInt kind → greatest_length kind ≤ 8
+short_kind (Int width signed) h number = grind arith
+short_kind _ h number = absurd number
+
+not_long : (kind : ColumnType) → IsInt kind → is_long_kind kind ≡ false
+not_long (Int width signed) number = refl
+not_long _ number = absurd number
 
 key_of : (name : List ℕ) (columns : List Column) (root key : ℕ) (c : Column) (line : ℕ) → slice_get columns key ≡ Some c → key < length columns → IsFirstColumn c → IsKeyOf (first_table name columns root key) (record { name = []; root = root; columns = key ∷ []; line = line })
 key_of name columns root key c line at within first = record {
@@ -82,7 +87,8 @@ key_of name columns root key c line at within first = record {
   known = one (λ i. i < length columns) key within;
   distinct = alone (λ (i j : ℕ). i ≢ j) key;
   fits = record {
-    total = rw (only_column columns key c at) (let small = short_kind c.kind first.kind in omega arith);
+    short_kinds = rw (only_column columns key c at) (one (λ (c : Column). is_long_kind c.kind ≡ false) c (not_long c.kind first.number));
+    total = rw (only_column columns key c at) (let small = short_kind c.kind first.kind first.number in omega arith);
     each = λ bad. cc;
   };
 }
@@ -136,6 +142,7 @@ is_first_text name columns root key key_name text has short =
       };
       is_first = record {
         dynamic = refl;
+        numbers = All-weaker IsFirstColumn (λ (c : Column). IsInt c.kind) (λ c h. h.number) columns has.firsts;
         not_null = All-weaker IsFirstColumn (λ (c : Column). c.nullable ≡ false) (λ c h. h.not_null) columns has.firsts;
         only_clustered = refl;
         one_key_column = one (λ (x : IndexDef). length x.columns ≡ 1) index refl;
@@ -171,7 +178,7 @@ parts_at name format columns index_name root key line text h =
       is = table_is;
       has = record {
         is_name = is.name;
-        firsts = λ k d below. record { name = is.column_names k d below; kind = is.kinds k d below; not_null = h.is_first.not_null k d below };
+        firsts = λ k d below. record { name = is.column_names k d below; kind = is.kinds k d below; number = h.is_first.numbers k d below; not_null = h.is_first.not_null k d below };
         are = record { few = is.columns; differ = is.columns_differ };
         is_root = All-head (λ (x : IndexDef). IsRoot x.root) index [] is.roots;
         is_key = holds_at (λ (c : Column). IsName c.name) columns key at.0 is.column_names at.1;

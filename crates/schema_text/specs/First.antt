@@ -1,13 +1,23 @@
 -- The first kind of table: its rows are in the format DYNAMIC, no column may be null, and the clustered
 -- index, which has one key column, is the only one.
-use Rattle.std.specs.Prelude.{◌≡◌, ◌≢◌, ℕ, ◌+◌, ◌≤◌, false, List, [], ◌∷◌, length, codes, decimal, flat_map, slice_get, IsSomeAnd, All, AllPairs}
+use Rattle.std.specs.Prelude.{◌≡◌, ◌≢◌, ℕ, ◌+◌, ◌≤◌, ⊤, false, List, [], ◌∷◌, length, codes, decimal, flat_map, slice_get, IsSomeAnd, All, AllPairs}
 use Rattle.column_values.specs.declared.kind.ColumnType.{ColumnType}
+use Rattle.column_values.specs.declared.kind.ColumnType.TheVariants.{Int}
 use Rattle.schema_text.specs.declared.table.Format.TheVariants.{Dynamic}
 use Rattle.schema_text.specs.declared.table.Column.{Column}
 use Rattle.schema_text.specs.declared.table.IndexDef.{IndexDef}
 use Rattle.schema_text.specs.TableDef.{TableDef}
 use Rattle.column_values.specs.Types.{IsColumnType}
 use Rattle.schema_text.specs.Grammar.{line_of, column_words, IsName, IsTextOf}
+
+-- the type is one of integers
+abbrev pub IsInt : ColumnType → Type 0
+IsInt (Int width signed) = ⊤
+IsInt _ = ⊥
+
+-- the type of a column of integers
+abbrev pub IsIntType : ColumnType → Type 0
+IsIntType kind = IsColumnType kind × IsInt kind
 
 -- a column of such a table
 abbrev pub first_column : List ℕ → ColumnType → Column
@@ -16,6 +26,7 @@ first_column name kind = record { name = name; kind = kind; nullable = false }
 pub record IsFirstColumn (column : Column) : Type 0 where
   pub name : IsName column.name
   pub kind : IsColumnType column.kind
+  pub number : IsInt column.kind
   pub not_null : column.nullable ≡ false
 
 -- the columns of a table are few, with different names
@@ -49,6 +60,7 @@ first_table name columns root key =
 
 pub record IsFirst (table : TableDef) : Type 0 where
   pub dynamic : table.format ≡ Dynamic
+  pub numbers : All (λ (c : Column). IsInt c.kind) table.columns
   pub not_null : All (λ (c : Column). c.nullable ≡ false) table.columns
   pub only_clustered : length table.indexes ≡ 1
   pub one_key_column : All (λ (x : IndexDef). length x.columns ≡ 1) table.indexes

@@ -3,11 +3,10 @@
 
 ghost use Rattle.std.specs.Prelude.{◌≡◌, ◌≢◌, ◌==◌, ◌<◌, ◌≤◌, ◌↔◌, ◌++◌, ℕ, List, length, All, AllPairs, IsTrue, IfOk, IfSome, IsSomeAnd, Some, MatchOption, position, bytes_eq};
 ghost use Rattle.column_values.specs.declared.kind.ColumnType.{ColumnType};
-ghost use Rattle.column_values.specs.Types.{IsColumnType};
 ghost use Rattle.schema_text.specs.declared.table.Column.{Column};
 ghost use Rattle.schema_text.specs.Grammar.{line_of, column_words, IsName, IsRoot};
 ghost use Rattle.schema_text.specs.TableDef.{TableDef};
-ghost use Rattle.schema_text.specs.First.{first_column, first_table, first_table_words, first_clustered_words, column_lines, IsFirstColumn, AreColumns, IsNamed, IsFirstTextOf};
+ghost use Rattle.schema_text.specs.First.{first_column, first_table, first_table_words, first_clustered_words, column_lines, IsFirstColumn, IsIntType, AreColumns, IsNamed, IsFirstTextOf};
 
 use crate::lines::{clustered_line, column_line, table_line};
 use crate::table::{Column, ColumnList, Format, IndexDef, Schema};
@@ -34,10 +33,10 @@ fn first_line(text: &[u8]) -> Option<(&[u8], &[u8])>
 
 /// The name and the type on the column line that the text begins with, and what follows the line.
 fn next_column(text: &[u8]) -> Option<(&[u8], ColumnType, &[u8])>
-    ensures found { IfSome result (λ found. IsName found.0.now × IsColumnType found.1
+    ensures found { IfSome result (λ found. IsName found.0.now × IsIntType found.1
         × (text.now ≡ line_of (column_words (first_column found.0.now found.1)) ++ found.2.now)) }
     ensures only { (name : List ℕ) (kind : ColumnType) (rest : List ℕ)
-        → IsName name → IsColumnType kind
+        → IsName name → IsIntType kind
         → text.now ≡ line_of (column_words (first_column name kind)) ++ rest
         → IsSomeAnd result
         (λ found. (found.0.now ≡ name) × (found.1 ≡ kind) × (found.2.now ≡ rest)) }

@@ -2,9 +2,9 @@
 
 ghost use Rattle.std.specs.Prelude.{◌≡◌, ◌∷◌, ◌++◌, ℕ, List, IfSome, IsSomeAnd, Some, decimal};
 ghost use Rattle.column_values.specs.declared.kind.ColumnType.{ColumnType};
-ghost use Rattle.column_values.specs.Types.{IsWidth, IsColumnType};
+ghost use Rattle.column_values.specs.Types.{IsWidth};
 ghost use Rattle.schema_text.specs.Grammar.{space, joined, int_word, type_words, column_words, IsName, IsRoot};
-ghost use Rattle.schema_text.specs.First.{first_column, first_table_words, first_clustered_words};
+ghost use Rattle.schema_text.specs.First.{first_column, first_table_words, first_clustered_words, IsIntType};
 ghost use Rattle.schema_text.specs.Cuts.{IsIntOf};
 ghost use Rattle.column_values.specs.declared.kind.ColumnType.TheVariants.{Int};
 
@@ -28,7 +28,7 @@ fn int_width(word: &[u8]) -> Option<u8>
 
 /// The type of the integers that the word names.
 fn int_type(word: &[u8], signed: bool) -> Option<ColumnType>
-    ensures found { IfSome result (λ kind. IsColumnType kind × IsIntOf word.now signed kind) }
+    ensures found { IfSome result (λ kind. IsIntType kind × IsIntOf word.now signed kind) }
     ensures only { (width : ℕ) → IsWidth width → word.now ≡ int_word width
         → result ≡ Some (Int width signed) }
 {
@@ -41,8 +41,8 @@ fn int_type(word: &[u8], signed: bool) -> Option<ColumnType>
 /// The type that the words name.
 fn type_of(words: &[u8]) -> Option<ColumnType>
     ensures found { IfSome result
-        (λ kind. IsColumnType kind × (words.now ≡ joined (type_words kind))) }
-    ensures only { (kind : ColumnType) → IsColumnType kind → words.now ≡ joined (type_words kind)
+        (λ kind. IsIntType kind × (words.now ≡ joined (type_words kind))) }
+    ensures only { (kind : ColumnType) → IsIntType kind → words.now ≡ joined (type_words kind)
         → result ≡ Some kind }
 {
     match before(words, b" unsigned") {
@@ -64,9 +64,9 @@ pub(crate) fn table_line(line: &[u8]) -> Option<&[u8]>
 
 /// A name, a space, and a type.
 fn column_parts(words: &[u8]) -> Option<(&[u8], ColumnType)>
-    ensures found { IfSome result (λ found. IsName found.0.now × IsColumnType found.1
+    ensures found { IfSome result (λ found. IsName found.0.now × IsIntType found.1
         × (words.now ≡ found.0.now ++ space ∷ joined (type_words found.1))) }
-    ensures only { (name : List ℕ) (kind : ColumnType) → IsName name → IsColumnType kind
+    ensures only { (name : List ℕ) (kind : ColumnType) → IsName name → IsIntType kind
         → words.now ≡ name ++ space ∷ joined (type_words kind)
         → IsSomeAnd result (λ found. (found.0.now ≡ name) × (found.1 ≡ kind)) }
 {
@@ -78,9 +78,9 @@ fn column_parts(words: &[u8]) -> Option<(&[u8], ColumnType)>
 /// The name and the type on a line `column NAME TYPE notnull`.
 #[tactic(auto, using(crate::proofs::LineLemmas::column_text))]
 pub(crate) fn column_line(line: &[u8]) -> Option<(&[u8], ColumnType)>
-    ensures found { IfSome result (λ found. IsName found.0.now × IsColumnType found.1
+    ensures found { IfSome result (λ found. IsName found.0.now × IsIntType found.1
         × (line.now ≡ joined (column_words (first_column found.0.now found.1)))) }
-    ensures only { (name : List ℕ) (kind : ColumnType) → IsName name → IsColumnType kind
+    ensures only { (name : List ℕ) (kind : ColumnType) → IsName name → IsIntType kind
         → line.now ≡ joined (column_words (first_column name kind))
         → IsSomeAnd result (λ found. (found.0.now ≡ name) × (found.1 ≡ kind)) }
 {
