@@ -1,3 +1,9 @@
 pub mod CrcLemmas
 pub mod Bytes
 pub mod Sealed
+pub mod Linear
+pub mod States
+pub mod Cancels
+pub mod Shortened
+pub mod TableLemmas
+pub mod WordLemmas

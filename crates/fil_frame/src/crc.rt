@@ -1,13 +1,16 @@
-//! CRC-32C, with Castagnoli's polynomial (ut0crc32).
+//! CRC-32C, with Castagnoli's polynomial (ut0crc32), by tables.
 
-ghost use Rattle.std.specs.Prelude.{◌≡◌, [], ◌∷◌};
-ghost use Rattle.fil_frame.specs.Crc.{crc_step, crc_state, crc32c_of};
+ghost use Rattle.std.specs.Prelude.{◌≡◌, ◌%◌, [], ◌∷◌, length};
+ghost use Rattle.fil_frame.specs.Crc.{crc_state, crc32c_of};
+ghost use Rattle.fil_frame.specs.Sparse.{zero_bytes};
 
-/// The polynomial with its bits turned round: the highest bit belongs to x^0, the lowest to x^31.
-const POLYNOMIAL: u32 = 0x82F6_3B78;
+use crate::tables::{TABLE_0, TABLE_1, TABLE_2, TABLE_3, TABLE_4, TABLE_5, TABLE_6, TABLE_7};
 
 /// The state before the first bit, and what the last state is exclusive-ored with.
-const ALL_ONES: u32 = 0xFFFF_FFFF;
+pub const ALL_ONES: u32 = 0xFFFF_FFFF;
+
+/// How many bytes are looked up at a time.
+const GROUP: usize = 8;
 
 /// The CRC-32C of the bytes.
 pub fn crc32c(bytes: &[u8]) -> u32
@@ -16,8 +19,55 @@ pub fn crc32c(bytes: &[u8]) -> u32
     after_bytes(ALL_ONES, bytes) ^ ALL_ONES
 }
 
-/// The state after these bytes.
-fn after_bytes(start: u32, bytes: &[u8]) -> u32
+/// The state after these bytes: whole groups of eight go by the eight tables, the rest by the first.
+pub fn after_bytes(start: u32, bytes: &[u8]) -> u32
+    ensures { result ≡ crc_state start bytes.now }
+{
+    let whole = bytes.len() / GROUP * GROUP;
+    after_rest(after_groups(start, &bytes[..whole]), &bytes[whole..])
+}
+
+/// The state after these whole groups.
+fn after_groups(start: u32, bytes: &[u8]) -> u32
+    requires { length bytes.now % GROUP ≡ 0 }
+    ensures { result ≡ crc_state start bytes.now }
+{
+    let mut state = start;
+    for g in 0..bytes.len() / GROUP {
+        state = after_group(state, &bytes[GROUP * g..GROUP * g + GROUP]);
+    }
+    state
+}
+
+/// The state after a group.
+fn after_group(state: u32, group: &[u8]) -> u32
+    requires { length group.now ≡ GROUP }
+    ensures { result ≡ crc_state state group.now }
+{
+    let bytes = [
+        group[0], group[1], group[2], group[3], group[4], group[5], group[6], group[7],
+    ];
+    after_zeros(u64::from(state) ^ u64::from_le_bytes(bytes))
+}
+
+/// The state after eight bytes of zeros, from this state of 64 bits.
+fn after_zeros(word: u64) -> u32
+    ensures { result ≡ zero_bytes 8 word }
+{
+    macro_rules! look_up {
+        ($first:ident at $low:literal, $($table:ident at $place:literal),+) => {
+            $first[((word >> $low) % 256) as usize]
+                $(^ $table[((word >> $place) % 256) as usize])+
+        };
+    }
+    look_up!(
+        TABLE_7 at 0, TABLE_6 at 8, TABLE_5 at 16, TABLE_4 at 24,
+        TABLE_3 at 32, TABLE_2 at 40, TABLE_1 at 48, TABLE_0 at 56
+    )
+}
+
+/// The state after these bytes, one by one.
+fn after_rest(start: u32, bytes: &[u8]) -> u32
     ensures { result ≡ crc_state start bytes.now }
 {
     let mut state = start;
@@ -27,51 +77,9 @@ fn after_bytes(start: u32, bytes: &[u8]) -> u32
     state
 }
 
-/// The state after a byte, whose lowest bit comes first.
-fn after_byte(start: u32, byte: u8) -> u32
-    ensures { result ≡ crc_state start (byte ∷ []) }
+/// The state after a byte.
+fn after_byte(state: u32, byte: u8) -> u32
+    ensures { result ≡ crc_state state (byte ∷ []) }
 {
-    let mut state = start;
-    for k in 0..8u32 {
-        state = after_bit(state, u32::from(byte >> k & 1));
-    }
-    state
-}
-
-/// The state after a bit.
-fn after_bit(state: u32, bit: u32) -> u32
-    ensures { result ≡ crc_step state bit }
-{
-    if state % 2 == bit {
-        state / 2
-    } else {
-        state / 2 ^ POLYNOMIAL
-    }
-}
-
-#[cfg(test)]
-mod tests {
-    use super::*;
-
-    /// The check value of the catalogues of CRCs, and the examples of RFC 3720, B.4.
-    #[test]
-    fn gives_known_checksums(rt: HostRuntime) {
-        let cases: [(&[u8], u32); 6] = [
-            (b"", 0),
-            (b"123456789", 0xE306_9283),
-            (&[0; 32], 0x8A91_36AA),
-            (&[0xFF; 32], 0x62A8_AB43),
-            (
-                &[
-                    0, 1, 2, 3, 4, 5, 6, 7, 8, 9, 10, 11, 12, 13, 14, 15, 16, 17, 18, 19, 20, 21,
-                    22, 23, 24, 25, 26, 27, 28, 29, 30, 31,
-                ],
-                0x46DD_794E,
-            ),
-            (b"a", 0xC1D0_4330),
-        ];
-        for (bytes, want) in cases {
-            assert_eq!(rt; crc32c(bytes), want, "of {bytes:?}");
-        }
-    }
+    TABLE_0[(state % 256 ^ u32::from(byte)) as usize] ^ (state >> 8)
 }

@@ -1,10 +1,16 @@
-//! The fields of the frame, and the checksum of a page (buf0checksum).
+//! The fields of the frame, and the two checksums of a page (buf0checksum).
 
-ghost use Rattle.std.specs.Prelude.{◌≡◌, ◌<◌, ◌↔◌, IsTrue};
+ghost use Rattle.std.specs.Prelude.{◌≡◌, ◌↔◌, IsTrue, slice_range};
 ghost use Rattle.std.specs.Bool.{OnTrue, OnFalse};
-ghost use Rattle.fil_frame.specs.Frame.{page_sum_of, kind_of, IsFramed, Seals, with_frame, sealed};
+ghost use Rattle.page_source.specs.Pages.{num};
+ghost use Rattle.fil_frame.specs.Fold.{fold_of};
+ghost use Rattle.fil_frame.specs.Sums.{page_sum_of, page_fold_of, first_sum_of, second_sum_of};
+ghost use Rattle.fil_frame.specs.Sums.{HasSums, HasSomeSums, IsSumKind};
+ghost use Rattle.fil_frame.specs.Frame.{kind_of, IsFramed, Seals, SealsAs, with_frame, sealed, sealed_as};
 
+use crate::body::body_sum;
 use crate::crc::crc32c;
+use crate::rnd::fold;
 use page_source::{PAGE_SIZE, Page, read_be, write_be};
 
 // The places of the fields, with their names in fil0fil.h.
@@ -39,13 +45,83 @@ const TAIL_CHECKSUM: usize = 16376;
 /// The echo of the low 4 bytes of the LSN.
 const ECHO: usize = 16380;
 
+/// The number that stands where a page has no checksum (BUF_NO_CHECKSUM_MAGIC).
+const NO_SUM: u32 = 0xDEAD_BEEF;
+
+/// The kind of a page's two checksums (innodb_checksum_algorithm).
+#[derive(Clone, Copy, Debug, PartialEq, Eq)]
+pub enum SumKind {
+    /// `crc32`: CRC-32C, at both places.
+    Crc32,
+    /// `innodb`: two folds.
+    Innodb,
+    /// `none`: a fixed number, at both places.
+    Fixed,
+}
+
 /// The checksum of a page: the CRC-32C of bytes 4 to 25, exclusive-or that of bytes 38 to 16375.
-#[tactic(auto, unfolding(crate::specs::Frame::page_sum_of))]
+#[tactic(auto, unfolding(crate::specs::Sums::page_sum_of))]
 pub fn page_sum(page: &Page) -> u32
     ensures { result ≡ page_sum_of page.now }
 {
     let bytes = page.bytes();
-    crc32c(&bytes[NUMBER..FLUSH_LSN]) ^ crc32c(&bytes[BODY..TAIL_CHECKSUM])
+    crc32c(&bytes[NUMBER..FLUSH_LSN]) ^ body_sum(&bytes[BODY..TAIL_CHECKSUM])
+}
+
+/// The fold of bytes 4 to 25 and that of bytes 38 to 16375, added.
+#[tactic(auto, unfolding(crate::specs::Sums::page_fold_of))]
+fn page_fold(page: &Page) -> u32
+    ensures { result ≡ page_fold_of page.now }
+{
+    let bytes = page.bytes();
+    fold(&bytes[NUMBER..FLUSH_LSN]).wrapping_add(fold(&bytes[BODY..TAIL_CHECKSUM]))
+}
+
+/// The fold of bytes 0 to 25.
+fn head_fold(page: &Page) -> u32
+    ensures { result ≡ fold_of (slice_range page.now 0 26) }
+{
+    fold(&page.bytes()[CHECKSUM..FLUSH_LSN])
+}
+
+fn first_of(page: &Page) -> u32
+    ensures { result ≡ num page.now 0 4 }
+{
+    read_be::<4>(page, CHECKSUM) as u32
+}
+
+fn second_of(page: &Page) -> u32
+    ensures { result ≡ num page.now 16376 4 }
+{
+    read_be::<4>(page, TAIL_CHECKSUM) as u32
+}
+
+/// Whether the checksums are of this kind. What costs little is tested first.
+fn has_sums(page: &Page, kind: SumKind) -> bool
+    ensures { IsTrue result ↔ HasSums page.now kind }
+{
+    let first = first_of(page);
+    let second = second_of(page);
+    match kind {
+        SumKind::Crc32 => first == second && first == page_sum(page),
+        SumKind::Innodb => second == head_fold(page) && first == page_fold(page),
+        SumKind::Fixed => first == NO_SUM && second == NO_SUM,
+    }
+}
+
+/// The first kind that the page's checksums are of; none where they are of no kind.
+pub fn sum_kind(page: &Page) -> Option<SumKind>
+    ensures { IsSumKind page.now result }
+{
+    if has_sums(page, SumKind::Crc32) {
+        Some(SumKind::Crc32)
+    } else if has_sums(page, SumKind::Innodb) {
+        Some(SumKind::Innodb)
+    } else if has_sums(page, SumKind::Fixed) {
+        Some(SumKind::Fixed)
+    } else {
+        None
+    }
 }
 
 /// The type of a page, as 17855 for one of an index (FIL_PAGE_INDEX).
@@ -67,25 +143,61 @@ pub fn frame_fault(page: &Page, n: u32, space: u32) -> bool
 fn is_framed(page: &Page, n: u32, space: u32) -> bool
     ensures { IsTrue result ↔ IsFramed page.now n space }
 {
-    let sum = u64::from(page_sum(page));
-    read_be::<4>(page, CHECKSUM) == sum
-        && read_be::<4>(page, TAIL_CHECKSUM) == sum
-        && read_be::<4>(page, ECHO) == read_be::<4>(page, LOW_LSN)
+    read_be::<4>(page, ECHO) == read_be::<4>(page, LOW_LSN)
         && read_be::<4>(page, NUMBER) == u64::from(n)
         && read_be::<4>(page, SPACE) == u64::from(space)
+        && has_some_sums(page)
 }
 
-/// Makes the frame that of page `n` of the tablespace `space`, with this LSN and type and the right
-/// checksum. The links, the flush LSN and the body stay.
+fn has_some_sums(page: &Page) -> bool
+    ensures { IsTrue result ↔ HasSomeSums page.now }
+{
+    sum_kind(page).is_some()
+}
+
+/// Makes the frame that of page `n` of the tablespace `space`, with this LSN and type and checksums
+/// of the kind `crc32`. The links, the flush LSN and the body stay.
 pub fn seal(page: &mut Page, n: u32, space: u32, lsn: u64, kind: u16)
     ensures exact { page.new ≡ sealed page.old n space lsn kind }
     ensures seals { Seals page.old page.new n space lsn kind }
 {
     prove!(page.bytes().len() == PAGE_SIZE);
+    seal_as(page, n, space, lsn, kind, SumKind::Crc32);
+}
+
+/// Does the same with checksums of this kind.
+pub fn seal_as(page: &mut Page, n: u32, space: u32, lsn: u64, kind: u16, sum: SumKind)
+    ensures exact { page.new ≡ sealed_as page.old n space lsn kind sum }
+    ensures seals { SealsAs page.old page.new n space lsn kind sum }
+{
+    prove!(page.bytes().len() == PAGE_SIZE);
     put_fields(page, n, space, lsn, kind);
-    let sum = u64::from(page_sum(page));
-    write_be::<4>(page, CHECKSUM, sum);
-    write_be::<4>(page, TAIL_CHECKSUM, sum);
+    let first = first_sum(page, sum);
+    write_be::<4>(page, CHECKSUM, u64::from(first));
+    let second = second_sum(page, sum, first);
+    write_be::<4>(page, TAIL_CHECKSUM, u64::from(second));
+}
+
+/// The first checksum of this kind.
+fn first_sum(page: &Page, kind: SumKind) -> u32
+    ensures { result ≡ first_sum_of kind page.now }
+{
+    match kind {
+        SumKind::Crc32 => page_sum(page),
+        SumKind::Innodb => page_fold(page),
+        SumKind::Fixed => NO_SUM,
+    }
+}
+
+/// The second checksum of this kind, where the first one is known.
+fn second_sum(page: &Page, kind: SumKind, first: u32) -> u32
+    requires { first ≡ first_sum_of kind page.now }
+    ensures { result ≡ second_sum_of kind page.now }
+{
+    match kind {
+        SumKind::Crc32 | SumKind::Fixed => first,
+        SumKind::Innodb => head_fold(page),
+    }
 }
 
 #[tactic(auto, unfolding(crate::specs::Frame::with_frame))]
@@ -97,63 +209,4 @@ fn put_fields(page: &mut Page, n: u32, space: u32, lsn: u64, kind: u16)
     write_be::<2>(page, KIND, u64::from(kind));
     write_be::<4>(page, SPACE, u64::from(space));
     write_be::<4>(page, ECHO, lsn & 0xFFFF_FFFF);
-}
-
-#[cfg(test)]
-mod tests {
-    use super::*;
-    use page_source::NoMemory;
-    use std::alloc::Global;
-    use std::test::Fail;
-
-    /// A page of bytes 0xA5 under its frame.
-    fn sealed_page(alloc: Global) -> Result<Page, NoMemory> {
-        let mut page = Page::zeroed(alloc)?;
-        page.put_bytes(0, &[0xA5; PAGE_SIZE]);
-        seal(&mut page, 7, 23, 0x0102_0304_0506_0708, 17855);
-        Ok(page)
-    }
-
-    /// Whether the frame is broken once the byte at `at` is changed.
-    fn breaks_at(page: &mut Page, at: usize) -> bool
-        requires { at < 16384 }
-    {
-        let byte = page.bytes()[at];
-        page.put_bytes(at, &[byte ^ 1]);
-        let broken = frame_fault(page, 7, 23);
-        page.put_bytes(at, &[byte]);
-        broken
-    }
-
-    #[test]
-    fn seals(rt: HostRuntime) -> Result<(), Fail> {
-        let mut page = sealed_page(rt.alloc())?;
-        let header = [
-            0xBF, 0x57, 0xF9, 0xD7, 0, 0, 0, 7, 0xA5, 0xA5, 0xA5, 0xA5, 0xA5, 0xA5, 0xA5, 0xA5, 1,
-            2, 3, 4, 5, 6, 7, 8, 0x45, 0xBF, 0xA5, 0xA5, 0xA5, 0xA5, 0xA5, 0xA5, 0xA5, 0xA5, 0, 0,
-            0, 23, 0xA5,
-        ];
-        let trailer = [0xA5, 0xBF, 0x57, 0xF9, 0xD7, 5, 6, 7, 8];
-        assert!(rt; page.bytes().starts_with(&header));
-        assert!(rt; page.bytes().ends_with(&trailer));
-        assert_eq!(rt; page_sum(&page), 0xBF57_F9D7);
-        assert_eq!(rt; kind(&page), 17855);
-
-        assert!(rt; !frame_fault(&page, 7, 23));
-        assert!(rt; frame_fault(&page, 8, 23));
-        assert!(rt; frame_fault(&page, 7, 24));
-        // Only the flush LSN may be any.
-        for at in [
-            0, 3, 4, 7, 8, 15, 16, 19, 20, 23, 24, 25, 26, 33, 34, 37, 38, 16375, 16376, 16379,
-            16380, 16383,
-        ] {
-            assert!(rt; at < PAGE_SIZE);
-            assert_eq!(rt;
-                breaks_at(&mut page, at),
-                !(26..34).contains(&at),
-                "at {at}"
-            );
-        }
-        Ok(())
-    }
 }

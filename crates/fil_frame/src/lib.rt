@@ -1,9 +1,16 @@
 //! The frame of a page: the fields of its header and trailer that pages of all types have
-//! (fil0fil.h), with the checksum of the rest.
+//! (fil0fil.h), with the checksums of the rest.
 #![tactic(auto)]
 
+mod body;
 mod crc;
 mod frame;
+pub mod laws;
+mod rnd;
+pub mod tables;
+#[cfg(test)]
+mod tests;
 
 pub use crc::crc32c;
-pub use frame::{frame_fault, kind, page_sum, seal};
+pub use frame::{SumKind, frame_fault, kind, page_sum, seal, seal_as, sum_kind};
+pub use rnd::fold;

@@ -1,20 +1,14 @@
-use Rattle.std.proofs.Common.{◌≡◌, ℕ, ◌/◌, ◌%◌, ◌^◌, ap, ◌∙◌, sym, arith}
-use Rattle.std.proofs.lemmas.Grind.{common_steps}
-use Rattle.fil_frame.specs.Crc.{crc_step, crc_state}
-use Rattle.fil_frame.proofs.CrcLemmas.{state_after, state_after_more}
+use Rattle.std.proofs.Common.{ℕ, ◌/◌, ◌%◌, ◌^◌, ◌<◌, bit_xor, ap, ◌∙◌, sym, arith}
+use Rattle.std.proofs.lemmas.Nat.{xor_of_8}
+use Rattle.fil_frame.specs.Tables.{table_entry}
+use Rattle.fil_frame.proofs.TableLemmas.{is_table_0, one_byte}
 use Rattle.fil_frame.proofs.crc.after_byte.Goals as goal
 
-pub loop-k-preserved : goal.loop-k-preserved
-loop-k-preserved c =
-    let bit = λ (k : ℕ). c.args.byte / 2 ^ k % 2 in
-    let is_bit : c.from.result ≡ bit c.loop-k.k = grind (arith, common_steps) in
-    c.after_bit-state.ensures ∙ ap (crc_step c.loop-k.state) is_bit
-    ∙ ap (λ (s : ℕ). crc_step s (bit c.loop-k.k)) c.loop-k.invariant
-    ∙ sym (state_after_more c.args.start bit c.loop-k.k)
-
 pub returns : goal.returns
-unfolding crc_state
 returns c =
-    let bit = λ (k : ℕ). c.args.byte / 2 ^ k % 2 in
-    let all : c.loop-k.k ≡ 8 = omega arith in
-    c.loop-k.invariant ∙ ap (state_after c.args.start bit) all
+    let low : c.args.state % 256 < 2 ^ 8 = omega arith in
+    let byte : c.from.result < 2 ^ 8 = omega arith in
+    ap (λ (r : ℕ). bit_xor r (c.args.state / 256)) (is_table_0.each (bit_xor (c.args.state % 256) c.from.result)
+    (xor_of_8 _ _ low byte))
+    ∙ ap (λ (b : ℕ). bit_xor (table_entry 0 (bit_xor (c.args.state % 256) b)) (c.args.state / 256)) c.from.ensures
+    ∙ sym (one_byte c.args.state c.args.byte)

@@ -1,0 +1,5 @@
+use Rattle.fil_frame.proofs.TableLemmas.{is_table_7}
+use Rattle.fil_frame.proofs.laws.table_7.Goals as goal
+
+pub returns : goal.returns
+returns c = is_table_7
