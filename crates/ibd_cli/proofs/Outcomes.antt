@@ -1,19 +1,21 @@
 -- The inputs define one status.
 use Rattle.std.proofs.Common.{◌≡◌, ℕ, List, Option, Some, None, Result, Ok, Err, refl, sym, ap, ◌∙◌, subst, inl, inr, IfSome}
+use Rattle.page_source.specs.Pages.{page_of}
 use Rattle.page_source.specs.declared.rule.Rule.{Rule}
 use Rattle.page_source.specs.declared.rule.Fault.{Fault}
 use Rattle.page_source.proofs.Unique.{IsUnique, Check-unique, Then-unique, Where-unique, some_is_not_none}
 use Rattle.schema_text.specs.TableDef.{TableDef}
 use Rattle.schema_text.specs.First.{IsFirstTextOf}
-use Rattle.ibd_cli.specs.declared.dump.Stop.{Stop}
-use Rattle.ibd_cli.specs.declared.dump.Stop.TheVariants as stops
+use Rattle.ibd_cli.specs.declared.dump.DumpStop.{DumpStop}
+use Rattle.ibd_cli.specs.declared.dump.DumpStop.TheVariants as stops
 use Rattle.ibd_cli.specs.declared.status.Status.{Status}
 use Rattle.ibd_cli.specs.declared.status.Status.TheVariants.{Done, Usage, SchemaRefused, Broken, SourceFault, SinkFault, Memory, Unbuilt}
-use Rattle.ibd_cli.specs.Checks.{AtPage}
+use Rattle.page_source.specs.Checks.{AtPage}
 use Rattle.ibd_cli.specs.Head.{HeaderChecks}
 use Rattle.ibd_cli.specs.IndexPage.{PageChecks}
+use Rattle.ibd_cli.specs.Rows.{root_of, record_size}
 use Rattle.ibd_cli.specs.Answers.{IsSchemaOf, ReadsRows, Agrees}
-use Rattle.ibd_cli.specs.Outcome.{First, RootChecks, IsOnePage, HasMorePages, Told, DumpGives}
+use Rattle.ibd_cli.specs.Outcome.{First, RootChecks, TableRootChecks, IsOnePage, HasMorePages, Told, DumpGives}
 
 HeaderChecks-unique : (page : List ℕ) (pages flags : ℕ) → IsUnique (HeaderChecks page pages flags)
 unfolding HeaderChecks
@@ -21,11 +23,13 @@ HeaderChecks-unique page pages flags =
     Then-unique _ _ (Check-unique _ _) (Then-unique _ _ (Check-unique _ _) (Then-unique _ _ (Check-unique _ _)
     (Then-unique _ _ (Check-unique _ _) (Then-unique _ _ (Check-unique _ _) (Check-unique _ _)))))
 
-RootChecks-unique : (file : List ℕ) (flags root : ℕ) → IsUnique (RootChecks file flags root)
+RootChecks-unique : (file : List ℕ) (root : ℕ) → IsUnique (RootChecks file root)
 unfolding RootChecks
-RootChecks-unique file flags root =
-    Then-unique _ _ (Then-unique _ _ (Check-unique _ _) (HeaderChecks-unique _ _ _))
-    (Then-unique _ _ (Where-unique _ _ (Check-unique _ _)) (Check-unique _ _))
+RootChecks-unique file root = Then-unique _ _ (Where-unique _ _ (Check-unique _ _)) (Check-unique _ _)
+
+TableRootChecks-unique : (file : List ℕ) (table : TableDef) → IsUnique (TableRootChecks file table)
+TableRootChecks-unique file table =
+    Then-unique _ _ (Then-unique _ _ (Check-unique _ _) (HeaderChecks-unique _ _ _)) (RootChecks-unique file (root_of table))
 
 PageChecks-unique : (page : List ℕ) (size : ℕ) → IsUnique (PageChecks page size)
 unfolding PageChecks
@@ -48,14 +52,16 @@ AtPage-unique n checks u (Some f) (Some g) p q =
 First-unique : (file : List ℕ) (table : TableDef) → IsUnique (First file table)
 unfolding First
 First-unique file table =
-    Then-unique _ _ (RootChecks-unique _ _ _) (Where-unique _ _ (AtPage-unique _ _ (PageChecks-unique _ _)))
+    let page = page_of file (root_of table) in
+    Then-unique _ _ (TableRootChecks-unique file table)
+    (Where-unique (IsOnePage file table) _ (AtPage-unique (root_of table) _ (PageChecks-unique page (record_size table))))
 
 -- a file with more pages than one breaks no rule so far
 no_fault : (file : List ℕ) (table : TableDef) (fault : Fault) → HasMorePages file table → First file table (Some fault) → ⊥
 unfolding First
 no_fault file table fault more first =
     elim first [
-      | inl root ↦ some_is_not_none fault (RootChecks-unique _ _ _ (Some fault) None root more.0)
+      | inl root ↦ some_is_not_none fault (TableRootChecks-unique file table (Some fault) None root more.0)
       | inr rest ↦ more.1 rest.1.0
     ]
 
@@ -117,7 +123,7 @@ unbuilt_agrees told table more SinkFault given = absurd given
 unbuilt_agrees told table more Memory given = absurd given
 
 -- an answer about the one schema of the text goes with the status that the inputs define
-pub rows_agree : (told : Told) (table : TableDef) (result : Result (List ℕ) Stop) → IsSchemaOf told.schema table → ReadsRows told.file table result
+pub rows_agree : (told : Told) (table : TableDef) (result : Result (List ℕ) DumpStop) → IsSchemaOf told.schema table → ReadsRows told.file table result
     → (given : Status) (output : List ℕ) → DumpGives told given output → Agrees result given
 rows_agree told table (Ok text) is reads given output gives = done_agrees told table reads.0 reads.1 given (defines told table is given output gives)
 rows_agree told table (Err stops.Unbuilt) is reads given output gives = unbuilt_agrees told table reads given (defines told table is given output gives)

@@ -1,9 +1,13 @@
 -- A text that grew piece by piece.
-use Rattle.std.proofs.Common.{◌≡◌, ℕ, ◌+◌, suc, ◌<◌, ◌≤◌, get_or, flat_map, drop, Result, Ok, Err, OnErr, ◌∷◌, List, ◌++◌, length, take, Option, Some, None, sym, ap, ◌∙◌, subst, arith, append_assoc, length-append}
+use Rattle.std.proofs.Common.{◌≡◌, ℕ, ◌+◌, suc, ◌<◌, ◌≤◌, get_or, flat_map, drop, Result, Ok, Err, IsErr, ◌∷◌, List, ◌++◌, length, take, Option, Some, None, sym, ap, ◌∙◌, subst, arith, append_assoc, length-append}
 use Rattle.std.proofs.Math.Seq.{take-append-add, take-length, split_at}
+use Rattle.std.proofs.lemmas.Bool.{false≢true}
 use Rattle.std.proofs.lemmas.List.{take-append-le}
 use Rattle.std.proofs.lemmas.List.Concat.{flat_map-append}
+use Rattle.page_source.specs.declared.objects.ByteSink.{Ghosts as SinkOf}
+use Rattle.page_source.specs.Faults.{Rose}
 use Rattle.page_source.specs.Objects.{GrowsBy, GrowsByPart}
+use Rattle.page_source.specs.Calls.{Puts}
 
 pub grows_on : (a b c : Option (List ℕ)) (xs ys : List ℕ) → GrowsBy a b xs → GrowsBy b c ys → GrowsBy a c (xs ++ ys)
 grows_on None b c xs ys first second = let e : b ≡ None = first in let f : GrowsBy None c ys = subst (λ (o : Option (List ℕ)). GrowsBy o c ys) e second in f
@@ -31,6 +35,9 @@ pub pieces_at : {X : Type 0} (text : X → List ℕ) (pieces : List X) (i : ℕ)
     → flat_map text pieces ≡ flat_map text (take i pieces) ++ (text (get_or pieces i d) ++ flat_map text (drop (suc i) pieces))
 pieces_at text pieces i d within = ap (flat_map text) (split_at pieces i d within) ∙ flat_map-append text (take i pieces) (get_or pieces i d ∷ drop (suc i) pieces)
 
-pub on_err : {A E : Type 0} (result : Result A E) (P : Type 0) → P → OnErr result P
-on_err (Ok a) P p = tt
-on_err (Err e) P p = p
+-- a put that failed
+pub part_puts : {O A E : Type 0} (g : SinkOf O) (old new : O) (text : List ℕ) (result : Result A E) → IsErr result
+    → GrowsByPart (g.written old) (g.written new) text → g.faults old ≤ g.faults new → Rose (g.faults old) (g.faults new)
+    → Puts g old new text result
+part_puts g old new text (Ok a) is part later rose = absurd (false≢true is)
+part_puts g old new text (Err e) is part later rose = record { ok = tt; failed = part; cause = record { later = later; failed = rose } }

@@ -55,6 +55,12 @@ HeaderChecks page pages flags =
     (Then (Holds HeadSize 0 (IsSize (stated_size page) pages))
     (Holds HeadLimit 0 (IsLimit (stated_size page) (free_limit page)))))))
 
+-- the space id and the size of the file, which lies within it
+pub record IsHead (file : List ℕ) (space size : ℕ) : Type 0 where
+  pub space_is : space ≡ space_of (page_of file 0)
+  pub size_is : size ≡ size_of file
+  pub within : size ≤ page_count file
+
 -- the checks of the head of a file
 abbrev pub HeadChecks : List ℕ → ℕ → Option Fault → Type 0
 HeadChecks file flags = Then (Holds FileSize 0 (4 ≤ page_count file)) (HeaderChecks (page_of file 0) (page_count file) flags)

@@ -4,7 +4,6 @@ pub mod Causes
 pub mod Reading
 pub mod Head
 pub mod IndexPage
-pub mod Checks
 pub mod Rows
 pub mod Outcome
 pub mod Answers

@@ -11,7 +11,7 @@ use Rattle.schema_text.specs.TableDef.{TableDef}
 use Rattle.schema_text.specs.First.{IsFirstTextOf}
 use Rattle.ibd_cli.specs.declared.status.Status.{Status}
 use Rattle.ibd_cli.specs.declared.status.Status.TheVariants.{Done, Broken, Unbuilt}
-use Rattle.ibd_cli.specs.Checks.{AtPage}
+use Rattle.page_source.specs.Checks.{AtPage}
 use Rattle.ibd_cli.specs.Head.{HeadChecks, size_of}
 use Rattle.ibd_cli.specs.IndexPage.{level_of, PageChecks, IsChain}
 use Rattle.ibd_cli.specs.Rows.{root_of, record_size, rows_of, text_of}
@@ -25,15 +25,15 @@ pub record IsRootPlace (file : List ℕ) (root : ℕ) : Type 0 where
   pub below : root < size_of file
   pub kind : kind_of (page_of file root) ≡ index_kind
 
--- the checks of the head, and of the place of the root; its frame is looked at where it lies below the stated size
-unfoldable pub RootChecks : List ℕ → ℕ → ℕ → Option Fault → Type 0
-RootChecks file flags root =
-    Then (HeadChecks file flags)
-    (Then (Where (root < size_of file) (Holds Frame root (Framed file root)))
-    (Holds RootPlace root (IsRootPlace file root)))
+-- the checks of the place of the root; its frame is looked at where it lies below the stated size
+unfoldable pub RootChecks : List ℕ → ℕ → Option Fault → Type 0
+RootChecks file root =
+    Then (Where (root < size_of file) (Holds Frame root (Framed file root)))
+    (Holds RootPlace root (IsRootPlace file root))
 
+-- the checks of the head, and of the place of the table's root
 abbrev pub TableRootChecks : List ℕ → TableDef → Option Fault → Type 0
-TableRootChecks file table = RootChecks file (flags_of table.format) (root_of table)
+TableRootChecks file table = Then (HeadChecks file (flags_of table.format)) (RootChecks file (root_of table))
 
 -- the root is the only page of its tree
 abbrev pub IsOnePage : List ℕ → TableDef → Type 0

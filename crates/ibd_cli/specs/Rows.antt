@@ -1,5 +1,5 @@
 -- The rows of a page of whole numbers, and their INSERT lines.
-use Rattle.std.specs.Prelude.{ℕ, ◌+◌, ◌==◌, nat_lt, if◌then◌else◌, not, false, ℤ, List, [], ◌++◌, map, take, filter, flat_map, sum_by, slice_index, slice_index_or, codes}
+use Rattle.std.specs.Prelude.{ℕ, ◌+◌, ◌==◌, nat_lt, if◌then◌else◌, not, false, ℤ, pos, List, [], ◌++◌, map, take, filter, flat_map, sum_by, slice_index, slice_index_or, codes}
 use Rattle.std.specs.List.{enumerate_from, join_with_byte}
 use Rattle.std.specs.Fmt.{signed_decimal}
 use Rattle.page_source.specs.Pages.{bytes_at}
@@ -10,7 +10,14 @@ use Rattle.column_values.specs.Spell.{int_of}
 use Rattle.schema_text.specs.declared.table.Column.{Column}
 use Rattle.schema_text.specs.declared.table.IndexDef.{IndexDef}
 use Rattle.schema_text.specs.TableDef.{TableDef}
+use Rattle.schema_text.specs.Grammar.{IsTable}
+use Rattle.schema_text.specs.First.{IsFirst}
 use Rattle.ibd_cli.specs.IndexPage.{is_deleted}
+
+-- a table of the kind that is served
+pub record IsServed (table : TableDef) : Type 0 where
+  pub is_table : IsTable table
+  pub is_first : IsFirst table
 
 -- the clustered index, the first one
 abbrev pub clustered : TableDef → IndexDef
@@ -56,9 +63,10 @@ column_offset table c =
     else (if nat_lt c (key_position table) then key_width table + hidden_width + before
     else hidden_width + before)
 
--- the number that the bytes of a column spell
+-- the number that the bytes of a column of integers spell
 abbrev pub value_of : ColumnType → List ℕ → ℤ
 value_of (Int width signed) bytes = int_of signed width bytes
+value_of _ bytes = pos 0
 
 -- the number of a column that begins at `at`
 abbrev pub value_at : List ℕ → ℕ → ColumnType → ℤ

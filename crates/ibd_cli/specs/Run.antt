@@ -1,9 +1,26 @@
 -- How the objects stand after a dump, where the inputs are told.
-use Rattle.std.specs.Prelude.{◌≡◌, ℕ, List, [], Option, Some}
+use Rattle.std.specs.Prelude.{◌≡◌, ℕ, ⊤, List, [], Option, Some}
 use Rattle.page_source.specs.Objects.{GrowsBy, GrowsByPart}
 use Rattle.ibd_cli.specs.declared.status.Status.{Status}
 use Rattle.ibd_cli.specs.declared.status.Status.TheVariants.{Done, Usage, SchemaRefused, Broken, SourceFault, SinkFault, Memory, Unbuilt}
-use Rattle.ibd_cli.specs.Outcome.{Told, DumpGives}
+use Rattle.page_source.specs.declared.rule.Fault.{Fault}
+use Rattle.schema_text.specs.TableDef.{TableDef}
+use Rattle.ibd_cli.specs.Outcome.{First, Told, DumpGives}
+
+-- so a command ends that serves nothing: its inputs are of another kind, or can't be read
+abbrev pub ServesNothing : Status → Type 0
+ServesNothing Done = ⊥
+ServesNothing Usage = ⊥
+ServesNothing (SchemaRefused line why) = ⊥
+ServesNothing (Broken fault) = ⊥
+ServesNothing SourceFault = ⊤
+ServesNothing SinkFault = ⊥
+ServesNothing Memory = ⊤
+ServesNothing Unbuilt = ⊤
+
+-- the fault is the first one of the file, as that of some table
+abbrev pub BreaksFile : List ℕ → Fault → Type 0
+BreaksFile file fault = (table : TableDef) × First file table (Some fault)
 
 -- the status is the one that the inputs define, and what was written goes with it: all lines at Done, a prefix of
 -- them where the output took no more, and else nothing

@@ -2,13 +2,13 @@
 
 ghost use Rattle.std.specs.Prelude.{◌≡◌, ◌+◌, ◌-◌, ◌^◌, ◌≤◌, ◌<◌, ◌↔◌, ◌⊎◌, ℕ, min, IsTrue, IfOk, IfSome, Some};
 ghost use Rattle.page_source.specs.Pages.{page_of, page_count, num};
+ghost use Rattle.page_source.specs.Checks.{Halts, Finds};
+ghost use Rattle.page_source.specs.Calls.{OfFile, HaltsOver};
 ghost use Rattle.fil_frame.specs.Frame.{space_of};
-ghost use Rattle.ibd_cli.specs.Checks.{Halts, Finds, HaltsWithCause};
-ghost use Rattle.ibd_cli.specs.Head.{HeadChecks, HeaderChecks, IsSize, IsLimit, size_of, stated_size};
+ghost use Rattle.ibd_cli.specs.Head.{HeadChecks, HeaderChecks, IsHead, IsSize, IsLimit, stated_size};
 
-use crate::checks::Halt;
 use fil_frame::{frame_fault, kind};
-use page_source::{Fault, Page, PageSource, Rule, Steps, read_be};
+use page_source::{Fault, Halt, Page, PageSource, Rule, Steps, read_be};
 use std::sync::ledger::Ledger;
 
 /// FIL_PAGE_TYPE_FSP_HDR, the type of page 0.
@@ -50,29 +50,17 @@ pub fn check_head<F: PageSource, L: Ledger>(
     page: &mut Page,
     steps: &mut Steps<L>,
 ) -> Result<Head, Halt>
-    ensures exact { IfSome (F.content file.old) (λ content. Halts result (HeadChecks content flags)) }
-    ensures head { IfOk result (λ head. IfSome (F.content file.old) (λ content.
-        (head.size ≡ size_of content) × (head.space ≡ space_of (page_of content 0)) × (size_of content ≤ page_count content))) }
-    ensures same { F.content file.new ≡ F.content file.old }
+    ensures exact { OfFile F.PageSource file.old (λ content. Halts result (HeadChecks content flags)) }
+    ensures head { IfOk result (λ head. OfFile F.PageSource file.old (λ content. IsHead content head.space head.size)) }
+    ensures keeps { HaltsOver F.PageSource file.old file.new result }
     ensures cost { steps.new ≤ steps.old + 1 }
-    ensures cause { HaltsWithCause (F.faults file.old) (F.faults file.new) result }
 {
-    let Ok(pages) = file.pages() else {
-        return Err(Halt::Source);
-    };
+    let pages = file.pages()?;
     if pages < 4 {
-        return Err(Halt::Broken(at_head(Rule::FileSize)));
+        return Err(Halt::Broken(Rule::FileSize.at(0)));
     }
-    if file.fetch(0, page, steps).is_err() {
-        return Err(Halt::Source);
-    }
-    check_header(page, pages, flags).map_err(Halt::Broken)
-}
-
-fn at_head(rule: Rule) -> Fault
-    ensures { result ≡ record { rule = rule; page = 0 } }
-{
-    Fault { rule, page: 0 }
+    file.fetch(0, page, steps)?;
+    Ok(check_header(page, pages, flags)?)
 }
 
 fn number(page: &Page, at: usize) -> u32
@@ -92,22 +80,22 @@ fn check_header(page: &Page, pages: u32, flags: u32) -> Result<Head, Fault>
     let space = number(page, FRAME_SPACE);
     let size = number(page, SIZE);
     if frame_fault(page, 0, space) {
-        return Err(at_head(Rule::HeadFrame));
+        return Err(Rule::HeadFrame.at(0));
     }
     if kind(page) != HEADER_KIND {
-        return Err(at_head(Rule::HeadType));
+        return Err(Rule::HeadType.at(0));
     }
     if space != number(page, SPACE) {
-        return Err(at_head(Rule::HeadSpace));
+        return Err(Rule::HeadSpace.at(0));
     }
     if !has_flags(number(page, FLAGS), flags) {
-        return Err(at_head(Rule::HeadFlags));
+        return Err(Rule::HeadFlags.at(0));
     }
     if !is_size(size, pages) {
-        return Err(at_head(Rule::HeadSize));
+        return Err(Rule::HeadSize.at(0));
     }
     if !is_limit(size, number(page, LIMIT)) {
-        return Err(at_head(Rule::HeadLimit));
+        return Err(Rule::HeadLimit.at(0));
     }
     Ok(Head { space, size })
 }

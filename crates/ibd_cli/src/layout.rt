@@ -3,12 +3,10 @@
 //! (dict0dict, rem0rec).
 
 ghost use Rattle.std.specs.Prelude.{◌≡◌, ◌+◌, ◌<◌, ◌≤◌, length, take, All};
-ghost use Rattle.column_values.specs.Types.{IsColumnType};
-ghost use Rattle.schema_text.specs.Grammar.{IsTable};
-ghost use Rattle.schema_text.specs.First.{IsFirst};
-ghost use Rattle.ibd_cli.specs.Rows.{root_of, key_position, column_at, column_width, total_width, record_size, column_offset};
+ghost use Rattle.schema_text.specs.First.{IsIntType};
+ghost use Rattle.ibd_cli.specs.Rows.{IsServed, root_of, key_position, column_at, column_width, total_width, record_size, column_offset};
 
-use column_values::ColumnType;
+use column_values::greatest_length;
 use schema_text::{Column, Schema};
 
 /// DATA_TRX_ID_LEN and DATA_ROLL_PTR_LEN: transaction id and roll pointer stand behind the key.
@@ -16,8 +14,7 @@ const HIDDEN_WIDTH: usize = 6 + 7;
 
 /// The number of the root page of the clustered index.
 pub fn root(schema: &Schema) -> u32
-    requires table { IsTable schema.now }
-    requires first { IsFirst schema.now }
+    requires served { IsServed schema.now }
     ensures { result ≡ root_of schema.now }
 {
     schema.indexes()[0].root
@@ -25,8 +22,7 @@ pub fn root(schema: &Schema) -> u32
 
 /// The bytes of a record behind its origin.
 pub fn record_size(schema: &Schema) -> usize
-    requires table { IsTable schema.now }
-    requires first { IsFirst schema.now }
+    requires served { IsServed schema.now }
     ensures exact { result ≡ record_size schema.now }
     ensures bound { result ≤ 525 }
 {
@@ -35,7 +31,7 @@ pub fn record_size(schema: &Schema) -> usize
 
 fn total_width(columns: &[Column]) -> usize
     requires few { length columns.now ≤ 64 }
-    requires known { All (λ column. IsColumnType column.kind) columns.now }
+    requires known { All (λ column. IsIntType column.kind) columns.now }
     ensures exact { result ≡ total_width columns.now }
     ensures bound { result ≤ 512 }
 {
@@ -48,18 +44,16 @@ fn total_width(columns: &[Column]) -> usize
 
 /// The bytes of a column.
 pub fn column_width(column: &Column) -> usize
-    requires { IsColumnType column.now.kind }
+    requires { IsIntType column.now.kind }
     ensures exact { result ≡ column_width column.now }
     ensures bound { result ≤ 8 }
 {
-    let ColumnType::Int { width, .. } = column.kind;
-    usize::from(width)
+    greatest_length(column.kind)
 }
 
 /// The position of the key column.
 fn key_position(schema: &Schema) -> usize
-    requires table { IsTable schema.now }
-    requires first { IsFirst schema.now }
+    requires served { IsServed schema.now }
     ensures exact { result ≡ key_position schema.now }
     ensures within { result < length schema.now.columns }
 {
@@ -70,8 +64,7 @@ fn key_position(schema: &Schema) -> usize
 /// columns before it in the table.
 #[tactic(auto, unfolding(crate::specs::Rows::column_offset))]
 pub fn column_offset(schema: &Schema, position: usize, before: usize) -> usize
-    requires table { IsTable schema.now }
-    requires first { IsFirst schema.now }
+    requires served { IsServed schema.now }
     requires within { position < length schema.now.columns }
     requires before { before ≡ total_width (take position schema.now.columns) }
     ensures exact { result ≡ column_offset schema.now position }

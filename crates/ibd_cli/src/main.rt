@@ -6,7 +6,6 @@ ghost use Rattle.std.specs.Prelude.{◌≡◌, ◌≢◌, ◌<◌, ◌↔◌};
 ghost use Rattle.ibd_cli.specs.Forms.{IsForm, HasNoForm};
 ghost use Rattle.ibd_cli.specs.declared.words.Form.{Form};
 
-mod checks;
 mod command_line;
 mod dump;
 mod head;

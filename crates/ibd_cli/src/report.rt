@@ -1,8 +1,7 @@
 //! The line of a status on the standard error.
 
-ghost use Rattle.std.specs.Prelude.{◌≡◌, ◌≤◌, flat_map, OnOk, OnErr};
-ghost use Rattle.page_source.specs.Faults.{HasCause};
-ghost use Rattle.page_source.specs.Objects.{GrowsBy, GrowsByPart};
+ghost use Rattle.std.specs.Prelude.{◌≡◌, ◌≤◌, flat_map};
+ghost use Rattle.page_source.specs.Calls.{Puts};
 ghost use Rattle.ibd_cli.specs.Causes.{Reports};
 ghost use Rattle.ibd_cli.specs.Lines.{status_line, fault_line, why_word};
 
@@ -20,9 +19,7 @@ pub fn report<E: ByteSink>(err: &mut E, status: Status)
 }
 
 fn put_status<E: ByteSink>(err: &mut E, status: Status) -> Result<(), Failed>
-    ensures ok { OnOk result (GrowsBy (E.written err.old) (E.written err.new) (status_line status)) }
-    ensures failed { OnErr result (GrowsByPart (E.written err.old) (E.written err.new) (status_line status)) }
-    ensures cause { HasCause (E.faults err.old) (E.faults err.new) result }
+    ensures { Puts E.ByteSink err.old err.new (status_line status) result }
 {
     match status {
         Status::Done => err.put(b""),
@@ -37,9 +34,7 @@ fn put_status<E: ByteSink>(err: &mut E, status: Status) -> Result<(), Failed>
 }
 
 fn put_refusal<E: ByteSink>(err: &mut E, line: u32, why: SchemaWhy) -> Result<(), Failed>
-    ensures ok { OnOk result (GrowsBy (E.written err.old) (E.written err.new) (status_line (Status.SchemaRefused line why))) }
-    ensures failed { OnErr result (GrowsByPart (E.written err.old) (E.written err.new) (status_line (Status.SchemaRefused line why))) }
-    ensures cause { HasCause (E.faults err.old) (E.faults err.new) result }
+    ensures { Puts E.ByteSink err.old err.new (status_line (Status.SchemaRefused line why)) result }
 {
     let mut digits = Buffer::new();
     let pieces = [
@@ -53,9 +48,7 @@ fn put_refusal<E: ByteSink>(err: &mut E, line: u32, why: SchemaWhy) -> Result<()
 }
 
 fn put_fault<E: ByteSink>(err: &mut E, fault: Fault) -> Result<(), Failed>
-    ensures ok { OnOk result (GrowsBy (E.written err.old) (E.written err.new) (fault_line fault)) }
-    ensures failed { OnErr result (GrowsByPart (E.written err.old) (E.written err.new) (fault_line fault)) }
-    ensures cause { HasCause (E.faults err.old) (E.faults err.new) result }
+    ensures { Puts E.ByteSink err.old err.new (fault_line fault) result }
 {
     let mut rule = Buffer::new();
     let mut page = Buffer::new();
@@ -90,9 +83,7 @@ fn why_name(why: SchemaWhy) -> &'static str
 
 /// Puts the pieces, up to the first that fails.
 fn put_pieces<E: ByteSink>(err: &mut E, pieces: &[&[u8]]) -> Result<(), Failed>
-    ensures ok { OnOk result (GrowsBy (E.written err.old) (E.written err.new) (flat_map (λ piece. piece.now) pieces.now)) }
-    ensures failed { OnErr result (GrowsByPart (E.written err.old) (E.written err.new) (flat_map (λ piece. piece.now) pieces.now)) }
-    ensures cause { HasCause (E.faults err.old) (E.faults err.new) result }
+    ensures { Puts E.ByteSink err.old err.new (flat_map (λ piece. piece.now) pieces.now) result }
 {
     for piece in pieces {
         err.put(piece)?;

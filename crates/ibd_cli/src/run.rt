@@ -1,18 +1,21 @@
 //! The whole program as one call over the objects that reach outside.
 
-ghost use Rattle.std.specs.Prelude.{◌≡◌, ◌≢◌, ◌+◌, ◌≤◌, ◌⊎◌, ◌↔◌, ℕ, List, Some};
+ghost use Rattle.std.specs.Prelude.{◌≡◌, ◌≢◌, ◌+◌, ◌≤◌, ◌⊎◌, ◌↔◌, ℕ, List, IfSome, Some};
 ghost use Rattle.page_source.specs.Faults.{Rose};
+ghost use Rattle.page_source.specs.Calls.{OfFile};
 ghost use Rattle.ibd_cli.specs.Forms.{IsForm, HasNoForm};
 ghost use Rattle.ibd_cli.specs.Lines.{status_line};
 ghost use Rattle.ibd_cli.specs.Causes.{Reports};
 ghost use Rattle.ibd_cli.specs.Outcome.{Told, DumpGives, IsOtherSchema};
-ghost use Rattle.ibd_cli.specs.Run.{Leaves};
+ghost use Rattle.ibd_cli.specs.Reading.{IsReadUpTo};
+ghost use Rattle.ibd_cli.specs.Run.{Leaves, ServesNothing, BreaksFile};
 
-use crate::dump::{Stop, read_text};
+use crate::dump::{DumpStop, read_text};
 use crate::report::report;
 use crate::status::Status;
 use crate::words::{Form, Words};
-use page_source::{ByteSink, ByteSource, PageSource, PageStore, Steps};
+use page_source::{ByteSink, ByteSource, Fault, PageSource, PageStore, Steps};
+use schema_text::SchemaWhy;
 use std::alloc::Global;
 use std::sync::ledger::Ledger;
 
@@ -50,6 +53,15 @@ pub fn run<
         → (file.new ≡ file.old) × (steps.new ≡ steps.old) }
     ensures rows { rows.new ≡ rows.old }
     ensures target { target.new ≡ target.old }
+
+    // What one input shows, whatever the others tell.
+    ensures refused { (line : ℕ) (why : SchemaWhy) → result ≢ Status.SchemaRefused line why }
+    ensures other { (text : List ℕ) → IsForm words.now Form.Dump → Q.left schema.old ≡ Some text
+        → IsOtherSchema text → ServesNothing result }
+    ensures broken { (fault : Fault) → result ≡ Status.Broken fault
+        → OfFile F.PageSource file.old (λ content. BreaksFile content fault) }
+    ensures read { IsForm words.now Form.Dump
+        → IfSome (Q.left schema.old) (λ text. IsReadUpTo 65537 text (Q.left schema.new)) }
 
     // What is written, where the inputs are told.
     ensures leaves { (told : Told) → IsForm words.now Form.Dump
@@ -102,6 +114,11 @@ fn dump<F: PageSource, Q: ByteSource, O: ByteSink, L: Ledger>(
     ensures untouched { (text : List ℕ) → Q.left schema.old ≡ Some text → IsOtherSchema text
         → (file.new ≡ file.old) × (steps.new ≡ steps.old) }
     ensures usage { result ≢ Status.Usage }
+    ensures refused { (line : ℕ) (why : SchemaWhy) → result ≢ Status.SchemaRefused line why }
+    ensures other { (text : List ℕ) → Q.left schema.old ≡ Some text → IsOtherSchema text → ServesNothing result }
+    ensures broken { (fault : Fault) → result ≡ Status.Broken fault
+        → OfFile F.PageSource file.old (λ content. BreaksFile content fault) }
+    ensures read { IfSome (Q.left schema.old) (λ text. IsReadUpTo 65537 text (Q.left schema.new)) }
     ensures source { result ≡ Status.SourceFault
         → Rose (F.faults file.old) (F.faults file.new) ⊎ Rose (Q.faults schema.old) (Q.faults schema.new) }
     ensures sink { result ≡ Status.SinkFault → Rose (O.faults out.old) (O.faults out.new) }
@@ -113,9 +130,9 @@ fn dump<F: PageSource, Q: ByteSource, O: ByteSink, L: Ledger>(
             Ok(()) => Status::Done,
             Err(_) => Status::SinkFault,
         },
-        Err(Stop::Unbuilt) => Status::Unbuilt,
-        Err(Stop::Broken(fault)) => Status::Broken(fault),
-        Err(Stop::Source) => Status::SourceFault,
-        Err(Stop::Memory) => Status::Memory,
+        Err(DumpStop::Unbuilt) => Status::Unbuilt,
+        Err(DumpStop::Broken(fault)) => Status::Broken(fault),
+        Err(DumpStop::Source) => Status::SourceFault,
+        Err(DumpStop::Memory) => Status::Memory,
     }
 }

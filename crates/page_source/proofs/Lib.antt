@@ -1,4 +1,5 @@
 pub mod Numbers
+pub mod Written
 pub mod Edits
 pub mod Unique
 pub mod Slots
@@ -6,3 +7,4 @@ pub mod Members
 pub mod Marks
 pub mod Times
 pub mod Told
+pub mod SparseFiles

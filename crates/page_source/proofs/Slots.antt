@@ -1,6 +1,7 @@
 -- What a store in memory holds after a slot was added or written.
-use Rattle.std.proofs.Common.{◌≡◌, ℕ, zero, suc, ◌+◌, ◌<◌, Bool, true, false, cond, eqb, List, [], ◌∷◌, ◌++◌, length, set, Some, refl, sym, ap, ◌∙◌, arith, zero-add, add-zero}
+use Rattle.std.proofs.Common.{◌≡◌, ℕ, zero, suc, ◌+◌, ◌<◌, Bool, true, false, cond, eqb, List, [], ◌∷◌, ◌++◌, length, set, drop, append_assoc, if◌then◌else◌, Some, refl, sym, ap, ◌∙◌, arith, zero-add, add-zero}
 use Rattle.std.proofs.lemmas.Bool.Decides.{nat_tests}
+use Rattle.std.proofs.Math.Seq.{drop_at}
 use Rattle.std.specs.Cmp.{nat_cmp_total, unsigned_tied}
 use Rattle.std.specs.FinMap.{get, insert, get-insert, same_map, nat_cmp-IsAntisymmetric}
 use Rattle.page_source.specs.declared.memory.store.Slot.{Slot}
@@ -13,7 +14,7 @@ held_from-push n [] slot none = rw none refl
 held_from-push n (first ∷ slots) slot none =
     ap (λ (pages : PageMap). cond first.held (insert pages n first.page) pages) (held_from-push (suc n) slots slot none)
 
-get-insert_at : (pages : PageMap) (n : ℕ) (page : List ℕ) (q : ℕ) → get (insert pages n page) q ≡ cond (eqb q n) (Some page) (get pages q)
+pub get-insert_at : (pages : PageMap) (n : ℕ) (page : List ℕ) (q : ℕ) → get (insert pages n page) q ≡ cond (eqb q n) (Some page) (get pages q)
 get-insert_at pages n page q =
     get-insert nat_cmp_total pages n page q ∙ ap (λ b. cond b (Some page) (get pages q)) (unsigned_tied q n)
 
@@ -45,5 +46,21 @@ pub held_from-set : (slots : List Slot) (i : ℕ) (slot : Slot) → i < length s
 held_from-set slots i slot inside put =
     same_map nat_cmp_total nat_cmp-IsAntisymmetric _ _
     (λ q. get-held_from_set q 0 i slots slot inside put ∙ rw zero-add (sym (get-insert_at (held_from 0 slots) i slot.page q)))
+
+-- the slots behind the last one that is taken away, where it stands before those that were taken already
+pub popped : (all before front : List Slot) (slot : Slot) (m n : ℕ) → before ≡ front ++ slot ∷ [] → n ≡ length front
+    → before ++ drop m all ≡ all → (front ++ drop n all ≡ all) × (drop n all ≡ slot ∷ drop m all)
+popped all before front slot m n is count whole =
+    let joined : front ++ (slot ∷ drop m all) ≡ all =
+    sym (append_assoc front (slot ∷ []) (drop m all)) ∙ ap (λ (xs : List Slot). xs ++ drop m all) (sym is) ∙ whole in
+    let rest : drop n all ≡ slot ∷ drop m all = ap (drop n) (sym joined) ∙ drop_at front (slot ∷ drop m all) n (sym count) in
+    (ap (λ (xs : List Slot). front ++ xs) rest ∙ joined, rest)
+
+-- the pages of the slots from n on, where slot n was held or not
+pub held_more : (slot : Slot) (behind slots : List Slot) (n m : ℕ) (held now : PageMap) → m ≡ suc n → slots ≡ slot ∷ behind
+    → held ≡ held_from m behind → now ≡ (if slot.held then insert held n slot.page else held) → now ≡ held_from n slots
+held_more slot behind slots n m held now more is before after =
+    let here : held ≡ held_from (suc n) behind = before ∙ ap (λ (k : ℕ). held_from k behind) more in
+    after ∙ ap (λ (pages : PageMap). if slot.held then insert pages n slot.page else pages) here ∙ ap (held_from n) (sym is)
 
 pub ruleset slot_changes = (held_from-push, held_from-set)

@@ -10,3 +10,5 @@ pub mod Objects
 pub mod Memory
 pub mod MemoryCodes
 pub mod Slots
+pub mod Sources
+pub mod SourceCodes

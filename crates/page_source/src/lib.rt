@@ -20,7 +20,10 @@ pub use bytes::ByteList;
 pub use checks::{Halt, Stop};
 pub use errors::{Failed, NoMemory};
 pub use files::{FileBytes, FilePages, FileStore};
-pub use memory::{Fails, MemoryBytes, MemoryPages, MemorySink, MemoryStore};
+pub use memory::{
+    ChangingPages, Fails, LoggedPages, MemoryBytes, MemoryPages, MemorySink, MemoryStore, PageMap,
+    SparsePages,
+};
 pub use objects::{ByteSink, ByteSource, PageSource, PageStore};
 pub use page::{PAGE_SIZE, Page, read_be, write_be};
 pub use rule::{Fault, Rule};

@@ -6,7 +6,8 @@ use crate::{
     PageStore, Rule, StdSink, Steps, read_be, write_be,
 };
 use std::fs;
-use std::fs::Files;
+use std::fs::{Files, OpenOptions};
+use std::io::{Seek, SeekFrom, Write};
 use std::marker::Brand;
 use std::sync::ledger::{Blank, Ledger};
 use std::test::Fail;
@@ -63,6 +64,27 @@ fn pages_of_a_file_are_read(rt: HostRuntime) -> Result<(), Fail> {
     Ok(())
 }
 
+/// A page past the reach of a number of 16 bits, in a file that is nearly all holes.
+#[test]
+fn pages_of_a_large_file_are_read(rt: HostRuntime) -> Result<(), Fail> {
+    let mut file = OpenOptions::new()
+        .write(true)
+        .create(true)
+        .open(&rt, "large.ibd")?;
+    file.set_len(70_000 * 16384)?;
+    file.seek(SeekFrom::Start(69_999 * 16384))?;
+    file.write_all(b"the last page")?;
+    let mut page = Page::zeroed(rt.alloc())?;
+    let mut source = FilePages::new(&rt, Some(b"large.ibd"));
+    assert_eq!(rt; source.pages(), Ok(70_000));
+    assert_eq!(rt;
+        fetch::<HostRuntime, Brand>(&mut source, 69_999, &mut page, Blank::new(1)),
+        Ok(())
+    );
+    assert_eq!(rt; &page.bytes()[..13], b"the last page".as_slice());
+    Ok(())
+}
+
 #[test]
 fn bytes_of_a_file_are_read(rt: HostRuntime) -> Result<(), Fail> {
     fs::write(&rt, "schema", "table t dynamic\n")?;
@@ -74,6 +96,11 @@ fn bytes_of_a_file_are_read(rt: HostRuntime) -> Result<(), Fail> {
     assert_eq!(rt; &buffer[..7], b"ynamic\n".as_slice());
     assert_eq!(rt; file.read(&mut buffer), Ok(0));
     assert_eq!(rt; FileBytes::new(&rt, None).read(&mut buffer), Err(Failed));
+    fs::create_dir(&rt, "texts")?;
+    assert_eq!(rt;
+        FileBytes::new(&rt, Some(b"texts")).read(&mut buffer),
+        Err(Failed)
+    );
     Ok(())
 }
 

@@ -6,8 +6,12 @@ mod edits;
 mod worked;
 
 use self::edits::{ALL, Edit};
-use self::worked::{LEAF_KINDS, ONE_INT, Piece, THREE_ROWS, TWO_LEVELS, Worked};
+use self::worked::{
+    FULL, LEAF_KINDS, ONE_INT, Piece, THREE_ROWS, TWO_LEVELS, Worked, full_page, root_page,
+    with_root,
+};
 use crate::{Status, Words, run};
+use fil_frame::{SumKind, seal_as};
 use itoa::Buffer;
 use page_source::{
     ByteList, Fails, MemoryBytes, MemoryPages, MemorySink, MemoryStore, NoMemory, PAGE_SIZE, Steps,
@@ -187,7 +191,7 @@ fn dumps_the_worked_files(rt: HostRuntime) -> Result<(), Fail> {
 
 #[test]
 fn dumps_other_integers(rt: HostRuntime) -> Result<(), Fail> {
-    let tables: [(&str, &[Piece], &str); 2] = [
+    let tables: [(&str, &[Piece], &str); 3] = [
         (
             "table t dynamic\ncolumn id bigint notnull\nclustered root 3 id\n",
             &[
@@ -216,6 +220,20 @@ fn dumps_other_integers(rt: HostRuntime) -> Result<(), Fail> {
             ],
             "0|INSERT INTO `t` VALUES (-8388608,65535);\nINSERT INTO `t` VALUES (8388607,258);\n|",
         ),
+        // The key column is the second one, so its bytes come first.
+        (
+            "table orders dynamic\ncolumn a tinyint unsigned notnull\ncolumn id int notnull\ncolumn b smallint notnull\nclustered root 3 id\n",
+            &[
+                (3, 41, &[145, 0x80, 3]),
+                (3, 55, &[1]),
+                (3, 98, &[26]),
+                (3, 107, &[2]),
+                (3, 120, &[0, 0, 0x10, 0xFF, 0xF3, 0x80, 0, 0, 1]),
+                (3, 129, &[0xEE; 13]),
+                (3, 142, &[7, 0x7F, 0xFE]),
+            ],
+            "0|INSERT INTO `orders` VALUES (7,1,-2);\n|",
+        ),
     ];
     for (schema, rows, want) in tables {
         let file = Worked::of(rows).bytes(&rt, rt.alloc())?;
@@ -226,6 +244,31 @@ fn dumps_other_integers(rt: HostRuntime) -> Result<(), Fail> {
         expect(&rt, rt.alloc(), command, want)?;
     }
     Ok(())
+}
+
+#[test]
+fn dumps_a_full_page(rt: HostRuntime) -> Result<(), Fail> {
+    let file = full_page(&rt, rt.alloc())?;
+    let want = full_text(rt.alloc())?;
+    let command = Command {
+        room: 100_000,
+        ..Command::dump(file.bytes())
+    };
+    let found = command.answer(rt.alloc())?;
+    assert_eq!(rt; found.bytes(), want.bytes());
+    Ok(())
+}
+
+/// The answer to a dump of the full page.
+fn full_text(alloc: Global) -> Result<ByteList, NoMemory> {
+    let mut text = copy(alloc, b"0|")?;
+    for id in 1..=FULL {
+        text.extend(b"INSERT INTO `t` VALUES (")?;
+        text.extend(Buffer::new().format(id).as_bytes())?;
+        text.extend(b");\n")?;
+    }
+    text.push(b'|')?;
+    Ok(text)
 }
 
 /// Fails the test where a dump of the file with three rows and one of these edits answers something
@@ -311,6 +354,30 @@ fn sees_each_byte_of_the_frames(rt: HostRuntime) -> Result<(), Fail> {
                 "byte {at} of page {n}"
             );
         }
+    }
+    Ok(())
+}
+
+#[test]
+fn reads_each_kind_of_checksums(rt: HostRuntime) -> Result<(), Fail> {
+    let broken = "3||broken 25 frame page 3\n";
+    // The kind of the root's checksums, what is written there afterwards, and the answer.
+    let cases: [(SumKind, usize, &[u8], &str); 6] = [
+        (SumKind::Innodb, 0, &[], ALL),
+        (SumKind::Fixed, 0, &[], ALL),
+        (SumKind::Crc32, 16376, &[0xDE, 0xAD, 0xBE, 0xEF], broken),
+        (SumKind::Innodb, 16376, &[0xDE, 0xAD, 0xBE, 0xEF], broken),
+        (SumKind::Fixed, 16383, &[0], broken),
+        (SumKind::Fixed, 0, &[0, 0, 0, 0], broken),
+    ];
+    let file = Worked::of(&THREE_ROWS).bytes(&rt, rt.alloc())?;
+    for (sum, at, bytes, want) in cases {
+        let mut page = root_page(&rt, rt.alloc(), file.bytes())?;
+        seal_as(&mut page, 3, 23, 0x1_0000_2F1C, 17855, sum);
+        assert!(rt; at <= PAGE_SIZE && bytes.len() <= PAGE_SIZE - at);
+        page.put_bytes(at, bytes);
+        let edited = with_root(&rt, rt.alloc(), file.bytes(), &page)?;
+        expect(&rt, rt.alloc(), Command::dump(edited.bytes()), want)?;
     }
     Ok(())
 }

@@ -1,7 +1,9 @@
 //! The worked files: six pages of the tablespace 23, piece by piece.
 
+ghost use Rattle.std.specs.Prelude.{◌<◌};
+
 use fil_frame::{page_sum, seal};
-use page_source::{ByteList, NoMemory, Page, write_be};
+use page_source::{ByteList, NoMemory, PAGE_SIZE, Page, write_be};
 use std::alloc::Global;
 use std::process::Abort;
 
@@ -13,6 +15,12 @@ pub const ONE_INT: &str = "table t dynamic\ncolumn id int notnull\nclustered roo
 
 /// The types of the pages: the space header, the bitmap of the insert buffer, the inodes, the root.
 const KINDS: [u16; 6] = [8, 5, 3, 17855, 0, 0];
+
+/// The number of the root page.
+const ROOT: usize = 3;
+
+/// The bytes of a worked file.
+const FILE_SIZE: usize = 6 * PAGE_SIZE;
 
 /// The types where pages 4 and 5 are leaves.
 pub const LEAF_KINDS: [u16; 6] = [8, 5, 3, 17855, 17855, 17855];
@@ -172,4 +180,60 @@ fn put_checksums(page: &mut Page) {
     let sum = u64::from(page_sum(page));
     write_be::<4>(page, 0, sum);
     write_be::<4>(page, 16376, sum);
+}
+
+/// The root page of a file of six pages.
+pub fn root_page(rt: &impl Abort, alloc: Global, file: &[u8]) -> Result<Page, NoMemory> {
+    let mut page = Page::zeroed(alloc)?;
+    assert!(rt; file.len() == FILE_SIZE);
+    page.put_bytes(0, &file[ROOT * PAGE_SIZE..(ROOT + 1) * PAGE_SIZE]);
+    Ok(page)
+}
+
+/// The file with this root page.
+pub fn with_root(
+    rt: &impl Abort,
+    alloc: Global,
+    file: &[u8],
+    root: &Page,
+) -> Result<ByteList, NoMemory> {
+    let mut whole = ByteList::new(alloc);
+    assert!(rt; file.len() == FILE_SIZE);
+    whole.extend(&file[..ROOT * PAGE_SIZE])?;
+    whole.extend(root.bytes())?;
+    whole.extend(&file[(ROOT + 1) * PAGE_SIZE..])?;
+    Ok(whole)
+}
+
+/// So many records of 22 bytes fill a page with two directory slots.
+pub const FULL: u16 = 738;
+
+/// A file whose root has as many records as fit, with the keys 1, 2 and so on.
+pub fn full_page(rt: &impl Abort, alloc: Global) -> Result<ByteList, NoMemory> {
+    let file = Worked::of(&[]).bytes(rt, alloc)?;
+    let mut page = root_page(rt, alloc, file.bytes())?;
+    write_be::<2>(&mut page, 40, 120 + 22 * u64::from(FULL));
+    write_be::<2>(&mut page, 42, 0x8002 + u64::from(FULL));
+    write_be::<2>(&mut page, 54, u64::from(FULL));
+    write_be::<2>(&mut page, 97, 26);
+    for i in 0..FULL {
+        put_record(&mut page, i);
+    }
+    put_checksums(&mut page);
+    with_root(rt, alloc, file.bytes(), &page)
+}
+
+/// Record `i` of a full page; the last one leads to the supremum.
+fn put_record(page: &mut Page, i: u16)
+    requires { i < 738 }
+{
+    let at = 120 + 22 * usize::from(i);
+    let next = if i + 1 < FULL {
+        22
+    } else {
+        65536 + 112 - 5 - at as u64
+    };
+    write_be::<2>(page, at + 1, (u64::from(i) + 2) * 8);
+    write_be::<2>(page, at + 3, next);
+    write_be::<4>(page, at + 5, 0x8000_0001 + u64::from(i));
 }

@@ -1,6 +1,6 @@
 //! A file of pages in memory.
 
-ghost use Rattle.std.specs.Prelude.{◌≡◌, ◌↔◌, ◌⊎◌, ◌+◌, ◌≤◌, Some, length, IfOk, OnOk, OnErr, IsErr, is_err};
+ghost use Rattle.std.specs.Prelude.{◌≡◌, ◌↔◌, ◌⊎◌, ◌+◌, ◌<◌, ◌≤◌, Some, length, IfOk, OnOk, OnErr, IsErr, is_err};
 ghost use Rattle.page_source.specs.Pages.{page_of, page_count};
 ghost use Rattle.page_source.specs.Faults.{HasCause};
 ghost use Rattle.page_source.specs.Objects.{TellsPages};
@@ -38,13 +38,6 @@ impl MemoryPages {
             calls: Calls::new(fails),
         }
     }
-
-    #[tactic(auto, unfolding(crate::specs::Pages::page_count))]
-    fn page_count(&self) -> usize
-        ensures { result ≡ page_count self.now.bytes }
-    {
-        self.bytes.bytes().len() / PAGE_SIZE
-    }
 }
 
 impl PageSource for MemoryPages {
@@ -59,10 +52,9 @@ impl PageSource for MemoryPages {
         ensures cause { HasCause self.old.calls.faults self.new.calls.faults result }
     {
         self.calls.next(true)?;
-        Ok(self.page_count().min(u32::MAX as usize) as u32)
+        Ok(page_total(&self.bytes).min(u32::MAX as usize) as u32)
     }
 
-    #[tactic(auto, unfolding(crate::specs::Pages::page_count, crate::specs::Pages::page_of))]
     fn fetch<L: Ledger>(
         &mut self,
         n: u32,
@@ -77,12 +69,29 @@ impl PageSource for MemoryPages {
         ensures cause { HasCause self.old.calls.faults self.new.calls.faults result }
     {
         steps.tick();
-        let is_there = (n as usize) < self.page_count();
+        let is_there = (n as usize) < page_total(&self.bytes);
         self.calls.next(is_there)?;
-        let start = n as usize * PAGE_SIZE;
-        fill_page(page, &self.bytes.bytes()[start..start + PAGE_SIZE]);
+        fill_from(page, &self.bytes, n);
         Ok(())
     }
+}
+
+/// The number of whole pages that these bytes are.
+#[tactic(auto, unfolding(crate::specs::Pages::page_count))]
+pub fn page_total(bytes: &ByteList) -> usize
+    ensures { result ≡ page_count bytes.now }
+{
+    bytes.bytes().len() / PAGE_SIZE
+}
+
+/// Makes the page that of this number among these bytes.
+#[tactic(auto, unfolding(crate::specs::Pages::page_count, crate::specs::Pages::page_of))]
+pub fn fill_from(page: &mut Page, bytes: &ByteList, n: u32)
+    requires { n < page_count bytes.now }
+    ensures { page.new ≡ page_of bytes.now n }
+{
+    let start = n as usize * PAGE_SIZE;
+    fill_page(page, &bytes.bytes()[start..start + PAGE_SIZE]);
 }
 
 /// Makes these the page's bytes.

@@ -1,6 +1,6 @@
 //! A file of pages that is made anew in memory.
 
-ghost use Rattle.std.specs.Prelude.{◌≡◌, ◌↔◌, ◌⊎◌, ◌<◌, Some, None, vec_len, IfOk, OnOk, OnErr, IsErr, is_err};
+ghost use Rattle.std.specs.Prelude.{◌≡◌, ◌↔◌, ◌⊎◌, ◌^◌, ◌<◌, Some, None, vec_len, IfOk, OnOk, OnErr, IsErr, is_err};
 ghost use Rattle.std.specs.FinMap.{insert, empty};
 ghost use Rattle.page_source.specs.Faults.{HasCause};
 ghost use Rattle.page_source.specs.Objects.{CanSize, PutsPage};
@@ -8,7 +8,9 @@ ghost use Rattle.page_source.specs.Memory.{HeldPages, fresh_log, after_call, IsL
 ghost use Rattle.page_source.specs.Slots.{held_from};
 
 use super::calls::{Calls, Fails};
+use super::map::PageMap;
 use super::pages::fill_page;
+use super::sparse::SparsePages;
 use crate::errors::{Failed, NoMemory};
 use crate::objects::PageStore;
 use crate::page::Page;
@@ -25,6 +27,7 @@ struct Slot {
 /// A file of pages in memory, of up to so many pages as it has slots.
 #[derive(Debug, Drop)]
 pub struct MemoryStore {
+    alloc: Global,
     slots: Vec<Slot>,
     size: u32,
     asked: Option<u32>,
@@ -32,7 +35,7 @@ pub struct MemoryStore {
 }
 
 impl Model for MemoryStore {
-    ghost use Rattle.std.specs.Prelude.{◌≤◌, vec_len};
+    ghost use Rattle.std.specs.Prelude.{◌^◌, ◌<◌, ◌≤◌, vec_len};
     ghost use Rattle.page_source.specs.Memory.{HeldPages};
     ghost use Rattle.page_source.specs.MemoryCodes.{held_pages_code};
 
@@ -50,7 +53,7 @@ impl Model for MemoryStore {
       calls = store.calls;
     } };
 
-    ghost invariant = { λ store. store.size ≤ vec_len store.slots };
+    ghost invariant = { λ store. (store.size ≤ vec_len store.slots) × (vec_len store.slots < 2 ^ 32) };
 }
 
 impl MemoryStore {
@@ -61,12 +64,37 @@ impl MemoryStore {
             ≡ record { size = 0; held = empty; asked = None; room = room; calls = fresh_log fails }) }
     {
         Ok(MemoryStore {
+            alloc,
             slots: empty_slots(alloc, room)?,
             size: 0,
             asked: None,
             calls: Calls::new(fails),
         })
     }
+}
+
+impl MemoryStore {
+    /// The file as a source of pages, whose listed calls fail. After `NoMemory` it is gone.
+    pub fn into_pages(self, fails: Fails) -> Result<SparsePages, NoMemory>
+        ensures { IfOk result (λ file. file
+            ≡ record { size = self.size; held = self.held; calls = fresh_log fails }) }
+    {
+        Ok(SparsePages::new(self.size, held_pages(self.alloc, self.slots)?, fails))
+    }
+}
+
+/// The pages that were put into these slots.
+fn held_pages(alloc: Global, mut slots: Vec<Slot>) -> Result<PageMap, NoMemory>
+    requires { vec_len slots < 2 ^ 32 }
+    ensures { IfOk result (λ held. held ≡ held_from 0 slots.items) }
+{
+    let mut held = PageMap::new(alloc);
+    while let Some(slot) = slots.pop() {
+        if slot.held {
+            held.put(slots.len() as u32, slot.page)?;
+        }
+    }
+    Ok(held)
 }
 
 /// So many slots that hold nothing.

@@ -3,7 +3,10 @@
 ghost use Rattle.std.specs.Prelude.{◌≡◌, ◌<◌};
 ghost use Rattle.page_source.specs.Objects.{CanSize};
 
-use super::{Fails, MemoryBytes, MemoryPages, MemorySink, MemoryStore};
+use super::{
+    ChangingPages, Fails, LoggedPages, MemoryBytes, MemoryPages, MemorySink, MemoryStore, PageMap,
+    SparsePages,
+};
 use crate::bytes::ByteList;
 use crate::errors::{Failed, NoMemory};
 use crate::objects::{ByteSink, ByteSource, PageSource, PageStore};
@@ -127,5 +130,134 @@ fn a_store_fails_where_listed_or_too_small(rt: HostRuntime) -> Result<(), Fail> 
     assert_eq!(rt; store.put(63, &page), Ok(()));
     assert_eq!(rt; store.put(0, &page), Err(Failed));
     assert_eq!(rt; store.put(0, &page), Ok(()));
+    Ok(())
+}
+
+/// A page of this byte.
+fn page_of(alloc: Global, byte: u8) -> Result<Page, NoMemory> {
+    let mut page = Page::zeroed(alloc)?;
+    page.put_bytes(0, &[byte; 16384]);
+    Ok(page)
+}
+
+/// A map with two pages, the first of which was put twice.
+fn two_held(alloc: Global) -> Result<PageMap, NoMemory> {
+    let mut held = PageMap::new(alloc);
+    held.put(2, page_of(alloc, 0x44)?)?;
+    held.put(70_000, page_of(alloc, 0x33)?)?;
+    held.put(2, page_of(alloc, 0x22)?)?;
+    Ok(held)
+}
+
+/// What a fetch answers, and the page's last byte.
+fn last_byte<L: Ledger>(
+    file: &mut SparsePages,
+    page: &mut Page,
+    n: u32,
+    blank: Blank,
+) -> (Result<(), Failed>, u8)
+    requires name { blank.name ≡ L.name }
+    requires parts { blank.parts ≡ L.parts }
+    requires shared { 0 < blank.parts }
+{
+    let answer = file.fetch(n, page, &mut Steps::<L>::new(blank));
+    (answer, page.bytes()[16383])
+}
+
+#[test]
+fn pages_that_are_not_held_are_zeros(rt: HostRuntime) -> Result<(), Fail> {
+    let alloc = rt.alloc();
+    let mut file = SparsePages::new(70_001, two_held(alloc)?, Fails::of(alloc, &[3])?);
+    let mut page = page_of(alloc, 0xFF)?;
+    assert_eq!(rt; whole_pages(&mut file), Ok(70_001));
+    for (n, answer) in [
+        (2, (Ok(()), 0x22)),
+        (3, (Err(Failed), 0x22)),
+        (3, (Ok(()), 0)),
+        (70_000, (Ok(()), 0x33)),
+        (70_001, (Err(Failed), 0x33)),
+    ] {
+        let found = last_byte::<Brand>(&mut file, &mut page, n, Blank::new(1));
+        assert_eq!(rt; found, answer, "{n}");
+    }
+    Ok(())
+}
+
+#[test]
+fn a_store_becomes_a_file(rt: HostRuntime) -> Result<(), Fail> {
+    let alloc = rt.alloc();
+    let mut store = MemoryStore::new(alloc, 128, Fails::of(alloc, &[])?)?;
+    store.set_size(64)?;
+    store.put(0, &page_of(alloc, 0x11)?)?;
+    store.put(63, &page_of(alloc, 0x22)?)?;
+    let mut file = store.into_pages(Fails::of(alloc, &[])?)?;
+    let mut page = Page::zeroed(alloc)?;
+    assert_eq!(rt; file.pages(), Ok(64));
+    for (n, answer) in [
+        (63, (Ok(()), 0x22)),
+        (1, (Ok(()), 0)),
+        (0, (Ok(()), 0x11)),
+        (64, (Err(Failed), 0x11)),
+    ] {
+        let found = last_byte::<Brand>(&mut file, &mut page, n, Blank::new(1));
+        assert_eq!(rt; found, answer, "{n}");
+    }
+    Ok(())
+}
+
+/// What the fetches in turn answer.
+fn logged<L: Ledger>(
+    file: &mut LoggedPages,
+    page: &mut Page,
+    numbers: [u32; 4],
+    blank: Blank,
+) -> [Result<(), Failed>; 4]
+    requires name { blank.name ≡ L.name }
+    requires parts { blank.parts ≡ L.parts }
+    requires shared { 0 < blank.parts }
+{
+    let mut steps = Steps::<L>::new(blank);
+    numbers.map(|n| file.fetch(n, page, &mut steps))
+}
+
+#[test]
+fn a_file_keeps_what_was_fetched(rt: HostRuntime) -> Result<(), Fail> {
+    let alloc = rt.alloc();
+    let mut file = LoggedPages::new(alloc, two_pages_and_a_byte(alloc)?, 2)?;
+    let mut page = Page::zeroed(alloc)?;
+    assert_eq!(rt; whole_pages(&mut file), Ok(2));
+    let found = logged::<Brand>(&mut file, &mut page, [1, 2, 0, 1], Blank::new(1));
+    assert_eq!(rt; found, [Ok(()), Err(Failed), Ok(()), Ok(())]);
+    assert_eq!(rt; file.log(), [1, 0].as_slice());
+    Ok(())
+}
+
+/// What the two fetches answer.
+fn changed<L: Ledger>(
+    file: &mut ChangingPages,
+    page: &mut Page,
+    numbers: [u32; 2],
+    blank: Blank,
+) -> [Result<(), Failed>; 2]
+    requires name { blank.name ≡ L.name }
+    requires parts { blank.parts ≡ L.parts }
+    requires shared { 0 < blank.parts }
+{
+    let mut steps = Steps::<L>::new(blank);
+    numbers.map(|n| file.fetch(n, page, &mut steps))
+}
+
+#[test]
+fn a_file_changes(rt: HostRuntime) -> Result<(), Fail> {
+    let alloc = rt.alloc();
+    let mut first = ByteList::new(alloc);
+    first.extend(&[0x11; 16384])?;
+    let mut file = ChangingPages::new(first, two_pages_and_a_byte(alloc)?, 2);
+    assert_eq!(rt; whole_pages(&mut file), Ok(1));
+    assert_eq!(rt; file.pages(), Ok(2));
+    let mut page = Page::zeroed(alloc)?;
+    let found = changed::<Brand>(&mut file, &mut page, [1, 2], Blank::new(1));
+    assert_eq!(rt; found, [Ok(()), Err(Failed)]);
+    assert_eq!(rt; page.bytes()[0], 0x22);
     Ok(())
 }

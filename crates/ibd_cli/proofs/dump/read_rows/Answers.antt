@@ -1,15 +1,25 @@
-use Rattle.ibd_cli.proofs.Told.{told1, told2}
-use Rattle.ibd_cli.proofs.FileReading.{rows_read, root_halts}
+use Rattle.page_source.proofs.Told.{told1, told2, told3}
+use Rattle.ibd_cli.proofs.FileReading.{head_halts, root_halts, rows_read}
 use Rattle.ibd_cli.proofs.dump.read_rows.Goals as goal
 
-pub returns-in-Ok-check_root-clause-exact : goal.returns-in-Ok-check_root-clause-exact
-returns-in-Ok-check_root-clause-exact g c =
-    told2 (g.F.PageSource.content c.args.file.now)
-    (λ content checks here. rows_read content c.args.schema.now c.check_root.new.page c.flags.result c.root-root.result c.rows_of_page.result c.flags.ensures c.root-root.ensures c.rows_of_page.ensures.exact checks here)
-    c.in-Ok-check_root.ensures.exact c.in-Ok-check_root.ensures.page
+pub returns-in_err-head-clause-exact : goal.returns-in_err-head-clause-exact
+returns-in_err-head-clause-exact g c =
+    let table = c.args.schema.now in
+    let head = rw c.flags.ensures at c.in_err-head.ensures.exact in
+    told1 (g.F.PageSource.content c.args.file.now) (λ file h. head_halts file table _ _ c.from_residual-in_err-head.ensures.1 h) head
+
+pub returns-in_err-check_root-clause-exact : goal.returns-in_err-check_root-clause-exact
+returns-in_err-check_root-clause-exact g c =
+    let table = c.args.schema.now in
+    let head = rw c.flags.ensures at c.in_ok-head.ensures.exact in
+    let root = rw (c.root-root.ensures, c.in_ok-head.ensures.keeps.same) at c.in_err-check_root.ensures.exact in
+    told2 (g.F.PageSource.content c.args.file.now) (λ file h r. root_halts file table _ _ c.from_residual-in_err-check_root.ensures.1 h r) head root
 
 pub returns-clause-exact : goal.returns-clause-exact
 returns-clause-exact g c =
-    told1 (g.F.PageSource.content c.args.file.now)
-    (λ content checks. root_halts content c.args.schema.now c.flags.result c.root-root.result c.in-Err.halt c.from.result c.flags.ensures c.root-root.ensures c.from.ensures checks)
-    c.in-Err.ensures.exact
+    let table = c.args.schema.now in
+    let head = rw c.flags.ensures at c.in_ok-head.ensures.exact in
+    let root = rw (c.root-root.ensures, c.in_ok-head.ensures.keeps.same) at c.in_ok-check_root.ensures.exact in
+    let here = rw (c.root-root.ensures, c.in_ok-head.ensures.keeps.same) at c.in_ok-check_root.ensures.page in
+    let rows = rw c.root-root.ensures at c.rows_of_page.ensures.exact in
+    told3 (g.F.PageSource.content c.args.file.now) (λ file h r p. rows_read file table _ _ h r p rows) head root here

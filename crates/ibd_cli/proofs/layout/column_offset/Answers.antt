@@ -5,11 +5,11 @@ use Rattle.ibd_cli.proofs.layout.column_offset.Goals as goal
 
 pub overflow_add-result-then-position-key-2 : goal.overflow_add-result-then-position-key-2
 overflow_add-result-then-position-key-2 c =
-    omega (arith, width_up_to c.args.schema.now c.args.position c.requires.table)
+    omega (arith, width_up_to c.args.schema.now c.args.position c.requires.served)
 
 pub overflow_add-result-else-position-key-2 : goal.overflow_add-result-else-position-key-2
 overflow_add-result-else-position-key-2 c =
-    omega (arith, width_up_to c.args.schema.now c.args.position c.requires.table)
+    omega (arith, width_up_to c.args.schema.now c.args.position c.requires.served)
 
 pub returns-then-position-key-2-clause-room : goal.returns-then-position-key-2-clause-room
 returns-then-position-key-2-clause-room c =

@@ -25,3 +25,13 @@ returns-clause-complete g c = λ told given output is_dump schema file gives no_
       | in-Some-Build w ↦ let e : Build ≡ Dump = sym w.in-Some-Build.field-0-is ∙ only_dump _ _ w.in-Some-Build.ensures is_dump in absurd (cc)
       | in-Some-Sample w ↦ let e : _ ≡ Dump = sym w.in-Some-Sample.field-0-is ∙ only_dump _ _ w.in-Some-Sample.ensures is_dump in absurd (cc)
     ]
+
+pub returns-clause-other : goal.returns-clause-other
+returns-clause-other g c = λ text is_dump schema other.
+    elim c.match-form.branch [
+      | in-None w ↦ absurd (w.in-None.ensures Dump is_dump)
+      | in-Some-Dump w ↦ rw (w.status-is) (w.dump-status.ensures.other text schema other)
+      | in-Some-Check w ↦ let e : Check ≡ Dump = sym w.in-Some-Check.field-0-is ∙ only_dump _ _ w.in-Some-Check.ensures is_dump in absurd (cc)
+      | in-Some-Build w ↦ let e : Build ≡ Dump = sym w.in-Some-Build.field-0-is ∙ only_dump _ _ w.in-Some-Build.ensures is_dump in absurd (cc)
+      | in-Some-Sample w ↦ let e : _ ≡ Dump = sym w.in-Some-Sample.field-0-is ∙ only_dump _ _ w.in-Some-Sample.ensures is_dump in absurd (cc)
+    ]
