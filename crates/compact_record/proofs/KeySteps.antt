@@ -1,0 +1,161 @@
+-- The order of two keys, field by field.
+use Rattle.std.proofs.Common.{◌≡◌, ℕ, zero, suc, ◌+◌, ◌<◌, ◌≤◌, List, length, false, get_or, map, take, drop, All}
+use Rattle.std.proofs.Common.{None, subst, inl, inr, refl, sym, ap, ◌∙◌, arith, add-one}
+use Rattle.std.specs.declared.cmp.Ordering.{Ordering}
+use Rattle.std.specs.declared.cmp.Ordering.TheVariants.{Equal}
+use Rattle.std.specs.Ordering.{ordering_then}
+use Rattle.std.proofs.Math.Seq.{drop-cons}
+use Rattle.std.proofs.lemmas.List.{length-map, length-take-le, get_or-map, get_or-take, drop_all}
+use Rattle.std.proofs.lemmas.Simd.{map-map}
+use Rattle.std.specs.List.{range_with_len}
+use Rattle.std.proofs.lemmas.Bool.{cases_eq}
+use Rattle.std.proofs.lemmas.List.FromFn.{take-map-range_with_len, get_or-map-range_with_len}
+use Rattle.std.proofs.lemmas.List.FromFn.{length-map-range_with_len}
+use Rattle.column_values.specs.declared.field.Field.{Field}
+use Rattle.column_values.specs.declared.field.FieldType.{FieldType}
+use Rattle.column_values.specs.declared.field.FieldType.TheVariants.{Child}
+use Rattle.column_values.specs.Types.{Fields, field_at}
+use Rattle.column_values.specs.Order.{cell_cmp, key_cmp, Key}
+use Rattle.compact_record.specs.declared.places.Place.{Place}
+use Rattle.compact_record.specs.Reading.{cell_at, key_kinds, key_of, places_of, place_of, field_count, local_before}
+use Rattle.compact_record.specs.Reading.{local_length, record_end, is_null}
+use Rattle.compact_record.specs.Keys.{key_at, IsOnPage, HaveChild}
+use Rattle.compact_record.proofs.Steps.{local_more}
+
+-- what is left of two keys from field i on, in their order
+abbrev pub KeyLeft : List ℕ → List ℕ → Fields → List Place → List Place → ℕ → Ordering
+KeyLeft page other fields a b i = key_cmp (drop i (key_kinds fields)) (drop i (key_at page fields a))
+    (drop i (key_at other fields b))
+
+length-kinds : (fields : Fields) → fields.keys ≤ length fields.fields → length (key_kinds fields) ≡ fields.keys
+length-kinds fields most = length-map (take fields.keys fields.fields) (λ (f : Field). f.kind) ∙ length-take-le
+    fields.keys fields.fields most
+
+length-key : (page : List ℕ) (fields : Fields) (a : List Place) → fields.keys ≤ length a
+    → length (key_at page fields a) ≡ fields.keys
+unfolding key_at
+length-key page fields a most = length-map (take fields.keys a) (cell_at page) ∙ length-take-le fields.keys a most
+
+cell_in : (page : List ℕ) (fields : Fields) (a : List Place) (i : ℕ) (d : Place) → fields.keys ≤ length a
+    → i < fields.keys → get_or (key_at page fields a) i None ≡ cell_at page (get_or a i d)
+unfolding key_at
+cell_in page fields a i d most below =
+    get_or-map (cell_at page) (take fields.keys a) i d None (omega (arith, length-take-le fields.keys a most))
+    ∙ ap (λ p. cell_at page p) (get_or-take fields.keys a i d below)
+
+kind_in : (fields : Fields) (i : ℕ) (d : Field) → fields.keys ≤ length fields.fields → i < fields.keys
+    → get_or (key_kinds fields) i Child ≡ (get_or fields.fields i d).kind
+kind_in fields i d most below =
+    get_or-map (λ (f : Field). f.kind) (take fields.keys fields.fields) i d Child
+    (omega (arith, length-take-le fields.keys fields.fields most))
+    ∙ ap (λ f. f.kind) (get_or-take fields.keys fields.fields i d below)
+
+-- the fields at a place decide, or what is left behind them does
+pub key_decides : (page other : List ℕ) (fields : Fields) (a b : List Place) (i : ℕ) (f : Field) (p q : Place)
+    (o answer whole : Ordering)
+    → fields.keys ≤ length fields.fields → fields.keys ≤ length a → fields.keys ≤ length b → i < fields.keys
+    → f ≡ field_at fields i → ((d : Place) → p ≡ get_or a i d) → ((d : Place) → q ≡ get_or b i d)
+    → o ≡ cell_cmp f.kind (cell_at page p) (cell_at other q) → o ≡ answer
+    → KeyLeft page other fields a b i ≡ whole → ordering_then answer (KeyLeft page other fields a b (i + 1)) ≡ whole
+key_decides page other fields a b i f p q o answer whole few first second below ff pp qq is says left =
+    let rest = KeyLeft page other fields a b (i + 1) in
+    let kinds = drop-cons (key_kinds fields) i Child (omega (arith, length-kinds fields few)) in
+    let one = drop-cons (key_at page fields a) i None (omega (arith, length-key page fields a first)) in
+    let two = drop-cons (key_at other fields b) i None (omega (arith, length-key other fields b second)) in
+    let k = kind_in fields i (record { kind = Child; nullable = false; may_leave = false }) few below
+    ∙ ap (λ (g : Field). g.kind) (sym ff) in
+    let x = cell_in page fields a i p first below ∙ ap (λ r. cell_at page r) (sym (pp p)) in
+    let y = cell_in other fields b i q second below ∙ ap (λ r. cell_at other r) (sym (qq q)) in
+    let step : KeyLeft page other fields a b i ≡ ordering_then (cell_cmp f.kind (cell_at page p) (cell_at other q))
+    rest = rw (kinds, one, two, k, x, y, add-one) refl in
+    ap (λ (r : Ordering). ordering_then r rest) (sym says ∙ is) ∙ sym step ∙ left
+
+pub key_end : (page other : List ℕ) (fields : Fields) (a b : List Place) (i : ℕ) (whole : Ordering)
+    → fields.keys ≤ length fields.fields → fields.keys ≤ i → KeyLeft page other fields a b i ≡ whole → Equal ≡ whole
+key_end page other fields a b i whole few past left =
+    let none = drop_all i (key_kinds fields) (omega (arith, length-kinds fields few)) in
+    let e : KeyLeft page other fields a b i ≡ Equal = rw none refl in
+    sym e ∙ left
+
+-- the key of a record that was read
+pub key_is : (page : List ℕ) (origin : ℕ) (fields : Fields) → fields.keys ≤ length fields.fields
+    → key_at page fields (places_of page origin fields) ≡ key_of page origin fields
+unfolding key_at places_of key_of
+key_is page origin fields few =
+    ap (λ (ps : List Place). map (cell_at page) ps) (take-map-range_with_len (place_of page origin fields) 0
+    (field_count fields) fields.keys few)
+    ∙ map-map (cell_at page) (place_of page origin fields) (range_with_len 0 fields.keys)
+
+local_rises : (page : List ℕ) (origin : ℕ) (fields : Fields) (n i : ℕ) → i ≤ n
+    → local_before page origin fields i ≤ local_before page origin fields n
+local_rises page origin fields zero i least = let e : i
+    ≡ 0 = omega arith in let same = ap (λ (j : ℕ). local_before page origin fields j) e in omega (arith, same)
+local_rises page origin fields (suc n) i least =
+    elim (cases_eq i (suc n)) [
+      | inl e ↦ let same = ap (λ (j : ℕ). local_before page origin fields j) e in omega (arith, same)
+      | inr other ↦
+          let more = local_more page origin fields n in
+          let e : suc n ≡ n + 1 = omega arith in
+          let same = ap (λ (j : ℕ). local_before page origin fields j) e in
+          omega (arith, same, more, local_rises page origin fields n i (omega arith))
+    ]
+
+pub on_page : (page : List ℕ) (origin : ℕ) (fields : Fields) → record_end page origin fields ≤ 16384
+    → All IsOnPage (places_of page origin fields)
+unfolding places_of place_of record_end
+on_page page origin fields ends k d below =
+    let n = field_count fields in
+    let in' : k < n = omega (arith, length-map-range_with_len (place_of page origin fields) 0 n) in
+    let here = get_or-map-range_with_len (place_of page origin fields) 0 n k k d in' (omega arith) in
+    let more = local_more page origin fields k in
+    let most = local_rises page origin fields n (k + 1) (omega arith) in
+    subst IsOnPage (sym here) (record { rising = omega arith; inside = omega (arith, more, most, ends) })
+
+pub count_of_places : (page : List ℕ) (origin : ℕ) (fields : Fields)
+    → length (places_of page origin fields) ≡ field_count fields
+unfolding places_of
+count_of_places page origin fields = length-map-range_with_len (place_of page origin fields) 0 (field_count fields)
+
+-- keys of the same kinds have as many fields
+pub same_keys : (fields others : Fields) → fields.keys ≤ length fields.fields → others.keys ≤ length others.fields
+    → key_kinds others ≡ key_kinds fields → others.keys ≡ fields.keys
+same_keys fields others few other_few same =
+    sym (length-kinds others other_few) ∙ ap (λ (kinds : List FieldType). length kinds) same ∙ length-kinds fields few
+
+pub order_of_keys : (page other : List ℕ) (fields others : Fields) (here there : ℕ) (a b : List Place) (o : Ordering)
+    → fields.keys ≤ length fields.fields → others.keys ≤ length others.fields → key_kinds others ≡ key_kinds fields
+    → a ≡ places_of page here fields → b ≡ places_of other there others
+    → o ≡ key_cmp (key_kinds fields) (key_at page fields a) (key_at other fields b)
+    → o ≡ key_cmp (key_kinds fields) (key_of page here fields) (key_of other there others)
+unfolding key_at
+order_of_keys page other fields others here there a b o few other_few same first second is =
+    let x = ap (λ (ps : List Place). key_at page fields ps) first ∙ key_is page here fields few in
+    let k = sym (same_keys fields others few other_few same) in
+    let y = ap (λ (n : ℕ). map (cell_at other) (take n b)) k ∙ ap (λ (ps : List Place). key_at other others ps) second
+    ∙ key_is other there others other_few in
+    is ∙ ap (λ (q : Key). key_cmp (key_kinds fields) q (key_at other fields b)) x
+    ∙ ap (λ (q : Key). key_cmp (key_kinds fields) (key_of page here fields) q) y
+
+-- the child page lies on the page
+child_length : (page : List ℕ) (origin : ℕ) (fields : Fields) → HaveChild fields
+    → local_length page origin fields fields.keys ≡ 4
+unfolding local_length is_null
+child_length page origin fields have = rw (have.present, have.kind) refl
+
+pub child_fits : (page : List ℕ) (origin : ℕ) (fields : Fields) (p : Place) → HaveChild fields
+    → record_end page origin fields ≤ 16384
+    → p ≡ place_of page origin fields fields.keys → p.from + 4 ≤ 16384
+unfolding record_end place_of
+child_fits page origin fields p have ends same =
+    let more = local_more page origin fields fields.keys in
+    let most = local_rises page origin fields (field_count fields) (fields.keys + 1) (omega (arith, have.inside)) in
+    omega (arith, more, most, ends, child_length page origin fields have, ap (λ (q : Place). q.from) same)
+
+-- a place among those that were read
+pub place_read : (page : List ℕ) (origin : ℕ) (fields : Fields) (places : List Place) (i : ℕ) (d p : Place)
+    → places ≡ places_of page origin fields → i < field_count fields
+    → p ≡ get_or places i d → p ≡ place_of page origin fields i
+unfolding places_of
+place_read page origin fields places i d p same below is =
+    is ∙ ap (λ (ps : List Place). get_or ps i d) same ∙ get_or-map-range_with_len (place_of page origin fields) 0
+    (field_count fields) i i d below (omega arith)
