@@ -1,0 +1,11 @@
+pub mod RecordWalk
+pub mod ChainWalk
+pub mod CutWalk
+pub mod Turns
+pub mod MarkBits
+pub mod HeapNumbers
+pub mod RoomMarks
+pub mod KeyOrder
+pub mod ChecksLaw
+pub mod AllNumbers
+pub mod ReadRecords

@@ -1,0 +1,6 @@
+pub mod Header
+pub mod Page
+pub mod PageChecks
+pub mod Marks
+pub mod Readings
+pub mod Laws
