@@ -1,5 +1,16 @@
+pub mod Positions
 pub mod WordLemmas
 pub mod LineLemmas
 pub mod NameLemmas
 pub mod ColumnLemmas
 pub mod TableLemmas
+pub mod TypeLemmas
+pub mod PartLemmas
+pub mod PlaceLemmas
+pub mod CheckLemmas
+pub mod ColumnCheckLemmas
+pub mod KeyLemmas
+pub mod IndexLemmas
+pub mod ReadLemmas
+pub mod TextLemmas
+pub mod ReadingLemmas

@@ -1,10 +1,14 @@
 -- The names of columns, and the places where they stand.
-use Rattle.std.proofs.Common.{◌≡◌, ◌≢◌, ℕ, zero, suc, ⊎_elim, ◌+◌, ◌<◌, Bool, true, false, cond, List, [], ◌∷◌, ◌++◌, length, get_or, take, Option, Some, None, refl, sym, ap, ◌∙◌, subst, arith}
-use Rattle.std.specs.Prelude.{position, bytes_eq, AllPairs, is_some}
-use Rattle.std.specs.List.{position_or_len}
-use Rattle.std.proofs.lemmas.Bool.{ltb-false, cases_lt}
+use Rattle.std.proofs.Common.{◌≡◌, ◌≢◌, ℕ, zero, suc, ⊎_elim, ◌+◌, ◌<◌, Bool, true, false, cond, List, [], ◌∷◌, ◌++◌, length, get_or, take, Option, Some, None, sym, ap, ◌∙◌, subst, arith}
+use Rattle.std.proofs.Common.{All, Decides}
+use Rattle.std.proofs.lemmas.Bool.{false≢true}
+use Rattle.std.proofs.lemmas.List.Elements.{All-nil, All-cons}
+use Rattle.std.specs.Prelude.{position, bytes_eq, AllPairs, is_some, Any}
+use Rattle.schema_text.specs.Refusals.{column_named}
+use Rattle.schema_text.specs.Cuts.{IsAmong}
+use Rattle.std.proofs.lemmas.Bool.{cases_lt}
+use Rattle.schema_text.proofs.Positions.{none_passes}
 use Rattle.std.proofs.lemmas.List.{take_more, length-take-le, get_or-take}
-use Rattle.std.proofs.lemmas.List.Sums.{fails_before_first}
 use Rattle.std.proofs.lemmas.List.Quantifiers.{position-Some, all_pairs_push}
 use Rattle.std.proofs.lemmas.Option.{slice_get-get_or}
 use Rattle.std.proofs.lemmas.Slice.Eq.{bytes_eq-Decides}
@@ -17,16 +21,6 @@ has_name name c = bytes_eq c.name name
 
 abbrev pub Differ : List Column → Type 0
 Differ columns = AllPairs (λ (c d : Column). c.name ≢ d.name) columns
-
-cond_none : {X : Type 0} (b : Bool) (x : X) → cond b (Some x) None ≡ None → b ≡ false
-cond_none true x e = cc
-cond_none false x e = refl
-
--- where no place is found, nothing there passes
-none_passes : {X : Type 0} (p : X → Bool) (xs : List X) → position p xs ≡ None → (k : ℕ) (d : X) → k < length xs → p (get_or xs k d) ≡ false
-none_passes p xs none k d within =
-    let past = ltb-false (position_or_len p xs) (length xs) (cond_none _ (position_or_len p xs) none) in
-    fails_before_first p xs k d (omega arith)
 
 -- where no place is found, no column has the name
 pub unnamed : (columns : List Column) (name : List ℕ) → None ≡ position (has_name name) columns → (k : ℕ) (d : Column) → k < length columns → (get_or columns k d).name ≢ name
@@ -86,3 +80,23 @@ one_named columns name found place differ some named =
 pub found_named : (columns : List Column) (name : List ℕ) (place : ℕ) → Some place ≡ position (has_name name) columns → IsNamed columns place name
 found_named columns name place some =
     let there = named_at columns name place some blank in is_named columns place name blank there.0 there.1
+
+any_not_all : {X : Type 0} (P : X → Type 0) (xs : List X) → Any P xs → All (λ x. P x → ⊥) xs → ⊥
+any_not_all P xs h all = all h.0 h.1 h.2 (subst P (sym h.3) h.4)
+
+-- a column that is there is found
+pub not_missed : (columns : List Column) (name : List ℕ) → IsAmong columns name → None ≡ position (has_name name) columns → ⊥
+not_missed columns name there none = any_not_all (λ (c : Column). c.name ≡ name) columns there (unnamed columns name none)
+
+not_first : (b : Bool) (P : Type 0) (c : Column) (rest : Option Column) → Decides b P → None ≡ cond b (Some c) rest → (P → ⊥) × (None ≡ rest)
+not_first true P c rest d e = absurd (cc)
+not_first false P c rest d e = (λ p. absurd (false≢true (d.1 p)), e)
+
+none_named : (columns : List Column) (name : List ℕ) → None ≡ column_named columns name → All (λ (c : Column). c.name ≡ name → ⊥) columns
+none_named [] name e = All-nil (λ (c : Column). c.name ≡ name → ⊥)
+none_named (c ∷ columns) name e =
+    let first = not_first (bytes_eq c.name name) (c.name ≡ name) c (column_named columns name) (bytes_eq-Decides c.name name) e in
+    All-cons (λ (c : Column). c.name ≡ name → ⊥) c columns first.0 (none_named columns name first.1)
+
+pub not_unfound : (columns : List Column) (name : List ℕ) → IsAmong columns name → None ≡ column_named columns name → ⊥
+not_unfound columns name there none = any_not_all (λ (c : Column). c.name ≡ name) columns there (none_named columns name none)

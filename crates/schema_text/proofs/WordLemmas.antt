@@ -1,9 +1,10 @@
 -- What is left of a text behind a front, before an end, and round a byte.
 use Rattle.std.proofs.Common.{◌≡◌, ◌≢◌, ℕ, ◌+◌, ◌-◌, ◌<◌, ◌^◌, Bool, true, false, eqb, List, [], ◌∷◌, ◌++◌, length, get_or, take, drop, Option, Some, None, IsTrue, Result, Ok, Err, IfSome, IsSomeAnd, MatchOption, refl, sym, ap, ◌∙◌, subst, arith}
 use Rattle.std.specs.Prelude.{position}
-use Rattle.std.proofs.lemmas.List.{append_cancel_left, append_cancel_right, append_assoc, get_or_append_left, get_or_at, length-append, take_at, drop_at, take_rest, drop_more, take-append-drop}
+use Rattle.std.proofs.lemmas.List.{append_cancel_left, append_cancel_right, append_assoc, get_or_append_left, get_or_at, length-append, length-take-le, get_or-take, get_or_default, take_at, drop_at, take_rest, drop_more, take-append-drop}
 use Rattle.std.proofs.lemmas.List.Sums.{position_or_len_is}
-use Rattle.std.proofs.lemmas.Bool.{lt-ltb, eqb-true}
+use Rattle.std.proofs.lemmas.Bool.{lt-ltb, eqb-true, eq-eqb, false≢true}
+use Rattle.schema_text.proofs.Positions.{none_passes}
 use Rattle.std.proofs.lemmas.Bool.Decides.{nat_tests}
 use Rattle.std.specs.List.{position_or_len}
 use Rattle.schema_text.specs.Cuts.{Lacks}
@@ -86,3 +87,18 @@ ok_part_is (Err x) m n some e = cc
 pub then_some_is : (b : Bool) (m n : ℕ) → m ≡ n → IsTrue b → then_some b m ≡ Some n
 then_some_is true m n e h = ap Some e
 then_some_is false m n e h = cc
+
+-- nothing before the first such byte is one
+pub lacks_before : (byte at : ℕ) (s : List ℕ) → Some at ≡ position (λ b. eqb b byte) s → Lacks byte (take at s)
+lacks_before byte at s e = λ k d below same.
+    let p = position-Some (λ b. eqb b byte) s at 0 (sym e) in
+    let short = length-take-le at s (omega (arith, p.0)) in
+    let here : get_or (take at s) k d ≡ get_or s k 0 = get_or-take at s k d (omega arith) ∙ get_or_default s k d 0 (omega (arith, p.0)) in
+    let fails = p.2 k (omega arith) in
+    absurd (false≢true (sym fails ∙ eq-eqb (get_or s k 0) byte (sym here ∙ same)))
+
+pub lacks_all : (byte : ℕ) (s : List ℕ) → None ≡ position (λ b. eqb b byte) s → Lacks byte s
+lacks_all byte s none = λ k d below same.
+    let passes : eqb (get_or s k d) byte ≡ true = eq-eqb (get_or s k d) byte same in
+    let fails = none_passes (λ b. eqb b byte) s (sym none) k d below in
+    absurd (false≢true (sym fails ∙ passes))

@@ -3,3 +3,7 @@ pub mod TableDef
 pub mod Grammar
 pub mod First
 pub mod Cuts
+pub mod Parts
+pub mod Refusals
+pub mod IndexFields
+pub mod Laws

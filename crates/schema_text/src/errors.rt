@@ -1,5 +1,9 @@
 //! Why a text is no schema.
 
+ghost use Rattle.std.specs.Prelude.{◌≡◌};
+ghost use Rattle.schema_text.specs.declared.errors.SchemaError.TheVariants.{Memory};
+
+use page_source::NoMemory;
 use thiserror::Error;
 
 /// Why a line of a schema text is refused.
@@ -36,4 +40,12 @@ pub enum SchemaError {
     /// Memory ran out.
     #[error("out of memory")]
     Memory,
+}
+
+impl From<NoMemory> for SchemaError {
+    ghost from_gives = { λ _ error. error ≡ Memory };
+
+    fn from(_: NoMemory) -> Self {
+        SchemaError::Memory
+    }
 }

@@ -4,7 +4,7 @@
 ghost use Rattle.std.specs.Prelude.{◌≡◌, ◌≢◌, ◌==◌, ◌<◌, ◌≤◌, ◌↔◌, ◌++◌, ℕ, List, length, All, AllPairs, IsTrue, IfOk, IfSome, IsSomeAnd, Some, MatchOption, position, bytes_eq};
 ghost use Rattle.column_values.specs.declared.kind.ColumnType.{ColumnType};
 ghost use Rattle.schema_text.specs.declared.table.Column.{Column};
-ghost use Rattle.schema_text.specs.Grammar.{line_of, column_words, IsName, IsRoot};
+ghost use Rattle.schema_text.specs.Grammar.{line_of, column_words, IsName, IsRoot, IsTable};
 ghost use Rattle.schema_text.specs.TableDef.{TableDef};
 ghost use Rattle.schema_text.specs.First.{first_column, first_table, first_table_words, first_clustered_words, column_lines, IsFirstColumn, IsIntType, AreColumns, IsNamed, IsFirstTextOf};
 
@@ -58,7 +58,7 @@ fn last_line(text: &[u8]) -> Option<(u32, &[u8])>
 }
 
 /// These bytes as a list of its own.
-fn owned(alloc: Global, bytes: &[u8]) -> Result<ByteList, NoMemory>
+pub(crate) fn owned(alloc: Global, bytes: &[u8]) -> Result<ByteList, NoMemory>
     ensures { IfOk result (λ list. list ≡ bytes.now) }
 {
     let mut list = ByteList::new(alloc);
@@ -90,7 +90,7 @@ fn read_columns(alloc: Global, text: &[u8]) -> Result<(Vec<Column>, &[u8]), NoMe
 }
 
 /// The place of the first column of this name.
-fn position_of(columns: &[Column], name: &[u8]) -> Option<usize>
+pub(crate) fn position_of(columns: &[Column], name: &[u8]) -> Option<usize>
     ensures value { result ≡ position (λ (c : Column). bytes_eq c.name name.now) columns.now }
     ensures bound { IfSome result (λ place. place < length columns.now) }
 {
@@ -130,7 +130,7 @@ fn first_schema(
     root: u32,
     key: u16,
 ) -> Result<Schema, NoMemory>
-    requires { length columns.items ≤ 64 }
+    requires { IsTable (first_table name.now columns.items root key) }
     ensures { IfOk result (λ schema. schema ≡ first_table name.now columns.items root key) }
 {
     let line = columns.len() as u32 + 2;

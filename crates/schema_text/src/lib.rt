@@ -1,12 +1,19 @@
-//! The schema of a table, as a text.
+//! The schema of a table, as a text and as its indexes' fields.
 #![tactic(auto)]
 
+mod checks;
 mod errors;
 mod first;
+mod keys;
+mod line;
 mod lines;
+mod names;
+mod part;
+mod read;
 mod table;
 #[cfg(test)]
 mod tests;
+mod types;
 mod words;
 
 pub use errors::{SchemaError, SchemaWhy};

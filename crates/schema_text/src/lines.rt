@@ -12,7 +12,7 @@ use crate::words::{after, before, cut, is_name, root_number};
 use column_values::ColumnType;
 
 /// The width of the integers that the word names.
-fn int_width(word: &[u8]) -> Option<u8>
+pub(crate) fn int_width(word: &[u8]) -> Option<u8>
     ensures found { IfSome result (λ width. IsWidth width × (word.now ≡ int_word width)) }
     ensures only { (width : ℕ) → IsWidth width → word.now ≡ int_word width → result ≡ Some width }
 {

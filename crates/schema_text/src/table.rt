@@ -73,14 +73,18 @@ pub struct Schema {
 
 impl Model for Schema {
     ghost use Rattle.schema_text.specs.TableDef.{TableDef};
+    ghost use Rattle.schema_text.specs.Grammar.{IsTable};
 
     ghost Value = { TableDef };
 
     ghost view = { λ s. record { table = s.table; format = s.format; columns = s.columns.items; indexes = s.indexes.items } };
+
+    ghost invariant = { λ s. IsTable (record { table = s.table; format = s.format; columns = s.columns.items; indexes = s.indexes.items }) };
 }
 
 impl Schema {
     ghost use Rattle.schema_text.specs.TableDef.{TableDef};
+    ghost use Rattle.schema_text.specs.Grammar.{IsTable};
 
     pub(crate) fn new(
         table: ByteList,
@@ -88,10 +92,8 @@ impl Schema {
         columns: Vec<Column>,
         indexes: Vec<IndexDef>,
     ) -> Schema
-        ensures name { result.table ≡ table }
-        ensures format { result.format ≡ format }
-        ensures columns { result.columns ≡ columns.items }
-        ensures indexes { result.indexes ≡ indexes.items }
+        requires { IsTable (record { table = table; format = format; columns = columns.items; indexes = indexes.items }) }
+        ensures { result ≡ record { table = table; format = format; columns = columns.items; indexes = indexes.items } }
     {
         Schema {
             table,
@@ -127,14 +129,16 @@ impl Schema {
 
     /// The columns, in the order of a row.
     pub fn columns(&self) -> &[Column]
-        ensures { result.now ≡ self.now.columns }
+        ensures same { result.now ≡ self.now.columns }
+        ensures table { IsTable self.now }
     {
         &self.columns
     }
 
     /// The indexes, the clustered one first.
     pub fn indexes(&self) -> &[IndexDef]
-        ensures { result.now ≡ self.now.indexes }
+        ensures same { result.now ≡ self.now.indexes }
+        ensures table { IsTable self.now }
     {
         &self.indexes
     }

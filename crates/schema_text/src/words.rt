@@ -1,6 +1,6 @@
 //! Words, names and numbers of a line.
 
-ghost use Rattle.std.specs.Prelude.{◌≡◌, ◌<◌, ◌^◌, ◌↔◌, ◌==◌, ◌∷◌, ◌++◌, List, ℕ, IsTrue, IfSome, IsSomeAnd, Some, decimal, position};
+ghost use Rattle.std.specs.Prelude.{◌≡◌, ◌<◌, ◌^◌, ◌↔◌, ◌==◌, ◌∷◌, ◌++◌, List, ℕ, IsTrue, IfSome, IsSomeAnd, MatchOption, Some, decimal, position, bytes_eq};
 ghost use Rattle.schema_text.specs.Grammar.{IsName, IsNameByte, IsRoot};
 ghost use Rattle.schema_text.specs.Cuts.{Lacks};
 
@@ -13,6 +13,14 @@ const LONGEST_NAME: usize = 64;
 const FIRST_ROOT: u32 = 3;
 
 const LAST_ROOT: u32 = 4_194_303;
+
+/// Whether the word is this one.
+pub(crate) fn is(word: &[u8], text: &[u8]) -> bool
+    ensures value { result ≡ bytes_eq word.now text.now }
+    ensures same { IsTrue result ↔ (word.now ≡ text.now) }
+{
+    word == text
+}
 
 /// What follows the front that the text begins with.
 pub(crate) fn after<'a>(text: &'a [u8], front: &[u8]) -> Option<&'a [u8]>
@@ -42,11 +50,14 @@ fn first_place(text: &[u8], byte: u8) -> Option<usize>
 /// What stands before the first such byte, and what follows it.
 pub(crate) fn cut(text: &[u8], byte: u8) -> Option<(&[u8], &[u8])>
     ensures found { IfSome result (λ parts. text.now ≡ parts.0.now ++ byte ∷ parts.1.now) }
+    ensures first { MatchOption result (Lacks byte text.now) (λ parts. Lacks byte parts.0.now) }
     ensures only { (first rest : List ℕ) → Lacks byte first → text.now ≡ first ++ byte ∷ rest
         → IsSomeAnd result (λ parts. (parts.0.now ≡ first) × (parts.1.now ≡ rest)) }
 {
-    let at = first_place(text, byte)?;
-    Some((&text[..at], &text[at + 1..]))
+    match first_place(text, byte) {
+        Some(at) => Some((&text[..at], &text[at + 1..])),
+        None => None,
+    }
 }
 
 /// Whether the byte may stand in a name: `A-Z a-z 0-9 _ $`.

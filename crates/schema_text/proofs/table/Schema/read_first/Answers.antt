@@ -34,6 +34,20 @@ returns-in_default-key_position c =
     none-some p.key (c.in_default-key_position.ensures.only p.key (subst AreColumns (sym same) p.has.are) named) in
     record { exact = none; only = none }
 
+pub first_schema-requires : goal.first_schema-requires
+first_schema-requires c =
+    let begun = c.in-Some.ensures.found in
+    let columns = c.in_ok-columns.ensures.found in
+    let last = c.in-Some-last_line.ensures.found in
+    let key = c.in-Some-key_position.ensures.found in
+    let items = c.in_ok-columns.columns.items in
+    let same : c.deref.result.now ≡ items = c.deref.ensures.value in
+    let lines = begun.1 ∙ ap (λ rest. line_of (first_table_words c.in-Some.name.now) ++ rest) (columns.1 ∙ ap (λ rest. column_lines items ++ rest) last.2) in
+    let named = subst (λ list. IsNamed list c.in-Some-key_position.key c.in-Some-last_line.key.now) same key.1 in
+    let first = is_first_text c.in-Some.name.now items c.in-Some-last_line.root c.in-Some-key_position.key c.in-Some-last_line.key.now c.args.text.now
+    (record { is_name = begun.0; firsts = columns.0; are = subst AreColumns same key.0; is_root = last.0; is_key = last.1; named = named; lines = lines }) (omega arith) in
+    first.is_text.is
+
 pub returns-clause-exact : goal.returns-clause-exact
 returns-clause-exact c =
     let begun = c.in-Some.ensures.found in

@@ -1,0 +1,10 @@
+use Rattle.std.proofs.Common.{◌≡◌, ◌++◌, ◌∷◌, []}
+use Rattle.schema_text.proofs.PartLemmas.{part_with_index}
+use Rattle.schema_text.proofs.part.Part.add_index.Goals as goal
+
+pub invariant_of-self-2 : goal.invariant_of-self-2
+invariant_of-self-2 c =
+    let next = rw (← c.self.view_is) at c.requires in
+    let inside = c.self.inside in
+    let grown : c.push.new.self.items ≡ inside.indexes.items ++ c.args.index ∷ [] = c.in_ok-push.ensures.items in
+    rw grown (part_with_index (record { table = inside.table; format = inside.format; columns = inside.columns.items; indexes = inside.indexes.items }) c.args.index c.self.invariant next)

@@ -1,0 +1,91 @@
+-- The fields of an index's records (rem0rec, dict0dict).
+use Rattle.std.specs.Prelude.{ℕ, ◌+◌, Bool, true, false, not, ◌==◌, if◌then◌else◌, List, [], ◌∷◌, ◌++◌, length, map, filter, filter_map, slice_get}
+use Rattle.std.specs.List.{range_with_len, list_any, position_or_len}
+use Rattle.column_values.specs.declared.field.FieldType.TheVariants as fields
+use Rattle.column_values.specs.declared.field.Field.{Field}
+use Rattle.column_values.specs.Types.{Fields, is_big_kind, nullable_count}
+use Rattle.schema_text.specs.declared.table.Column.{Column}
+use Rattle.schema_text.specs.TableDef.{TableDef, index_at, clustered}
+
+-- a column as a field that stays on the page, and as one that may leave it where it is big
+abbrev pub kept_field : Column → Field
+kept_field column = record { kind = fields.Column column.kind; nullable = column.nullable; may_leave = false }
+
+abbrev pub leaving_field : Column → Field
+leaving_field column = record { kind = fields.Column column.kind; nullable = column.nullable; may_leave = is_big_kind column.kind }
+
+-- the hidden fields, of fixed length
+abbrev pub row_id_field : Field
+row_id_field = record { kind = fields.RowId; nullable = false; may_leave = false }
+
+abbrev pub trx_id_field : Field
+trx_id_field = record { kind = fields.TrxId; nullable = false; may_leave = false }
+
+abbrev pub roll_pointer_field : Field
+roll_pointer_field = record { kind = fields.RollPointer; nullable = false; may_leave = false }
+
+abbrev pub child_field : Field
+child_field = record { kind = fields.Child; nullable = false; may_leave = false }
+
+-- the columns at these positions, as fields that stay
+abbrev pub columns_at : TableDef → List ℕ → List Column
+columns_at table positions = filter_map (slice_get table.columns) positions
+
+abbrev pub kept_fields : TableDef → List ℕ → List Field
+kept_fields table positions = map kept_field (columns_at table positions)
+
+-- the positions among these that aren't among the others
+abbrev pub positions_without : List ℕ → List ℕ → List ℕ
+positions_without all others = filter (λ i. not (list_any (λ j. j == i) others)) all
+
+abbrev pub clustered_positions : TableDef → List ℕ
+clustered_positions table = (clustered table).columns
+
+-- the key of the clustered index: its columns, or the hidden row id
+abbrev pub clustered_key : TableDef → List Field
+clustered_key table =
+    if length (clustered_positions table) == 0 then row_id_field ∷ [] else kept_fields table (clustered_positions table)
+
+-- what a secondary entry keeps of the clustered key
+abbrev pub row_reference : TableDef → List ℕ → List Field
+row_reference table positions =
+    if length (clustered_positions table) == 0 then row_id_field ∷ []
+    else kept_fields table (positions_without (clustered_positions table) positions)
+
+-- the fields of a clustered leaf record
+unfoldable pub clustered_fields : TableDef → List Field
+clustered_fields table =
+    clustered_key table ++ trx_id_field ∷ roll_pointer_field
+    ∷ map leaving_field (columns_at table (positions_without (range_with_len 0 (length table.columns)) (clustered_positions table)))
+
+-- the fields of a secondary entry
+unfoldable pub secondary_fields : TableDef → List ℕ → List Field
+secondary_fields table positions = kept_fields table positions ++ row_reference table positions
+
+-- the fields of the leaf records of index j
+unfoldable pub leaf_fields : TableDef → ℕ → Fields
+leaf_fields table j =
+    if j == 0
+    then record { fields = clustered_fields table; nullable = nullable_count (clustered_fields table); keys = length (clustered_key table) }
+    else (let list = secondary_fields table (index_at table j).columns in
+    record { fields = list; nullable = nullable_count list; keys = length list })
+
+-- the fields of its node pointers: the key and the child page
+unfoldable pub node_fields : TableDef → ℕ → Fields
+node_fields table j =
+    let key = if j == 0 then clustered_key table else secondary_fields table (index_at table j).columns in
+    record { fields = key ++ child_field ∷ []; nullable = (leaf_fields table j).nullable; keys = length key }
+
+abbrev pub index_fields : TableDef → ℕ → Bool → Fields
+index_fields table j true = leaf_fields table j
+index_fields table j false = node_fields table j
+
+-- the place of a column among the fields of a clustered leaf record
+abbrev pub other_positions : TableDef → List ℕ
+other_positions table = positions_without (range_with_len 0 (length table.columns)) (clustered_positions table)
+
+unfoldable pub field_of_column : TableDef → ℕ → ℕ
+field_of_column table column =
+    if list_any (λ i. i == column) (clustered_positions table)
+    then position_or_len (λ i. i == column) (clustered_positions table)
+    else length (clustered_key table) + 2 + position_or_len (λ i. i == column) (other_positions table)
