@@ -376,7 +376,7 @@ fn reads_each_kind_of_checksums(rt: HostRuntime) -> Result<(), Fail> {
         seal_as(&mut page, 3, 23, 0x1_0000_2F1C, 17855, sum);
         assert!(rt; at <= PAGE_SIZE && bytes.len() <= PAGE_SIZE - at);
         page.put_bytes(at, bytes);
-        let edited = with_root(&rt, rt.alloc(), file.bytes(), &page)?;
+        let edited = with_root(rt.alloc(), file.bytes(), &page)?;
         expect(&rt, rt.alloc(), Command::dump(edited.bytes()), want)?;
     }
     Ok(())

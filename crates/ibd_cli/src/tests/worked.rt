@@ -191,17 +191,15 @@ pub fn root_page(rt: &impl Abort, alloc: Global, file: &[u8]) -> Result<Page, No
 }
 
 /// The file with this root page.
-pub fn with_root(
-    rt: &impl Abort,
-    alloc: Global,
-    file: &[u8],
-    root: &Page,
-) -> Result<ByteList, NoMemory> {
+pub fn with_root(alloc: Global, file: &[u8], root: &Page) -> Result<ByteList, NoMemory> {
+    let (front, rest) = file
+        .split_at_checked(ROOT * PAGE_SIZE)
+        .unwrap_or((file, b""));
+    let (_, back) = rest.split_at_checked(PAGE_SIZE).unwrap_or((rest, b""));
     let mut whole = ByteList::new(alloc);
-    assert!(rt; file.len() == FILE_SIZE);
-    whole.extend(&file[..ROOT * PAGE_SIZE])?;
+    whole.extend(front)?;
     whole.extend(root.bytes())?;
-    whole.extend(&file[(ROOT + 1) * PAGE_SIZE..])?;
+    whole.extend(back)?;
     Ok(whole)
 }
 
@@ -220,7 +218,7 @@ pub fn full_page(rt: &impl Abort, alloc: Global) -> Result<ByteList, NoMemory> {
         put_record(&mut page, i);
     }
     put_checksums(&mut page);
-    with_root(rt, alloc, file.bytes(), &page)
+    with_root(alloc, file.bytes(), &page)
 }
 
 /// Record `i` of a full page; the last one leads to the supremum.
