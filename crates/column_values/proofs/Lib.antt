@@ -3,3 +3,11 @@ pub mod DecimalLengths
 pub mod TextOrder
 pub mod FieldLists
 pub mod KeyOrder
+pub mod Bytes
+pub mod IntegerValues
+pub mod MomentValues
+pub mod Utf8Texts
+pub mod Utf8Steps
+pub mod TextValues
+pub mod Groups
+pub mod DecimalValues

@@ -1,11 +1,12 @@
 -- The numbers of whole bytes, and their top bit.
-use Rattle.std.proofs.Common.{◌≡◌, ℕ, zero, suc, ◌+◌, ◌-◌, ◌*◌, ◌%◌, ◌^◌, ◌<◌, ◌≤◌, pos, ◌-ℤ◌, List, slice_index, ⊎_elim, pow-add, refl, ap, ◌∙◌, arith}
+use Rattle.std.proofs.Common.{◌≡◌, ℕ, zero, suc, ◌+◌, ◌-◌, ◌*◌, ◌%◌, ◌^◌, ◌<◌, ◌≤◌, pos, ◌-ℤ◌, true, List, slice_index, ⊎_elim, pow-add, refl, ap, ◌∙◌, arith}
 use Rattle.std.proofs.Math.Nat.{pow-suc, pow-le-pow_right, mod-eq_of_lt, one-mul, two-pow-succ}
 use Rattle.std.proofs.lemmas.Bool.{lt-ltb, le-ltb, cases_lt}
 use Rattle.std.proofs.lemmas.Nat.{xor_block}
 use Rattle.std.proofs.lemmas.Int.{ints}
 use Rattle.std.specs.Int.Bits.{bit_xor, xor_zero_r}
 use Rattle.page_source.specs.Pages.{num}
+use Rattle.column_values.specs.Spell.{IsInRange}
 use Rattle.byteorder.specs.Endian.{big_from, big_number, twos_complement}
 
 -- one byte more at the end
@@ -42,14 +43,14 @@ top_bit_fits w few =
     rw one-mul (mod-eq_of_lt (omega arith))
 
 -- the top bit is flipped: it is added, or taken away
-flipped_low : (k n : ℕ) → n < 2 ^ k → bit_xor n (2 ^ k) ≡ 2 ^ k + n
+pub flipped_low : (k n : ℕ) → n < 2 ^ k → bit_xor n (2 ^ k) ≡ 2 ^ k + n
 flipped_low k n low =
     let e : bit_xor (0 * 2 ^ k + n) (1 * 2 ^ k + 0) ≡ bit_xor 0 1 * 2 ^ k + bit_xor n 0 = xor_block k 0 1 n 0 low (omega arith) in
     let a : 0 * 2 ^ k + n ≡ n = omega arith in
     let b : 1 * 2 ^ k + 0 ≡ 2 ^ k = omega arith in
     rw (a, b, xor_zero_r) at e ∙ omega arith
 
-flipped_high : (k n : ℕ) → 2 ^ k ≤ n → n < 2 ^ k + 2 ^ k → bit_xor n (2 ^ k) ≡ n - 2 ^ k
+pub flipped_high : (k n : ℕ) → 2 ^ k ≤ n → n < 2 ^ k + 2 ^ k → bit_xor n (2 ^ k) ≡ n - 2 ^ k
 flipped_high k n high low =
     let e : bit_xor (1 * 2 ^ k + (n - 2 ^ k)) (1 * 2 ^ k + 0) ≡ bit_xor 1 1 * 2 ^ k + bit_xor (n - 2 ^ k) 0 = xor_block k 1 1 (n - 2 ^ k) 0 (omega arith) (omega arith) in
     let a : 1 * 2 ^ k + (n - 2 ^ k) ≡ n = omega arith in
@@ -72,3 +73,18 @@ flipped_is w n some fits =
     let t = lt-ltb (n - 2 ^ (8 * w - 1)) (2 ^ (8 * w - 1)) (omega arith) in
     rw (e, t) (omega (arith, ints)))
     (cases_lt n (2 ^ (8 * w - 1)))
+
+-- the size of whole bytes is twice the worth of their top bit
+pub whole_is_twice : (w : ℕ) → 1 ≤ w → 256 ^ w ≡ 2 ^ (8 * w - 1) + 2 ^ (8 * w - 1)
+whole_is_twice w some =
+    let whole : 8 * w ≡ suc (8 * w - 1) = omega arith in
+    pow256 w ∙ ap (λ (e : ℕ). 2 ^ e) whole ∙ two-pow-succ (8 * w - 1)
+
+pub half_is_most : (w : ℕ) → w ≤ 8 → 2 ^ (8 * w - 1) ≤ 9223372036854775808
+half_is_most w few = pow-le-pow_right {n = 2} (omega arith) {i = 8 * w - 1} {j = 63} (omega arith)
+
+pub signed_range : (w n : ℕ) → 1 ≤ w → n < 256 ^ w → IsInRange true w (pos n -ℤ pos (2 ^ (8 * w - 1)))
+signed_range w n some fits = let twice = whole_is_twice w some in (omega (arith, ints), omega (arith, ints))
+
+pub pow256_most : (w : ℕ) → w ≤ 8 → 256 ^ w ≤ 2 ^ 64
+pow256_most w few = pow-le-pow_right {n = 256} (omega arith) {i = w} {j = 8} few

@@ -32,6 +32,26 @@ IsColumnType (Timestamp f) = f ≤ 6
 IsColumnType Year = ⊤
 IsColumnType (Decimal p s) = (1 ≤ p) × (p ≤ 38) × (s ≤ min 30 p)
 
+-- the types whose values are texts of any length
+abbrev pub IsPlainText : ColumnType → Type 0
+IsPlainText (Varchar n) = ⊤
+IsPlainText (Text n) = ⊤
+IsPlainText (Utf8Varchar n) = ⊤
+IsPlainText (Utf8Text n) = ⊤
+IsPlainText _ = ⊥
+
+-- the types whose values are bytes
+abbrev pub IsRaw : ColumnType → Type 0
+IsRaw (Binary n) = ⊤
+IsRaw (Varbinary n) = ⊤
+IsRaw (Blob n) = ⊤
+IsRaw _ = ⊥
+
+-- the types whose values are texts or bytes
+abbrev pub HoldsText : ColumnType → Type 0
+HoldsText (Char n) = ⊤
+HoldsText kind = IsPlainText kind ⊎ IsRaw kind
+
 -- the greatest number of bytes of a value
 abbrev pub greatest_length : ColumnType → ℕ
 greatest_length (Int width signed) = width

@@ -1,15 +1,26 @@
 //! Column types, the fields of an index, the values that their bytes spell, and their order.
 #![tactic(auto)]
 
+mod big_endian;
+mod codec;
+mod dates;
+mod decimals;
 mod field;
 mod integers;
 mod kind;
 pub mod laws;
 mod lengths;
+mod moments;
 mod order;
+mod texts;
+mod utf8;
+mod value;
 
+pub use codec::{decode, encode, is_value};
 pub use field::{Field, FieldList, FieldType};
 pub use integers::IntCode;
 pub use kind::ColumnType;
 pub use lengths::greatest_length;
 pub use order::compare;
+pub use utf8::Utf8;
+pub use value::{Value, ValueError};

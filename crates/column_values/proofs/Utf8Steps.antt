@@ -1,0 +1,154 @@
+-- What a reader of a text keeps stands for the bytes that were read.
+use Rattle.std.proofs.Common.{◌≡◌, ℕ, suc, ◌+◌, ◌<◌, ◌≤◌, List, [], ◌∷◌, ◌++◌, length, take, get_or, refl, sym, ap, ◌∙◌, subst, inl, inr, arith, append_assoc, length-append}
+use Rattle.std.specs.List.{concat}
+use Rattle.std.proofs.lemmas.List.{append-nil, take_more}
+use Rattle.std.specs.Prelude.{Option, Some, None}
+use Rattle.std.proofs.lemmas.List.Folds.{concat-append}
+use Rattle.std.proofs.lemmas.List.Elements.{All-nil, All-push}
+use Rattle.column_values.specs.declared.utf8.Joined.{Joined}
+use Rattle.column_values.specs.declared.utf8.Progress.{Progress}
+use Rattle.column_values.specs.declared.utf8.Joined.TheVariants.{Whole, Front, Neither}
+use Rattle.column_values.specs.Characters.{IsCharacter, HasCharacters, IsTextUpTo}
+use Rattle.column_values.specs.Utf8Reader.{State, Bad, Good, Reader, Any, Limited, IsPending, IsCut, StandsFor, WasFed, Feeds, CountsUpTo, IsAtEnd, TakesText}
+use Rattle.column_values.specs.Utf8View.{pending_bytes, state_of, reader_of, IsFront, Joins, state_after, StepsTo, CanStep}
+use Rattle.column_values.proofs.Utf8Texts.{before, same_cut, front_pending}
+
+-- one character more
+more_characters : (front c : List ℕ) (count : ℕ) → HasCharacters front count → IsCharacter c → HasCharacters (front ++ c) (count + 1)
+more_characters front c count are is = record {
+  characters = are.characters ++ c ∷ [];
+  each = All-push IsCharacter are.characters c are.each is;
+  counted = length-append are.characters (c ∷ []) ∙ ap (λ (n : ℕ). n + 1) are.counted;
+  joined = ap (λ (t : List ℕ). t ++ c) are.joined ∙ sym (concat-append are.characters (c ∷ []) ∙ ap (λ (t : List ℕ). concat are.characters ++ t) (append-nil c));
+}
+
+nothing_pending : IsPending []
+nothing_pending = front_pending [] tt
+
+-- the pending bytes become a character
+whole_cut : (text : List ℕ) (byte count : ℕ) (pending : List ℕ) → IsCut text count pending → IsCharacter (pending ++ byte ∷ []) → IsCut (text ++ byte ∷ []) (count + 1) []
+whole_cut text byte count pending cut is = record {
+  front = cut.front ++ (pending ++ byte ∷ []);
+  characters = more_characters cut.front (pending ++ byte ∷ []) count cut.characters is;
+  is_pending = nothing_pending;
+  cut = ap (λ (t : List ℕ). t ++ byte ∷ []) cut.cut ∙ append_assoc cut.front pending (byte ∷ []) ∙ sym (append-nil (cut.front ++ (pending ++ byte ∷ [])));
+}
+
+-- or the front of one
+front_cut : (text : List ℕ) (byte count : ℕ) (pending more : List ℕ) → IsCut text count pending → IsFront (pending ++ byte ∷ []) → more ≡ pending ++ byte ∷ []
+    → IsCut (text ++ byte ∷ []) count more
+front_cut text byte count pending more cut is same = rw same (record {
+  front = cut.front;
+  characters = cut.characters;
+  is_pending = front_pending (pending ++ byte ∷ []) is;
+  cut = ap (λ (t : List ℕ). t ++ byte ∷ []) cut.cut ∙ append_assoc cut.front pending (byte ∷ []);
+})
+
+-- or no text begins so
+no_cut : (text : List ℕ) (byte count : ℕ) (pending : List ℕ) → IsCut text count pending → ¬ (IsCharacter (pending ++ byte ∷ [])) → ¬ (IsFront (pending ++ byte ∷ []))
+    → (n : ℕ) (p : List ℕ) → ¬ (IsCut (text ++ byte ∷ []) n p)
+no_cut text byte count pending cut no_character no_front n p other =
+    let b = before text byte n p other in
+    let same = same_cut text b.count count b.pending pending b.cut cut in
+    elim b.goes_on [
+      | inl is ↦ no_character (subst (λ (t : List ℕ). IsCharacter (t ++ byte ∷ [])) same.1 is)
+      | inr is ↦ no_front (subst (λ (t : List ℕ). IsFront (t ++ byte ∷ [])) same.1 is)
+    ]
+
+by_joined : (text : List ℕ) (byte count : ℕ) (pending : List ℕ) (joined : Joined) → IsCut text count pending → Joins (pending ++ byte ∷ []) joined
+    → StandsFor (state_after count joined) (text ++ byte ∷ [])
+by_joined text byte count pending Whole cut is = whole_cut text byte count pending cut is
+by_joined text byte count pending (Front more) cut is = front_cut text byte count pending (pending_bytes more) cut is.0 is.1
+by_joined text byte count pending Neither cut is = no_cut text byte count pending cut is.0 is.1
+
+-- what stood for a text stands for one byte more
+pub step_stands : (old new : State) (byte : ℕ) (text : List ℕ) → StepsTo old byte new → StandsFor old text → StandsFor new (text ++ byte ∷ [])
+step_stands Bad new byte text step stands =
+    subst (λ (s : State). StandsFor s (text ++ byte ∷ [])) (sym step) (λ n p cut. let b = before text byte n p cut in stands b.count b.pending b.cut)
+step_stands (Good count pending) new byte text step stands =
+    subst (λ (s : State). StandsFor s (text ++ byte ∷ [])) (sym step.2) (by_joined text byte count pending step.0 stands step.1)
+
+-- there is room for so many characters more
+abbrev pub RoomFor : State → ℕ → Type 0
+RoomFor Bad more = Unit {0}
+RoomFor (Good count pending) more = count + more ≤ 8589934591
+
+pub can_step : (state : State) (more : ℕ) → 1 ≤ more → RoomFor state more → CanStep state
+can_step Bad more some room = tt
+can_step (Good count pending) more some room = omega arith
+
+room_after : (count more : ℕ) (joined : Joined) → count + suc more ≤ 8589934591 → RoomFor (state_after count joined) more
+room_after count more Whole room = omega arith
+room_after count more (Front pending) room = omega arith
+room_after count more Neither room = tt
+
+pub step_room : (old new : State) (byte more : ℕ) → StepsTo old byte new → RoomFor old (suc more) → RoomFor new more
+step_room Bad new byte more step room = subst (λ (s : State). RoomFor s more) (sym step) tt
+step_room (Good count pending) new byte more step room = subst (λ (s : State). RoomFor s more) (sym step.2) (room_after count more step.0 room)
+
+-- the number of characters is at most this
+abbrev pub UpTo : ℕ → State → Type 0
+UpTo most Bad = Unit {0}
+UpTo most (Good count pending) = count ≤ most
+
+up_to_after : (most count : ℕ) (joined : Joined) → count ≤ most → UpTo (most + 1) (state_after count joined)
+up_to_after most count Whole low = omega arith
+up_to_after most count (Front pending) low = omega arith
+up_to_after most count Neither low = tt
+
+pub step_up_to : (old new : State) (byte most : ℕ) → StepsTo old byte new → UpTo most old → UpTo (most + 1) new
+step_up_to Bad new byte most step low = subst (λ (s : State). UpTo (most + 1) s) (sym step) tt
+step_up_to (Good count pending) new byte most step low = subst (λ (s : State). UpTo (most + 1) s) (sym step.2) (up_to_after most count step.0 low)
+
+-- a text is a cut with nothing pending
+text_cut : (text : List ℕ) (count : ℕ) → HasCharacters text count → IsCut text count []
+text_cut text count are = record { front = text; characters = are; is_pending = nothing_pending; cut = sym (append-nil text) }
+
+cut_text : (text : List ℕ) (count : ℕ) → IsCut text count [] → HasCharacters text count
+cut_text text count cut = subst (λ (t : List ℕ). HasCharacters t count) (sym (cut.cut ∙ append-nil cut.front)) cut.characters
+
+-- the reader is at an end exactly where it was fed a text that it takes
+pub end_takes : (reader : Reader) (fed : List ℕ) → WasFed reader fed → IsAtEnd reader → TakesText reader fed
+end_takes Any fed was end = tt
+end_takes (Limited limit Bad) fed was end = absurd end
+end_takes (Limited limit (Good count pending)) fed was end =
+    (count, end.1, cut_text fed count (subst (λ (p : List ℕ). IsCut fed count p) end.0 was))
+
+pub takes_end : (reader : Reader) (fed : List ℕ) → WasFed reader fed → TakesText reader fed → IsAtEnd reader
+takes_end Any fed was takes = tt
+takes_end (Limited limit Bad) fed was (count, few, are) = absurd (was count [] (text_cut fed count are))
+takes_end (Limited limit (Good count pending)) fed was (n, few, are) =
+    let same = same_cut fed count n pending [] was (text_cut fed n are) in
+    (same.1, omega (arith, same.0, few))
+
+-- nothing was read yet
+pub nothing_read : StandsFor (Good 0 []) []
+nothing_read = text_cut [] 0 (record { characters = []; each = All-nil IsCharacter; counted = refl; joined = refl })
+
+-- one byte more of a piece
+pub step_along : (old new : State) (byte i : ℕ) (text bytes : List ℕ) → StepsTo old byte new → byte ≡ get_or bytes i 0 → i < length bytes
+    → StandsFor old (text ++ take i bytes) → StandsFor new (text ++ take (i + 1) bytes)
+step_along old new byte i text bytes step is below stands =
+    let more : (text ++ take i bytes) ++ byte ∷ [] ≡ text ++ take (i + 1) bytes =
+    append_assoc text (take i bytes) (byte ∷ []) ∙ ap (λ (t : List ℕ). text ++ t) (rw is (sym (take_more bytes i 0 below))) in
+    subst (StandsFor new) more (step_stands old new byte (text ++ take i bytes) step stands)
+
+pub counts_up_to : (most limit : ℕ) (state : State) → CountsUpTo most (Limited limit state) → UpTo most state
+counts_up_to most limit Bad low = tt
+counts_up_to most limit (Good count pending) low = low
+
+pub up_to_counts : (most limit : ℕ) (state : State) → UpTo most state → CountsUpTo most (Limited limit state)
+up_to_counts most limit Bad low = tt
+up_to_counts most limit (Good count pending) low = low
+
+-- what a new reader was fed
+pub fed_new : (n : ℕ) (reader : Reader) (bytes : List ℕ) → Feeds (Limited n (Good 0 [])) reader bytes → WasFed reader bytes
+fed_new n reader bytes feeds = subst (λ (r : Reader). WasFed r bytes) (sym feeds.1) (feeds.2 [] nothing_read)
+
+pub fed_takes : (n : ℕ) (reader : Reader) (bytes : List ℕ) → Feeds (Limited n (Good 0 [])) reader bytes → TakesText reader bytes ≡ IsTextUpTo n bytes
+fed_takes n reader bytes feeds = ap (λ (r : Reader). TakesText r bytes) feeds.1
+
+pub counts_view : (most n : ℕ) (limit : Option ℕ) (old new : Progress) → ((m : ℕ) → UpTo m (state_of old) → UpTo (m + n) (state_of new))
+    → CountsUpTo most (reader_of limit old) → CountsUpTo (most + n) (reader_of limit new)
+counts_view most n None old new few low = tt
+counts_view most n (Some limit) old new few low = up_to_counts (most + n) limit (state_of new) (few most (counts_up_to most limit (state_of old) low))
