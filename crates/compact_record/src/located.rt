@@ -14,6 +14,12 @@ use std::alloc::Global;
 use std::cmp::Ordering;
 use std::marker::Model;
 
+/// PAGE_NEW_SUPREMUM_END, where the heap of a page begins.
+const HEAP_START: usize = 120;
+
+/// The bytes of a record's header before its origin (REC_N_NEW_EXTRA_BYTES).
+const HEADER: usize = 5;
+
 /// The places of a record's fields, with room for a number of fields.
 #[derive(Debug, Drop)]
 pub struct Located {
@@ -74,8 +80,8 @@ impl Located {
         if !sizes.spelled {
             return false;
         }
-        let head = 5 + (fields.nullable() as usize + 7) / 8 + sizes.lengths;
-        if 120 + head > origin {
+        let head = HEADER + (fields.nullable() as usize + 7) / 8 + sizes.lengths;
+        if HEAP_START + head > origin {
             return false;
         }
         self.origin = origin;

@@ -34,10 +34,13 @@ const RECORD_COUNT: usize = 54;
 const COMPACT: usize = 0x8000;
 
 /// PAGE_NEW_SUPREMUM_END, where the heap begins.
-const HEAP_START: usize = 120;
+pub(crate) const HEAP_START: usize = 120;
 
 /// The first byte behind directory slot 0, whose slots go down from here (PAGE_DIR).
 const DIRECTORY_END: usize = 16376;
+
+/// The bytes of a directory slot (PAGE_DIR_SLOT_SIZE).
+const SLOT_SIZE: usize = 2;
 
 /// The bytes of a record's header before its origin (REC_N_NEW_EXTRA_BYTES).
 const RECORD_HEADER: usize = 5;
@@ -111,7 +114,7 @@ pub(crate) fn slot_at(page: &Page, slot: usize) -> usize
     requires { 2 * slot ≤ 16374 }
     ensures { result ≡ slot_at page.now slot }
 {
-    field(page, 16374 - 2 * slot)
+    field(page, DIRECTORY_END - SLOT_SIZE * (slot + 1))
 }
 
 pub(crate) fn has_header(page: &Page) -> bool
@@ -121,7 +124,7 @@ pub(crate) fn has_header(page: &Page) -> bool
     let top = heap_top(page);
     slots >= 2
         && top >= HEAP_START
-        && top + 2 * slots <= DIRECTORY_END
+        && top + SLOT_SIZE * slots <= DIRECTORY_END
         && field(page, HEAP_COUNT) >= COMPACT
         && record_count(page) + 2 <= heap_count(page)
 }

@@ -7,7 +7,7 @@ ghost use Rattle.index_page.specs.Page.{HasHeader, AreOrigins, IsChain, AreSpell
 ghost use Rattle.index_page.specs.PageChecks.{HasFreeList};
 ghost use Rattle.index_page.specs.Marks.{bits_of, PassInTurn, seen_after, LiesFree, with_record};
 
-use crate::header::{INFIMUM, first_free, free_count, heap_top, record_count};
+use crate::header::{HEAP_START, INFIMUM, first_free, free_count, heap_top, record_count};
 use crate::marks::Marks;
 use column_values::FieldList;
 use compact_record::{Located, next_origin};
@@ -32,7 +32,7 @@ fn mark_record(
     if !reader.again(page, origin, fields) {
         return false;
     }
-    reader.start() >= 120
+    reader.start() >= HEAP_START
         && reader.end() <= heap_top(page)
         && bytes.set_span(reader.start(), reader.end())
 }
