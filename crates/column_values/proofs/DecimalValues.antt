@@ -18,10 +18,10 @@ use Rattle.column_values.proofs.DecimalLengths.{decimal_length_is}
 use Rattle.column_values.proofs.Numbers.{flipped_low, flipped_high}
 use Rattle.column_values.proofs.Groups.{few_groups, sum-groups, length-grouped, are_grouped, ungrouped, ungrouped-grouped, grouped_head, decimal_length_sum}
 
-turned_low : (b : ℕ) → b < 128 → bit_xor b 128 ≡ 128 + b
+pub turned_low : (b : ℕ) → b < 128 → bit_xor b 128 ≡ 128 + b
 turned_low b low = flipped_low 7 b low
 
-turned_high : (b : ℕ) → 128 ≤ b → b < 256 → bit_xor b 128 ≡ b - 128
+pub turned_high : (b : ℕ) → 128 ≤ b → b < 256 → bit_xor b 128 ≡ b - 128
 turned_high b high low = flipped_high 7 b high low
 
 turned_byte : (b : ℕ) → b < 256 → bit_xor b 128 < 256

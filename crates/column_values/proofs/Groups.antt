@@ -230,3 +230,8 @@ grouped_head (suc d ∷ groups) n few low =
     let total : 10 ^ sum (suc d ∷ groups) ≡ 10 ^ suc d * p = ap (λ (k : ℕ). 10 ^ k) (sum_by-cons (λ (x : ℕ). x) (suc d) groups) ∙ pow-add 10 (suc d) (sum groups) in
     let small : n < 10 ^ suc d * p = subst (λ (k : ℕ). n < k) total low in
     top_low (suc d) (n / p) (grouped groups (n % p)) (omega arith) (All-head (λ (x : ℕ). x ≤ 9) (suc d) groups few) (first_digits (suc d) n p (some_power (sum groups)) small)
+
+-- a number of one group more
+pub power_parts : (d : ℕ) (groups : List ℕ) (n : ℕ) → n < 10 ^ sum (d ∷ groups) → n < 10 ^ d * 10 ^ sum groups
+power_parts d groups n low =
+    subst (λ (k : ℕ). n < k) (ap (λ (k : ℕ). 10 ^ k) (sum_by-cons (λ (x : ℕ). x) d groups) ∙ pow-add 10 d (sum groups)) low

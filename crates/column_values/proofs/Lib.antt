@@ -11,3 +11,5 @@ pub mod Utf8Steps
 pub mod TextValues
 pub mod Groups
 pub mod DecimalValues
+pub mod Spellings
+pub mod ValueOrder

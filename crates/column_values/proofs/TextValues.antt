@@ -34,13 +34,13 @@ trim [] = []
 trim (b ∷ bytes) = with_front b (trim bytes)
 
 -- no space at the end
-abbrev NoSpaceAtEnd : List ℕ → Type 0
+abbrev pub NoSpaceAtEnd : List ℕ → Type 0
 NoSpaceAtEnd text = 0 < length text → slice_index text (length text - 1) ≢ 32
 
-no_front : (b : ℕ) → b ≡ 32 → with_front b [] ≡ []
+pub no_front : (b : ℕ) → b ≡ 32 → with_front b [] ≡ []
 no_front b is = let t : eqb b 32 ≡ true = grind (arith, nat_tests) in rw t refl
 
-one_front : (b : ℕ) → (b ≡ 32 → ⊥) → with_front b [] ≡ b ∷ []
+pub one_front : (b : ℕ) → (b ≡ 32 → ⊥) → with_front b [] ≡ b ∷ []
 one_front b not = let t : eqb b 32 ≡ false = grind (arith, nat_tests) in rw t refl
 
 all_spaces : (b n : ℕ) → b ≡ 32 → b ∷ replicate (n - 0) 32 ≡ replicate (suc n - 0) 32

@@ -1,8 +1,9 @@
-//! Laws of the order of keys, each the contract of a function that does nothing.
+//! Laws of the order of keys, of spellings, and of the order of values, each the contract of a function that
+//! does nothing.
 
 ghost use Rattle.std.specs.Prelude.{List};
 ghost use Rattle.column_values.specs.declared.field.FieldType.{FieldType};
-ghost use Rattle.column_values.specs.Laws.{IsStrict, IsTransitive, IsReflexive, Symmetric, Agrees, Splits, IsTotal};
+ghost use Rattle.column_values.specs.Laws.{IsStrict, IsTransitive, IsReflexive, Symmetric, Agrees, Splits, IsTotal, HasOneSpelling, HasOneValue, SpellingSpells, OrdersValues};
 
 /// The keys of any fields have a strict order, up to equality.
 pub fn keys_have_an_order()
@@ -13,4 +14,16 @@ pub fn keys_have_an_order()
     ensures agrees { (kinds : List FieldType) → Agrees kinds }
     ensures splits { (kinds : List FieldType) → Splits kinds }
     ensures total { (kinds : List FieldType) → IsTotal kinds }
+{}
+
+/// A value of a type has one spelling, and bytes spell one value at the most.
+pub fn spellings_are_unique()
+    ensures one_spelling { HasOneSpelling }
+    ensures one_value { HasOneValue }
+    ensures spells { SpellingSpells }
+{}
+
+/// The bytes of moments, years and decimals order as the values do.
+pub fn bytes_order_as_values()
+    ensures { OrdersValues }
 {}

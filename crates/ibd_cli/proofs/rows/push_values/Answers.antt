@@ -11,7 +11,7 @@ pub loop-position-preserved : goal.loop-position-preserved
 loop-position-preserved c =
     let columns = c.args.schema.now.columns in
     let column = c.column-item.result in
-    let within : c.loop-position.position < length columns = omega (arith, ap length c.columns-column-items.ensures, c.loop-position-test.true) in
+    let within : c.loop-position.position < length columns = omega (arith, ap length c.columns-column-items.ensures.same, c.loop-position-test.true) in
     let is : column ≡ get_or columns c.loop-position.position column = cc in
     let more = values_more c.args.page.now c.args.schema.now c.args.origin c.loop-position.position column c.args.text.now c.loop-position.text c.comma.result.now within is c.comma.ensures
     c.loop-position.invariant.text in
@@ -22,6 +22,6 @@ loop-position-preserved c =
 
 pub returns : goal.returns
 returns c =
-    let all : length c.args.schema.now.columns ≤ c.loop-position.position = omega (arith, ap length c.columns-column-items.ensures, c.loop-position-test.false) in
+    let all : length c.args.schema.now.columns ≤ c.loop-position.position = omega (arith, ap length c.columns-column-items.ensures.same, c.loop-position-test.false) in
     c.loop-position.invariant.text
     ∙ ap (λ (t : List ℕ). c.args.text.now ++ t) (values_all c.args.page.now c.args.schema.now c.args.origin c.loop-position.position all)
