@@ -14,3 +14,4 @@ pub mod IndexLemmas
 pub mod ReadLemmas
 pub mod TextLemmas
 pub mod ReadingLemmas
+pub mod FieldLemmas

@@ -27,12 +27,18 @@ roll_pointer_field = record { kind = fields.RollPointer; nullable = false; may_l
 abbrev pub child_field : Field
 child_field = record { kind = fields.Child; nullable = false; may_leave = false }
 
--- the columns at these positions, as fields that stay
-abbrev pub columns_at : TableDef → List ℕ → List Column
-columns_at table positions = filter_map (slice_get table.columns) positions
+-- the columns at these positions, as fields that stay, and as fields that may leave the page
+abbrev pub columns_at : List Column → List ℕ → List Column
+columns_at columns positions = filter_map (slice_get columns) positions
+
+abbrev pub kept_at : List Column → List ℕ → List Field
+kept_at columns positions = map kept_field (columns_at columns positions)
+
+abbrev pub leaving_at : List Column → List ℕ → List Field
+leaving_at columns positions = map leaving_field (columns_at columns positions)
 
 abbrev pub kept_fields : TableDef → List ℕ → List Field
-kept_fields table positions = map kept_field (columns_at table positions)
+kept_fields table positions = kept_at table.columns positions
 
 -- the positions among these that aren't among the others
 abbrev pub positions_without : List ℕ → List ℕ → List ℕ
@@ -41,49 +47,56 @@ positions_without all others = filter (λ i. not (list_any (λ j. j == i) others
 abbrev pub clustered_positions : TableDef → List ℕ
 clustered_positions table = (clustered table).columns
 
+-- the positions of the columns that aren't in the clustered key
+abbrev pub other_positions : TableDef → List ℕ
+other_positions table = positions_without (range_with_len 0 (length table.columns)) (clustered_positions table)
+
+-- the columns at these positions, or the hidden row id where there are no key columns at all
+abbrev pub row_key : List Column → List ℕ → List ℕ → List Field
+row_key columns key positions = if length key == 0 then row_id_field ∷ [] else kept_at columns positions
+
 -- the key of the clustered index: its columns, or the hidden row id
 abbrev pub clustered_key : TableDef → List Field
-clustered_key table =
-    if length (clustered_positions table) == 0 then row_id_field ∷ [] else kept_fields table (clustered_positions table)
+clustered_key table = row_key table.columns (clustered_positions table) (clustered_positions table)
 
 -- what a secondary entry keeps of the clustered key
 abbrev pub row_reference : TableDef → List ℕ → List Field
-row_reference table positions =
-    if length (clustered_positions table) == 0 then row_id_field ∷ []
-    else kept_fields table (positions_without (clustered_positions table) positions)
+row_reference table positions = row_key table.columns (clustered_positions table) (positions_without (clustered_positions table) positions)
 
--- the fields of a clustered leaf record
-unfoldable pub clustered_fields : TableDef → List Field
-clustered_fields table =
-    clustered_key table ++ trx_id_field ∷ roll_pointer_field
-    ∷ map leaving_field (columns_at table (positions_without (range_with_len 0 (length table.columns)) (clustered_positions table)))
+-- what follows the key in a clustered leaf record
+abbrev pub clustered_rest : TableDef → List Field
+clustered_rest table = trx_id_field ∷ roll_pointer_field ∷ leaving_at table.columns (other_positions table)
 
 -- the fields of a secondary entry
-unfoldable pub secondary_fields : TableDef → List ℕ → List Field
+abbrev pub secondary_fields : TableDef → List ℕ → List Field
 secondary_fields table positions = kept_fields table positions ++ row_reference table positions
+
+-- the key of index j, all fields of a secondary one, and what follows the key in its leaf records
+abbrev pub key_fields : TableDef → ℕ → List Field
+key_fields table j = if j == 0 then clustered_key table else secondary_fields table (index_at table j).columns
+
+abbrev pub rest_fields : TableDef → ℕ → List Field
+rest_fields table j = if j == 0 then clustered_rest table else []
 
 -- the fields of the leaf records of index j
 unfoldable pub leaf_fields : TableDef → ℕ → Fields
 leaf_fields table j =
-    if j == 0
-    then record { fields = clustered_fields table; nullable = nullable_count (clustered_fields table); keys = length (clustered_key table) }
-    else (let list = secondary_fields table (index_at table j).columns in
-    record { fields = list; nullable = nullable_count list; keys = length list })
+    let list = key_fields table j ++ rest_fields table j in
+    record { fields = list; nullable = nullable_count list; keys = length (key_fields table j) }
 
 -- the fields of its node pointers: the key and the child page
 unfoldable pub node_fields : TableDef → ℕ → Fields
-node_fields table j =
-    let key = if j == 0 then clustered_key table else secondary_fields table (index_at table j).columns in
-    record { fields = key ++ child_field ∷ []; nullable = (leaf_fields table j).nullable; keys = length key }
+node_fields table j = record {
+  fields = key_fields table j ++ child_field ∷ [];
+  nullable = nullable_count (key_fields table j ++ rest_fields table j);
+  keys = length (key_fields table j);
+}
 
 abbrev pub index_fields : TableDef → ℕ → Bool → Fields
 index_fields table j true = leaf_fields table j
 index_fields table j false = node_fields table j
 
 -- the place of a column among the fields of a clustered leaf record
-abbrev pub other_positions : TableDef → List ℕ
-other_positions table = positions_without (range_with_len 0 (length table.columns)) (clustered_positions table)
-
 unfoldable pub field_of_column : TableDef → ℕ → ℕ
 field_of_column table column =
     if list_any (λ i. i == column) (clustered_positions table)

@@ -3,6 +3,7 @@
 
 mod checks;
 mod errors;
+mod fields;
 mod first;
 mod keys;
 mod line;
@@ -10,6 +11,8 @@ mod lines;
 mod names;
 mod part;
 mod read;
+#[cfg(test)]
+mod refusals;
 mod table;
 #[cfg(test)]
 mod tests;

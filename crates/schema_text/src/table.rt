@@ -65,7 +65,7 @@ pub struct IndexDef {
 /// The schema of a table: its columns, and its indexes, the clustered one first.
 #[derive(Debug, Drop)]
 pub struct Schema {
-    table: ByteList,
+    pub(crate) table: ByteList,
     format: Format,
     columns: Vec<Column>,
     indexes: Vec<IndexDef>,
