@@ -1,5 +1,4 @@
 pub mod CrcLemmas
-pub mod Bytes
 pub mod Sealed
 pub mod Linear
 pub mod States

@@ -1,0 +1,4 @@
+pub mod Header
+pub mod Writing
+pub mod Linked
+pub mod Laws

@@ -1,0 +1,111 @@
+//! The space header (fsp_header_t, fsp0fsp).
+
+use crate::address::{Base, put_base, read_base};
+use page_source::{PAGE_SIZE, Page, read_be, write_be};
+
+// The places of the fields on page 0, with their names in fsp0fsp.h.
+
+/// FSP_SPACE_ID, 4 bytes.
+const SPACE: usize = 38;
+
+/// FSP_SIZE, 4 bytes.
+const SIZE: usize = 46;
+
+/// FSP_FREE_LIMIT, 4 bytes.
+const LIMIT: usize = 50;
+
+/// FSP_SPACE_FLAGS, 4 bytes.
+const FLAGS: usize = 54;
+
+/// FSP_FRAG_N_USED, 4 bytes.
+const FRAG_USED: usize = 58;
+
+/// FSP_FREE, a list base.
+const FREE: usize = 62;
+
+/// FSP_FREE_FRAG, a list base.
+const FREE_FRAG: usize = 78;
+
+/// FSP_FULL_FRAG, a list base.
+const FULL_FRAG: usize = 94;
+
+/// FSP_SEG_ID, 8 bytes.
+const NEXT_SEGMENT: usize = 110;
+
+/// FSP_SEG_INODES_FULL, a list base.
+const INODES_FULL: usize = 118;
+
+/// FSP_SEG_INODES_FREE, a list base.
+const INODES_FREE: usize = 134;
+
+/// The space header on page 0.
+#[derive(Clone, Copy, Debug, PartialEq, Eq)]
+pub struct SpaceHeader {
+    /// The space id.
+    pub space: u32,
+    /// The size in pages.
+    pub size: u32,
+    /// The free limit: pages from here on were never used.
+    pub limit: u32,
+    /// The flags: 33 for DYNAMIC, 0 for COMPACT; 1024 more for a table with DATA DIRECTORY.
+    pub flags: u32,
+    /// The number of used pages of the extents on FREE_FRAG.
+    pub frag_used: u32,
+    /// The id that the next segment gets.
+    pub next_segment: u64,
+    /// FREE: extents without a used page.
+    pub free: Base,
+    /// FREE_FRAG: fragment extents with some used pages.
+    pub free_frag: Base,
+    /// FULL_FRAG: fragment extents whose pages are all used.
+    pub full_frag: Base,
+    /// INODES_FULL: inode pages whose inodes are all used.
+    pub inodes_full: Base,
+    /// INODES_FREE: inode pages with a free inode.
+    pub inodes_free: Base,
+}
+
+impl SpaceHeader {
+    ghost use Rattle.std.specs.Prelude.{◌≡◌};
+    ghost use Rattle.space_header.specs.Header.{header_of};
+    ghost use Rattle.space_header.specs.Writing.{with_header};
+
+    /// The header of a page.
+    #[tactic(auto, unfolding(crate::specs::Header::header_of))]
+    pub fn read(page: &Page) -> SpaceHeader
+        ensures { result ≡ header_of page.now }
+    {
+        SpaceHeader {
+            space: read_be::<4>(page, SPACE) as u32,
+            size: read_be::<4>(page, SIZE) as u32,
+            limit: read_be::<4>(page, LIMIT) as u32,
+            flags: read_be::<4>(page, FLAGS) as u32,
+            frag_used: read_be::<4>(page, FRAG_USED) as u32,
+            next_segment: read_be::<8>(page, NEXT_SEGMENT),
+            free: read_base(page, FREE),
+            free_frag: read_base(page, FREE_FRAG),
+            full_frag: read_base(page, FULL_FRAG),
+            inodes_full: read_base(page, INODES_FULL),
+            inodes_free: read_base(page, INODES_FREE),
+        }
+    }
+
+    /// Makes this the header of a page. The other bytes stay.
+    pub fn write(&self, page: &mut Page)
+        ensures exact { page.new ≡ with_header page.old self.now }
+        ensures read { header_of page.new ≡ self.now }
+    {
+        prove!(page.bytes().len() == PAGE_SIZE);
+        write_be::<4>(page, SPACE, u64::from(self.space));
+        write_be::<4>(page, SIZE, u64::from(self.size));
+        write_be::<4>(page, LIMIT, u64::from(self.limit));
+        write_be::<4>(page, FLAGS, u64::from(self.flags));
+        write_be::<4>(page, FRAG_USED, u64::from(self.frag_used));
+        put_base(page, FREE, &self.free);
+        put_base(page, FREE_FRAG, &self.free_frag);
+        put_base(page, FULL_FRAG, &self.full_frag);
+        write_be::<8>(page, NEXT_SEGMENT, self.next_segment);
+        put_base(page, INODES_FULL, &self.inodes_full);
+        put_base(page, INODES_FREE, &self.inodes_free);
+    }
+}
