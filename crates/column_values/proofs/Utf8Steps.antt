@@ -9,7 +9,7 @@ use Rattle.column_values.specs.declared.utf8.Joined.{Joined}
 use Rattle.column_values.specs.declared.utf8.Progress.{Progress}
 use Rattle.column_values.specs.declared.utf8.Joined.TheVariants.{Whole, Front, Neither}
 use Rattle.column_values.specs.Characters.{IsCharacter, HasCharacters, IsTextUpTo}
-use Rattle.column_values.specs.Utf8Reader.{State, Bad, Good, Reader, Any, Limited, IsPending, IsCut, StandsFor, WasFed, Feeds, CountsUpTo, IsAtEnd, TakesText}
+use Rattle.column_values.specs.Utf8Reader.{State, Bad, Good, Reader, Any, Limited, IsPending, IsCut, StandsFor, WasFed, Feeds, CountsUpTo, CanFeed, IsAtEnd, TakesText}
 use Rattle.column_values.specs.Utf8View.{pending_bytes, state_of, reader_of, IsFront, Joins, state_after, StepsTo, CanStep}
 use Rattle.column_values.proofs.Utf8Texts.{before, same_cut, front_pending}
 
@@ -152,3 +152,9 @@ pub counts_view : (most n : ℕ) (limit : Option ℕ) (old new : Progress) → (
     → CountsUpTo most (reader_of limit old) → CountsUpTo (most + n) (reader_of limit new)
 counts_view most n None old new few low = tt
 counts_view most n (Some limit) old new few low = up_to_counts (most + n) limit (state_of new) (few most (counts_up_to most limit (state_of old) low))
+
+-- so many bytes more can be read where the number of characters is bounded
+pub can_feed : (most more : ℕ) (reader : Reader) → CountsUpTo most reader → most + more ≤ 8589934591 → CanFeed reader more
+can_feed most more Any low room = tt
+can_feed most more (Limited limit Bad) low room = tt
+can_feed most more (Limited limit (Good count pending)) low room = omega arith

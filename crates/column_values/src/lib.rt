@@ -12,6 +12,8 @@ pub mod laws;
 mod lengths;
 mod moments;
 mod order;
+#[cfg(test)]
+mod tests;
 mod texts;
 mod utf8;
 mod value;
