@@ -15,3 +15,4 @@ pub mod ReadLemmas
 pub mod TextLemmas
 pub mod ReadingLemmas
 pub mod FieldLemmas
+pub mod PrintLemmas

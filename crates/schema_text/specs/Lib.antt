@@ -6,4 +6,5 @@ pub mod Cuts
 pub mod Parts
 pub mod Refusals
 pub mod IndexFields
+pub mod Printing
 pub mod Laws

@@ -6,10 +6,12 @@ mod errors;
 mod fields;
 mod first;
 mod keys;
+pub mod laws;
 mod line;
 mod lines;
 mod names;
 mod part;
+mod print;
 mod read;
 #[cfg(test)]
 mod refusals;
