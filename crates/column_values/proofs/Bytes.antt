@@ -40,7 +40,8 @@ same_row x y k a b h =
     ]
 
 -- two numbers of two digits each, in any base
-pub cmp-digits : (x y k a b : ℕ) → a < k → b < k → nat_cmp (x * k + a) (y * k + b) ≡ ordering_then (nat_cmp x y) (nat_cmp a b)
+pub cmp-digits : (x y k a b : ℕ) → a < k → b < k → nat_cmp (x * k + a) (y * k + b) ≡ ordering_then (nat_cmp x y)
+    (nat_cmp a b)
 cmp-digits x y k a b h g =
     elim (cases_order x y) [
       | inl same ↦ rw (cmp-equal x y same) (same_row x y k a b same)
@@ -57,7 +58,8 @@ worth (x ∷ xs) = x * 256 ^ length xs + worth xs
 
 worth_from : (xs : List ℕ) → big_from 0 (length xs) xs ≡ worth xs
 worth_from [] = refl
-worth_from (x ∷ xs) = let rest = worth_from xs in let next = big_from-cons 0 (length xs) x xs in omega (arith, rest, next)
+worth_from (x ∷ xs) = let rest = worth_from xs in let next = big_from-cons 0 (length xs) x xs in
+    omega (arith, rest, next)
 
 pub num-worth : (w : ℕ) (xs : List ℕ) → length xs ≡ w → num xs 0 w ≡ worth xs
 num-worth w xs size = num-is_big xs 0 w ∙ rw (← size) (worth_from xs)
@@ -71,7 +73,8 @@ worth-lt (x ∷ xs) bytes =
     rw (pow-suc 256 (length xs)) (omega (arith, whole, rest))
 
 -- lists of bytes of one length order as their numbers do
-pub worth_orders : (xs ys : List ℕ) → length xs ≡ length ys → AreBytes xs → AreBytes ys → bytes_cmp xs ys ≡ nat_cmp (worth xs) (worth ys)
+pub worth_orders : (xs ys : List ℕ) → length xs ≡ length ys → AreBytes xs → AreBytes ys
+    → bytes_cmp xs ys ≡ nat_cmp (worth xs) (worth ys)
 worth_orders [] [] size first second = refl
 worth_orders [] (y ∷ ys) size first second = absurd (omega arith)
 worth_orders (x ∷ xs) [] size first second = absurd (omega arith)
@@ -103,14 +106,16 @@ num-be_bytes w n rest fits = num-is_big (be_bytes w n ++ rest) 0 w ∙ big_numbe
 
 pub worth-be_bytes : (w n : ℕ) → n < 256 ^ w → worth (be_bytes w n) ≡ n
 worth-be_bytes w n fits =
-    sym (num-worth w (be_bytes w n) (length-bytes_high_first w n)) ∙ ap (λ (x : List ℕ). num x 0 w) (sym (append-nil (be_bytes w n))) ∙ num-be_bytes w n [] fits
+    sym (num-worth w (be_bytes w n) (length-bytes_high_first w n))
+    ∙ ap (λ (x : List ℕ). num x 0 w) (sym (append-nil (be_bytes w n))) ∙ num-be_bytes w n [] fits
 
 -- what was read is written
 pub be_bytes-num : (w : ℕ) (xs : List ℕ) → length xs ≡ w → AreBytes xs → be_bytes w (num xs 0 w) ≡ xs
 be_bytes-num w xs size bytes =
     let n = num-worth w xs size in
     let fits : worth xs < 256 ^ w = rw (← size) (worth-lt xs bytes) in
-    rw n (same_worth (be_bytes w (worth xs)) xs (length-bytes_high_first w (worth xs) ∙ sym size) (are_be_bytes w (worth xs)) bytes (worth-be_bytes w (worth xs) fits))
+    rw n (same_worth (be_bytes w (worth xs)) xs (length-bytes_high_first w (worth xs)
+    ∙ sym size) (are_be_bytes w (worth xs)) bytes (worth-be_bytes w (worth xs) fits))
 
 pub num-take : (w : ℕ) (xs : List ℕ) → num (take w xs) 0 w ≡ num xs 0 w
 num-take w xs =
@@ -120,7 +125,8 @@ num-take w xs =
 -- a front of so many bytes
 pub be_bytes-front : (w : ℕ) (xs : List ℕ) → w ≤ length xs → AreBytes xs → be_bytes w (num xs 0 w) ≡ take w xs
 be_bytes-front w xs long bytes =
-    rw (← num-take w xs) (be_bytes-num w (take w xs) (length-take-le w xs long) (All-take (λ (b : ℕ). b < 256) w xs bytes))
+    rw (← num-take w xs) (be_bytes-num w (take w xs) (length-take-le w xs long)
+    (All-take (λ (b : ℕ). b < 256) w xs bytes))
 
 -- the bytes of a slice are bytes
 pub are_bytes : (xs : List ℕ) → ((k : ℕ) → slice_index xs k < 256) → AreBytes xs

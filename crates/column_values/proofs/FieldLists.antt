@@ -17,7 +17,8 @@ place_cases fields field i P old new none =
       | inl here ↦ subst P (sym (get_or_push fields.fields field d i (sym here))) (new here)
       | inr rest ↦ elim rest [
         | inl inside ↦ subst P (sym (get_or_append_left fields.fields (field ∷ []) d i inside)) (old inside)
-        | inr past ↦ subst P (sym (get_or_past (fields.fields ++ field ∷ []) i d (omega (arith, past, length-append fields.fields (field ∷ []))))) none
+        | inr past ↦ subst P (sym (get_or_past (fields.fields ++ field ∷ []) i d
+            (omega (arith, past, length-append fields.fields (field ∷ []))))) none
       ]
     ]
 
@@ -29,7 +30,8 @@ leaves_more fields field listed follow i =
     (λ here leaves. ((follow.leaving leaves).0, omega (arith, here, (follow.leaving leaves).1)))
     (λ leaves. absurd (false≢true leaves))
 
-pub listed_more : (fields : Fields) (field : Field) → AreListed fields → CanFollow fields field → AreListed (with_field fields field)
+pub listed_more : (fields : Fields) (field : Field) → AreListed fields → CanFollow fields field
+    → AreListed (with_field fields field)
 listed_more fields field listed follow = record {
   few = omega (arith, length-append fields.fields (field ∷ []), follow.few);
   kinds = All-push (λ (f : Field). IsFieldKind f.kind) fields.fields field listed.kinds follow.kind;

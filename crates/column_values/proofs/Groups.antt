@@ -44,13 +44,15 @@ pub length-grouped : (groups : List ℕ) (n : ℕ) → length (grouped groups n)
 length-grouped [] n = refl
 length-grouped (d ∷ groups) n =
     length-append (be_bytes (group_length d) (n / 10 ^ sum groups)) (grouped groups (n % 10 ^ sum groups))
-    ∙ (λ i. length-bytes_high_first (group_length d) (n / 10 ^ sum groups) i + length-grouped groups (n % 10 ^ sum groups) i)
+    ∙ (λ i. length-bytes_high_first (group_length d) (n / 10 ^ sum groups) i + length-grouped groups
+    (n % 10 ^ sum groups) i)
     ∙ sym (sum_by-cons group_length d groups)
 
 pub are_grouped : (groups : List ℕ) (n : ℕ) → AreBytes (grouped groups n)
 are_grouped [] n = All-nil (λ (b : ℕ). b < 256)
 are_grouped (d ∷ groups) n =
-    All-append (λ (b : ℕ). b < 256) (be_bytes (group_length d) (n / 10 ^ sum groups)) (grouped groups (n % 10 ^ sum groups))
+    All-append (λ (b : ℕ). b < 256) (be_bytes (group_length d) (n / 10 ^ sum groups))
+    (grouped groups (n % 10 ^ sum groups))
     (are_be_bytes (group_length d) (n / 10 ^ sum groups)) (are_grouped groups (n % 10 ^ sum groups))
 
 pub some_power : (n : ℕ) → 1 ≤ 10 ^ n
@@ -68,22 +70,28 @@ parted : (u n a b : ℕ) → 1 ≤ b → (u * a + n / b) * b + n % b ≡ u * (a 
 parted u n a b some = let e = div-add-mod' n b in omega (arith, e)
 
 -- what was written is read
-pub ungrouped-grouped : (groups : List ℕ) (units n : ℕ) → Few groups → n < 10 ^ sum groups → ungrouped groups units (grouped groups n) ≡ Some (units * 10 ^ sum groups + n)
+pub ungrouped-grouped : (groups : List ℕ) (units n : ℕ) → Few groups → n < 10 ^ sum groups
+    → ungrouped groups units (grouped groups n) ≡ Some (units * 10 ^ sum groups + n)
 ungrouped-grouped [] units n few low = ap Some (omega arith)
 ungrouped-grouped (d ∷ groups) units n few low =
     let p : ℕ = 10 ^ sum groups in
     let w : ℕ = group_length d in
     let some : 1 ≤ p = some_power (sum groups) in
-    let total : 10 ^ sum (d ∷ groups) ≡ 10 ^ d * p = ap (λ (k : ℕ). 10 ^ k) (sum_by-cons (λ (x : ℕ). x) d groups) ∙ pow-add 10 d (sum groups) in
+    let total : 10 ^ sum (d ∷ groups) ≡ 10 ^ d * p = ap (λ (k : ℕ). 10 ^ k) (sum_by-cons (λ (x : ℕ). x) d groups)
+    ∙ pow-add 10 d (sum groups) in
     let small : n < 10 ^ d * p = subst (λ (k : ℕ). n < k) total low in
     let first : n / p < 10 ^ d = first_digits d n p some small in
     let few_d : d ≤ 9 = All-head (λ (x : ℕ). x ≤ 9) d groups few in
     let fits : n / p < 256 ^ w = omega (arith, group_fits d few_d) in
-    let number : num (be_bytes w (n / p) ++ grouped groups (n % p)) 0 w ≡ n / p = num-be_bytes w (n / p) (grouped groups (n % p)) fits in
-    let dropped : drop w (be_bytes w (n / p) ++ grouped groups (n % p)) ≡ grouped groups (n % p) = drop_at (be_bytes w (n / p)) (grouped groups (n % p)) w (length-bytes_high_first w (n / p)) in
+    let number : num (be_bytes w (n / p) ++ grouped groups (n % p)) 0 w ≡ n / p =
+    num-be_bytes w (n / p) (grouped groups (n % p)) fits in
+    let dropped : drop w (be_bytes w (n / p) ++ grouped groups (n % p)) ≡ grouped groups (n % p) =
+    drop_at (be_bytes w (n / p)) (grouped groups (n % p)) w (length-bytes_high_first w (n / p)) in
     let test : nat_lt (n / p) (10 ^ d) ≡ true = lt-ltb (n / p) (10 ^ d) first in
-    let rest = ungrouped-grouped groups (units * 10 ^ d + n / p) (n % p) (All-tail (λ (x : ℕ). x ≤ 9) d groups few) (last_digits n p some) in
-    rw (number, test, dropped) (rest ∙ ap Some (parted units n (10 ^ d) p some ∙ ap (λ (k : ℕ). units * k + n) (sym total)))
+    let rest = ungrouped-grouped groups (units * 10 ^ d + n / p) (n % p) (All-tail (λ (x : ℕ). x ≤ 9) d groups few)
+    (last_digits n p some) in
+    rw (number, test, dropped) (rest ∙ ap Some (parted units n (10 ^ d) p some
+    ∙ ap (λ (k : ℕ). units * k + n) (sym total)))
 
 some_is : (a b : ℕ) → Some a ≡ Some b → a ≡ b
 some_is a b e = cc e
@@ -100,31 +108,52 @@ mod_parts v p m low = mul-add-mod_self_right v p m ∙ mod-eq_of_lt low
 
 -- the groups of this number, from their place among the bytes on
 abbrev IsReadAs : List ℕ → ℕ → ℕ → List ℕ → Type 0
-IsReadAs groups units n bytes = (m : ℕ) × (m < 10 ^ sum groups) × (n ≡ units * 10 ^ sum groups + m) × (bytes ≡ grouped groups m)
+IsReadAs groups units n bytes = (m : ℕ) × (m < 10 ^ sum groups) × (n ≡ units * 10 ^ sum groups + m) ×
+    (bytes ≡ grouped groups m)
 
-group_read : (d : ℕ) (groups : List ℕ) (units n : ℕ) (bytes : List ℕ) → AreBytes bytes → length bytes ≡ sum_by group_length (d ∷ groups)
-    → num bytes 0 (group_length d) < 10 ^ d → IsReadAs groups (units * 10 ^ d + num bytes 0 (group_length d)) n (drop (group_length d) bytes) → IsReadAs (d ∷ groups) units n bytes
+group_read : (d : ℕ) (groups : List ℕ) (units n : ℕ) (bytes : List ℕ) → AreBytes bytes
+    → length bytes ≡ sum_by group_length (d ∷ groups)
+    → num bytes 0 (group_length d) < 10 ^ d → IsReadAs groups (units * 10 ^ d + num bytes 0 (group_length d)) n
+    (drop (group_length d) bytes) → IsReadAs (d ∷ groups) units n bytes
 group_read d groups units n bytes are size low (m, m_low, n_is, rest_is) =
     let p : ℕ = 10 ^ sum groups in
     let w : ℕ = group_length d in
     let v : ℕ = num bytes 0 w in
-    let total : 10 ^ sum (d ∷ groups) ≡ 10 ^ d * p = ap (λ (k : ℕ). 10 ^ k) (sum_by-cons (λ (x : ℕ). x) d groups) ∙ pow-add 10 d (sum groups) in
+    let total : 10 ^ sum (d ∷ groups) ≡ 10 ^ d * p = ap (λ (k : ℕ). 10 ^ k) (sum_by-cons (λ (x : ℕ). x) d groups)
+    ∙ pow-add 10 d (sum groups) in
     let long : w ≤ length bytes = omega (arith, sum_by-cons group_length d groups) in
-    let whole : v * p + m < 10 ^ d * p = let rows : p * suc v ≤ p * 10 ^ d = mul-le-mul_left p low in omega (arith, rows) in
-    let first : be_bytes w ((v * p + m) / p) ≡ take w bytes = ap (be_bytes w) (div_parts v p m m_low) ∙ be_bytes-front w bytes long are in
-    let rest : grouped groups ((v * p + m) % p) ≡ drop w bytes = ap (grouped groups) (mod_parts v p m m_low) ∙ sym rest_is in
-    (v * p + m, subst (λ (k : ℕ). v * p + m < k) (sym total) whole, rw total (omega (arith, n_is)), sym (take-append-drop w bytes) ∙ sym (λ i. first i ++ rest i))
+    let whole : v * p + m < 10 ^ d * p = let rows : p * suc v ≤ p * 10 ^ d = mul-le-mul_left p low in
+    omega (arith, rows) in
+    let first : be_bytes w ((v * p + m) / p) ≡ take w bytes = ap (be_bytes w) (div_parts v p m m_low)
+    ∙ be_bytes-front w bytes long are in
+    let rest : grouped groups ((v * p + m) % p) ≡ drop w bytes = ap (grouped groups) (mod_parts v p m m_low)
+    ∙ sym rest_is in (
+      v * p + m,
+      subst (λ (k : ℕ). v * p + m < k) (sym total) whole,
+      rw total (omega (arith, n_is)),
+      sym (take-append-drop w bytes) ∙ sym (λ i. first i ++ rest i),
+    )
 
 -- what was read is written
-pub grouped-ungrouped : (groups : List ℕ) (units n : ℕ) (bytes : List ℕ) → AreBytes bytes → length bytes ≡ sum_by group_length groups
-    → ungrouped groups units bytes ≡ Some n → (m : ℕ) × (m < 10 ^ sum groups) × (n ≡ units * 10 ^ sum groups + m) × (bytes ≡ grouped groups m)
-grouped-ungrouped [] units n bytes are size is = (0, omega arith, omega (arith, some_is units n is), nothing_left bytes size)
+pub grouped-ungrouped : (groups : List ℕ) (units n : ℕ) (bytes : List ℕ) → AreBytes bytes
+    → length bytes ≡ sum_by group_length groups
+    → ungrouped groups units bytes ≡ Some n → (m : ℕ) × (m < 10 ^ sum groups) × (n ≡ units * 10 ^ sum groups + m) ×
+    (bytes ≡ grouped groups m)
+grouped-ungrouped [] units n bytes are size is = (
+  0,
+  omega arith,
+  omega (arith, some_is units n is),
+  nothing_left bytes size,
+)
 grouped-ungrouped (d ∷ groups) units n bytes are size is =
     elim (cases_lt (num bytes 0 (group_length d)) (10 ^ d)) [
       | inl low ↦ group_read d groups units n bytes are size low
-          (grouped-ungrouped groups (units * 10 ^ d + num bytes 0 (group_length d)) n (drop (group_length d) bytes) (All-drop (λ (b : ℕ). b < 256) (group_length d) bytes are)
-          (omega (arith, length-drop (group_length d) bytes, sum_by-cons group_length d groups)) (rw (lt-ltb (num bytes 0 (group_length d)) (10 ^ d) low) at is))
-      | inr high ↦ let none : ◌≡◌ {A = Option ℕ} None (Some n) = rw (le-ltb (num bytes 0 (group_length d)) (10 ^ d) high) at is in cc
+          (grouped-ungrouped groups (units * 10 ^ d + num bytes 0 (group_length d)) n (drop (group_length d) bytes)
+          (All-drop (λ (b : ℕ). b < 256) (group_length d) bytes are)
+          (omega (arith, length-drop (group_length d) bytes, sum_by-cons group_length d groups))
+          (rw (lt-ltb (num bytes 0 (group_length d)) (10 ^ d) low) at is))
+      | inr high ↦ let none : ◌≡◌ {A = Option ℕ} None (Some n) =
+          rw (le-ltb (num bytes 0 (group_length d)) (10 ^ d) high) at is in cc
     ]
 
 -- the groups of a decimal
@@ -132,7 +161,8 @@ pub few_groups : (p s : ℕ) → Few (decimal_groups p s)
 few_groups p s =
     All-append (λ (d : ℕ). d ≤ 9) ((p - s) % 9 ∷ replicate ((p - s) / 9) 9 ++ replicate (s / 9) 9) (s % 9 ∷ [])
     (All-append (λ (d : ℕ). d ≤ 9) ((p - s) % 9 ∷ replicate ((p - s) / 9) 9) (replicate (s / 9) 9)
-    (All-cons (λ (d : ℕ). d ≤ 9) ((p - s) % 9) (replicate ((p - s) / 9) 9) (omega arith) (All-replicate (λ (d : ℕ). d ≤ 9) ((p - s) / 9) 9 (omega arith)))
+    (All-cons (λ (d : ℕ). d ≤ 9) ((p - s) % 9) (replicate ((p - s) / 9) 9) (omega arith)
+    (All-replicate (λ (d : ℕ). d ≤ 9) ((p - s) / 9) 9 (omega arith)))
     (All-replicate (λ (d : ℕ). d ≤ 9) (s / 9) 9 (omega arith)))
     (All-cons (λ (d : ℕ). d ≤ 9) (s % 9) [] (omega arith) (All-nil (λ (d : ℕ). d ≤ 9)))
 
@@ -149,9 +179,11 @@ sum-groups p s within =
     omega (arith, one, two, three, four, sum_by-replicate f ((p - s) / 9) 9, sum_by-replicate f (s / 9) 9)
 
 -- sums over the groups up to a place, and from it on
-pub sum_take : (f : ℕ → ℕ) (xs : List ℕ) (i : ℕ) → i < length xs → sum_by f (take (i + 1) xs) ≡ sum_by f (take i xs) + f (slice_index xs i)
+pub sum_take : (f : ℕ → ℕ) (xs : List ℕ) (i : ℕ) → i < length xs
+    → sum_by f (take (i + 1) xs) ≡ sum_by f (take i xs) + f (slice_index xs i)
 sum_take f xs i below =
-    ap (sum_by f) (take_more xs i 0 below) ∙ sum_by-append f (take i xs) (slice_index xs i ∷ []) ∙ ap (λ (n : ℕ). sum_by f (take i xs) + n) (one f (slice_index xs i))
+    ap (sum_by f) (take_more xs i 0 below) ∙ sum_by-append f (take i xs) (slice_index xs i ∷ [])
+    ∙ ap (λ (n : ℕ). sum_by f (take i xs) + n) (one f (slice_index xs i))
   where
     one : (f : ℕ → ℕ) (x : ℕ) → sum_by f (x ∷ []) ≡ f x
     one f x = omega (arith, sum_by-cons f x [])
@@ -159,7 +191,8 @@ sum_take f xs i below =
 pub rest_from : (xs : List ℕ) (i : ℕ) → i < length xs → drop i xs ≡ slice_index xs i ∷ drop (i + 1) xs
 rest_from xs i below = rw add-one (drop-cons xs i 0 below)
 
-pub sum_drop : (f : ℕ → ℕ) (xs : List ℕ) (i : ℕ) → i < length xs → sum_by f (drop i xs) ≡ f (slice_index xs i) + sum_by f (drop (i + 1) xs)
+pub sum_drop : (f : ℕ → ℕ) (xs : List ℕ) (i : ℕ) → i < length xs
+    → sum_by f (drop i xs) ≡ f (slice_index xs i) + sum_by f (drop (i + 1) xs)
 sum_drop f xs i below = ap (sum_by f) (rest_from xs i below) ∙ sum_by-cons f (slice_index xs i) (drop (i + 1) xs)
 
 pub sum_whole : (f : ℕ → ℕ) (xs : List ℕ) (i : ℕ) → sum_by f (take i xs) + sum_by f (drop i xs) ≡ sum_by f xs
@@ -169,19 +202,25 @@ num-drop : (w at : ℕ) (xs : List ℕ) → num (drop at xs) 0 w ≡ num xs at w
 num-drop w at xs = num-is_big (drop at xs) 0 w ∙ sym (num-is_big xs at w)
 
 -- a group was read
-pub units_step : (groups : List ℕ) (i at digits width number units : ℕ) (plain : List ℕ) → i < length groups → digits ≡ slice_index groups i → width ≡ group_length digits
+pub units_step : (groups : List ℕ) (i at digits width number units : ℕ) (plain : List ℕ) → i < length groups
+    → digits ≡ slice_index groups i → width ≡ group_length digits
     → number ≡ num plain at width → number < 10 ^ digits
-    → ungrouped (drop i groups) units (drop at plain) ≡ ungrouped (drop (i + 1) groups) (units * 10 ^ digits + number) (drop (at + width) plain)
+    → ungrouped (drop i groups) units (drop at plain) ≡ ungrouped (drop (i + 1) groups)
+    (units * 10 ^ digits + number) (drop (at + width) plain)
 units_step groups i at digits width number units plain below digit wide is low =
-    let here : num (drop at plain) 0 (group_length digits) ≡ number = num-drop (group_length digits) at plain ∙ rw (← wide) (sym is) in
-    let onward : drop (group_length digits) (drop at plain) ≡ drop (at + width) plain = rw (← wide) (drop-drop width at plain) in
+    let here : num (drop at plain) 0 (group_length digits) ≡ number = num-drop (group_length digits) at plain
+    ∙ rw (← wide) (sym is) in
+    let onward : drop (group_length digits) (drop at plain) ≡ drop (at + width) plain =
+    rw (← wide) (drop-drop width at plain) in
     rw (rest_from groups i below, ← digit, here, lt-ltb number (10 ^ digits) low, onward) refl
 
 -- or it was too great
-pub units_stop : (groups : List ℕ) (i at digits width number units : ℕ) (plain : List ℕ) → i < length groups → digits ≡ slice_index groups i → width ≡ group_length digits
+pub units_stop : (groups : List ℕ) (i at digits width number units : ℕ) (plain : List ℕ) → i < length groups
+    → digits ≡ slice_index groups i → width ≡ group_length digits
     → number ≡ num plain at width → 10 ^ digits ≤ number → ungrouped (drop i groups) units (drop at plain) ≡ None
 units_stop groups i at digits width number units plain below digit wide is high =
-    let here : num (drop at plain) 0 (group_length digits) ≡ number = num-drop (group_length digits) at plain ∙ rw (← wide) (sym is) in
+    let here : num (drop at plain) 0 (group_length digits) ≡ number = num-drop (group_length digits) at plain
+    ∙ rw (← wide) (sym is) in
     rw (rest_from groups i below, ← digit, here, le-ltb number (10 ^ digits) high) refl
 
 -- what is read so far stays below its digits
@@ -202,12 +241,15 @@ pub sum_most : (f : ℕ → ℕ) (xs : List ℕ) (i : ℕ) → sum_by f (take i 
 sum_most f xs i = omega (arith, sum_whole f xs i)
 
 -- a group that is written
-pub grouped_step : (groups : List ℕ) (i digits rest left : ℕ) → i < length groups → digits ≡ slice_index groups i → left ≡ sum (drop (i + 1) groups)
-    → grouped (drop i groups) rest ≡ be_bytes (group_length digits) (rest / 10 ^ left) ++ grouped (drop (i + 1) groups) (rest % 10 ^ left)
+pub grouped_step : (groups : List ℕ) (i digits rest left : ℕ) → i < length groups → digits ≡ slice_index groups i
+    → left ≡ sum (drop (i + 1) groups)
+    → grouped (drop i groups) rest ≡ be_bytes (group_length digits) (rest / 10 ^ left) ++ grouped
+    (drop (i + 1) groups) (rest % 10 ^ left)
 grouped_step groups i digits rest left below digit is = rw (rest_from groups i below, ← digit, is) refl
 
 -- the first byte of a group has its top bit clear
-top_low : (d q : ℕ) (rest : List ℕ) → 1 ≤ d → d ≤ 9 → q < 10 ^ d → slice_index (be_bytes (group_length d) q ++ rest) 0 < 128
+top_low : (d q : ℕ) (rest : List ℕ) → 1 ≤ d → d ≤ 9 → q < 10 ^ d
+    → slice_index (be_bytes (group_length d) q ++ rest) 0 < 128
 top_low zero q rest some h low = absurd (omega arith)
 top_low (suc zero) q rest some h low = omega arith
 top_low (suc (suc zero)) q rest some h low = omega arith
@@ -224,14 +266,18 @@ pub grouped_head : (groups : List ℕ) (n : ℕ) → Few groups → n < 10 ^ sum
 grouped_head [] n few low = omega arith
 grouped_head (zero ∷ groups) n few low =
     let p : ℕ = 10 ^ sum groups in
-    grouped_head groups (n % p) (All-tail (λ (x : ℕ). x ≤ 9) zero groups few) (last_digits n p (some_power (sum groups)))
+    grouped_head groups (n % p) (All-tail (λ (x : ℕ). x ≤ 9) zero groups few)
+    (last_digits n p (some_power (sum groups)))
 grouped_head (suc d ∷ groups) n few low =
     let p : ℕ = 10 ^ sum groups in
-    let total : 10 ^ sum (suc d ∷ groups) ≡ 10 ^ suc d * p = ap (λ (k : ℕ). 10 ^ k) (sum_by-cons (λ (x : ℕ). x) (suc d) groups) ∙ pow-add 10 (suc d) (sum groups) in
+    let total : 10 ^ sum (suc d ∷ groups) ≡ 10 ^ suc d * p =
+    ap (λ (k : ℕ). 10 ^ k) (sum_by-cons (λ (x : ℕ). x) (suc d) groups) ∙ pow-add 10 (suc d) (sum groups) in
     let small : n < 10 ^ suc d * p = subst (λ (k : ℕ). n < k) total low in
-    top_low (suc d) (n / p) (grouped groups (n % p)) (omega arith) (All-head (λ (x : ℕ). x ≤ 9) (suc d) groups few) (first_digits (suc d) n p (some_power (sum groups)) small)
+    top_low (suc d) (n / p) (grouped groups (n % p)) (omega arith) (All-head (λ (x : ℕ). x ≤ 9) (suc d) groups few)
+    (first_digits (suc d) n p (some_power (sum groups)) small)
 
 -- a number of one group more
 pub power_parts : (d : ℕ) (groups : List ℕ) (n : ℕ) → n < 10 ^ sum (d ∷ groups) → n < 10 ^ d * 10 ^ sum groups
 power_parts d groups n low =
-    subst (λ (k : ℕ). n < k) (ap (λ (k : ℕ). 10 ^ k) (sum_by-cons (λ (x : ℕ). x) d groups) ∙ pow-add 10 d (sum groups)) low
+    subst (λ (k : ℕ). n < k) (ap (λ (k : ℕ). 10 ^ k) (sum_by-cons (λ (x : ℕ). x) d groups)
+    ∙ pow-add 10 d (sum groups)) low

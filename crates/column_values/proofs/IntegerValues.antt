@@ -14,7 +14,8 @@ use Rattle.column_values.proofs.Numbers.{signed_range, whole_is_twice}
 
 -- the number of bytes is below their size
 pub num-below : (w : ℕ) (bytes : List ℕ) → length bytes ≡ w → AreBytes bytes → num bytes 0 w < 256 ^ w
-num-below w bytes size are = rw (num-worth w bytes size) (subst (λ (n : ℕ). worth bytes < 256 ^ n) size (worth-lt bytes are))
+num-below w bytes size are = rw (num-worth w bytes size)
+    (subst (λ (n : ℕ). worth bytes < 256 ^ n) size (worth-lt bytes are))
 
 -- a written number is read
 pub num-written : (w n : ℕ) → n < 256 ^ w → num (be_bytes w n) 0 w ≡ n
@@ -32,17 +33,28 @@ integer_in_range w false (values.Unsigned n) z some is (bytes, are, spell) =
 integer_in_range w true _ z some is (bytes, are, spell) = absurd spell
 integer_in_range w false _ z some is (bytes, are, spell) = absurd spell
 
-pub integer_spelled : (w : ℕ) (signed : Bool) (value : Value) (z : ℤ) (bytes : List ℕ) → IsNumberOf signed value (Some z)
+pub integer_spelled : (w : ℕ) (signed : Bool) (value : Value) (z : ℤ) (bytes : List ℕ)
+    → IsNumberOf signed value (Some z)
     → int_of signed w bytes ≡ z → bytes ≡ int_bytes signed w z → IsSpelled (types.Int w signed) value bytes
 integer_spelled w true (values.Signed y) z bytes is read wrote =
     let e : y ≡ z = cc is in
     let n : ℕ = nat_abs (z +ℤ pos (2 ^ (8 * w - 1))) in
-    rw e (record { are_bytes = rw wrote (are_be_bytes w n); spell = (rw wrote (length-bytes_high_first w n), sym read); same = wrote })
+    rw e (record {
+      are_bytes = rw wrote (are_be_bytes w n);
+      spell =
+          (rw wrote (length-bytes_high_first w n), sym read);
+      same = wrote;
+    })
 integer_spelled w false (values.Unsigned n) z bytes is read wrote =
     let e : z ≡ pos n = cc is in
     let same : bytes ≡ be_bytes w n = rw e at wrote in
     let number : pos (num bytes 0 w) ≡ pos n = read ∙ e in
-    record { are_bytes = rw same (are_be_bytes w n); spell = (rw same (length-bytes_high_first w n), cc number); same = same }
+    record {
+      are_bytes = rw same (are_be_bytes w n);
+      spell =
+          (rw same (length-bytes_high_first w n), cc number);
+      same = same;
+    }
 integer_spelled w true _ z bytes is read wrote = cc is
 integer_spelled w false _ z bytes is read wrote = cc is
 
@@ -62,7 +74,8 @@ unsigned_written w z range =
     rw e (omega (arith, ints, range.0))
 
 -- a write that fills the whole room
-pub whole_write : (w n m : ℕ) (new old : List ℕ) → length old ≡ w → new ≡ be_bytes w n ++ drop w old → n ≡ m → new ≡ be_bytes w m
+pub whole_write : (w n m : ℕ) (new old : List ℕ) → length old ≡ w → new ≡ be_bytes w n ++ drop w old → n ≡ m
+    → new ≡ be_bytes w m
 whole_write w n m new old size wrote same =
     let none : drop w old ≡ [] = drop_all w old (omega arith) in
     rw (wrote, none, same) (append-nil (be_bytes w m))

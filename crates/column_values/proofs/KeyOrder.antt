@@ -25,11 +25,13 @@ same_end (x ∷ xs) (y ∷ ys) z h = ap (ordering_then (nat_cmp x y)) (same_end 
 filled_more : (a : List ℕ) (n more : ℕ) → length a ≤ n → filled a (n + more) ≡ filled a n ++ replicate more 32
 filled_more a n more within =
     let e : n + more - length a ≡ (n - length a) + more = omega arith in
-    let spaces : replicate ((n - length a) + more) 32 ≡ replicate (n - length a) 32 ++ replicate more 32 = sym (replicate-append-replicate {A = ℕ} (n - length a) more 32) in
+    let spaces : replicate ((n - length a) + more) 32 ≡ replicate (n - length a) 32 ++ replicate more 32 =
+    sym (replicate-append-replicate {A = ℕ} (n - length a) more 32) in
     rw (e, spaces) (sym (append_assoc a (replicate (n - length a) 32) (replicate more 32)))
 
 -- texts compare as if both were filled up to any length that holds both
-text_cmp_at : (a b : List ℕ) (n : ℕ) → max (length a) (length b) ≤ n → text_cmp a b ≡ bytes_cmp (filled a n) (filled b n)
+text_cmp_at : (a b : List ℕ) (n : ℕ) → max (length a) (length b) ≤ n
+    → text_cmp a b ≡ bytes_cmp (filled a n) (filled b n)
 text_cmp_at a b n within =
     let m : ℕ = max (length a) (length b) in
     let first : length b - length a ≡ m - length a = omega arith in
@@ -37,7 +39,8 @@ text_cmp_at a b n within =
     let e : n ≡ m + (n - m) = omega arith in
     rw (first, second)
     (rw (e, filled_more a m (n - m) (omega arith), filled_more b m (n - m) (omega arith))
-    (sym (same_end (filled a m) (filled b m) (replicate (n - m) 32) (omega (arith, length-filled a m, length-filled b m)))))
+    (sym (same_end (filled a m) (filled b m) (replicate (n - m) 32)
+    (omega (arith, length-filled a m, length-filled b m)))))
 
 -- an order that comes from lists as long as two at hand
 filled_total : (n : ℕ) → IsTotalOrder (on (λ (a : List ℕ). filled a n) (slice_cmp nat_cmp))
@@ -46,13 +49,15 @@ filled_total n = on_total (λ (a : List ℕ). filled a n) nat_list_cmp_total
 text_antisymm : (x y : List ℕ) → text_cmp x y ≡ ordering_reverse (text_cmp y x)
 text_antisymm x y =
     let n : ℕ = length x + length y in
-    text_cmp_at x y n (omega arith) ∙ (filled_total n).antisymm x y ∙ ap ordering_reverse (sym (text_cmp_at y x n (omega arith)))
+    text_cmp_at x y n (omega arith) ∙ (filled_total n).antisymm x y
+    ∙ ap ordering_reverse (sym (text_cmp_at y x n (omega arith)))
 
 text_trans : (x y z : List ℕ) → text_cmp x y ≡ Less → text_cmp y z ≡ Less → text_cmp x z ≡ Less
 text_trans x y z h g =
     let n : ℕ = length x + length y + length z in
     text_cmp_at x z n (omega arith)
-    ∙ (filled_total n).trans x y z (sym (text_cmp_at x y n (omega arith)) ∙ h) (sym (text_cmp_at y z n (omega arith)) ∙ g)
+    ∙ (filled_total n).trans x y z (sym (text_cmp_at x y n (omega arith)) ∙ h) (sym (text_cmp_at y z n (omega arith))
+    ∙ g)
 
 text_congr : (x y z : List ℕ) → text_cmp x y ≡ Equal → text_cmp x z ≡ text_cmp y z
 text_congr x y z h =
@@ -77,7 +82,8 @@ cell_antisymm kind None (Some y) = refl
 cell_antisymm kind (Some x) None = refl
 cell_antisymm kind (Some x) (Some y) = (field_total kind).antisymm x y
 
-cell_trans : (kind : FieldType) (x y z : Option (List ℕ)) → cell_cmp kind x y ≡ Less → cell_cmp kind y z ≡ Less → cell_cmp kind x z ≡ Less
+cell_trans : (kind : FieldType) (x y z : Option (List ℕ)) → cell_cmp kind x y ≡ Less → cell_cmp kind y z ≡ Less
+    → cell_cmp kind x z ≡ Less
 cell_trans kind None None z h g = g
 cell_trans kind None (Some y) None h g = cc
 cell_trans kind None (Some y) (Some z) h g = refl
@@ -85,7 +91,8 @@ cell_trans kind (Some x) None z h g = cc
 cell_trans kind (Some x) (Some y) None h g = cc
 cell_trans kind (Some x) (Some y) (Some z) h g = (field_total kind).trans x y z h g
 
-cell_congr : (kind : FieldType) (x y z : Option (List ℕ)) → cell_cmp kind x y ≡ Equal → cell_cmp kind x z ≡ cell_cmp kind y z
+cell_congr : (kind : FieldType) (x y z : Option (List ℕ)) → cell_cmp kind x y ≡ Equal
+    → cell_cmp kind x z ≡ cell_cmp kind y z
 cell_congr kind None None z h = refl
 cell_congr kind None (Some y) z h = cc
 cell_congr kind (Some x) None z h = cc
@@ -106,7 +113,8 @@ then_trans Equal Equal r a b c less first second rest h g = let e = first refl i
 then_trans Equal Greater r a b c less first second rest h g = cc
 then_trans Greater q r a b c less first second rest h g = cc
 
-then_congr : (p q r a b c : Ordering) → (p ≡ Equal → q ≡ r) → (a ≡ Equal → b ≡ c) → ordering_then p a ≡ Equal → ordering_then q b ≡ ordering_then r c
+then_congr : (p q r a b c : Ordering) → (p ≡ Equal → q ≡ r) → (a ≡ Equal → b ≡ c) → ordering_then p a ≡ Equal
+    → ordering_then q b ≡ ordering_then r c
 then_congr Less q r a b c first rest h = cc
 then_congr Equal q r a b c first rest h = rw (first refl, rest h) refl
 then_congr Greater q r a b c first rest h = cc
@@ -119,7 +127,8 @@ key_antisymm (kind ∷ kinds) (x ∷ xs) [] = refl
 key_antisymm (kind ∷ kinds) (x ∷ xs) (y ∷ ys) =
     rw (cell_antisymm kind x y, key_antisymm kinds xs ys) (then_flip (cell_cmp kind y x) (key_cmp kinds ys xs))
 
-key_trans : (kinds : List FieldType) (x y z : Key) → key_cmp kinds x y ≡ Less → key_cmp kinds y z ≡ Less → key_cmp kinds x z ≡ Less
+key_trans : (kinds : List FieldType) (x y z : Key) → key_cmp kinds x y ≡ Less → key_cmp kinds y z ≡ Less
+    → key_cmp kinds x z ≡ Less
 key_trans [] x y z h g = g
 key_trans (kind ∷ kinds) [] [] z h g = g
 key_trans (kind ∷ kinds) [] (y ∷ ys) [] h g = cc
@@ -127,8 +136,10 @@ key_trans (kind ∷ kinds) [] (y ∷ ys) (z ∷ zs) h g = refl
 key_trans (kind ∷ kinds) (x ∷ xs) [] z h g = cc
 key_trans (kind ∷ kinds) (x ∷ xs) (y ∷ ys) [] h g = cc
 key_trans (kind ∷ kinds) (x ∷ xs) (y ∷ ys) (z ∷ zs) h g =
-    then_trans (cell_cmp kind x y) (cell_cmp kind y z) (cell_cmp kind x z) (key_cmp kinds xs ys) (key_cmp kinds ys zs) (key_cmp kinds xs zs)
-    (cell_trans kind x y z) (cell_congr kind x y z) (λ e. sym (alike_right (cell_total kind) y z x e)) (key_trans kinds xs ys zs) h g
+    then_trans (cell_cmp kind x y) (cell_cmp kind y z) (cell_cmp kind x z) (key_cmp kinds xs ys)
+    (key_cmp kinds ys zs) (key_cmp kinds xs zs)
+    (cell_trans kind x y z) (cell_congr kind x y z) (λ e. sym (alike_right (cell_total kind) y z x e))
+    (key_trans kinds xs ys zs) h g
 
 key_congr : (kinds : List FieldType) (x y z : Key) → key_cmp kinds x y ≡ Equal → key_cmp kinds x z ≡ key_cmp kinds y z
 key_congr [] x y z h = refl
@@ -137,7 +148,8 @@ key_congr (kind ∷ kinds) [] (y ∷ ys) z h = cc
 key_congr (kind ∷ kinds) (x ∷ xs) [] z h = cc
 key_congr (kind ∷ kinds) (x ∷ xs) (y ∷ ys) [] h = refl
 key_congr (kind ∷ kinds) (x ∷ xs) (y ∷ ys) (z ∷ zs) h =
-    then_congr (cell_cmp kind x y) (cell_cmp kind x z) (cell_cmp kind y z) (key_cmp kinds xs ys) (key_cmp kinds xs zs) (key_cmp kinds ys zs)
+    then_congr (cell_cmp kind x y) (cell_cmp kind x z) (cell_cmp kind y z) (key_cmp kinds xs ys)
+    (key_cmp kinds xs zs) (key_cmp kinds ys zs)
     (cell_congr kind x y z) (key_congr kinds xs ys zs) h
 
 pub key_total : (kinds : List FieldType) → IsTotalOrder (key_cmp kinds)
@@ -163,10 +175,12 @@ agrees kinds = record {
 }
 
 -- what the order of two keys may be
-turned : (kinds : List FieldType) (a b : Key) (o : Ordering) → key_cmp kinds a b ≡ o → key_cmp kinds b a ≡ ordering_reverse o
+turned : (kinds : List FieldType) (a b : Key) (o : Ordering) → key_cmp kinds a b ≡ o
+    → key_cmp kinds b a ≡ ordering_reverse o
 turned kinds a b o h = key_antisymm kinds b a ∙ ap ordering_reverse h
 
-split_by : (kinds : List FieldType) (a s b : Key) (o : Ordering) → key_cmp kinds b s ≡ o → IsBelow kinds a s → (IsBelow kinds b s → ⊥) → IsBelow kinds a b
+split_by : (kinds : List FieldType) (a s b : Key) (o : Ordering) → key_cmp kinds b s ≡ o → IsBelow kinds a s
+    → (IsBelow kinds b s → ⊥) → IsBelow kinds a b
 split_by kinds a s b Less h below above = absurd (above h)
 split_by kinds a s b Equal h below above = alike_right (key_total kinds) b s a h ∙ below
 split_by kinds a s b Greater h below above = key_trans kinds a s b below (turned kinds b s Greater h)
@@ -174,7 +188,8 @@ split_by kinds a s b Greater h below above = key_trans kinds a s b below (turned
 pub splits : (kinds : List FieldType) → Splits kinds
 splits kinds a s b below above = split_by kinds a s b (key_cmp kinds b s) refl below above
 
-total_by : (kinds : List FieldType) (a b : Key) (o : Ordering) → key_cmp kinds a b ≡ o → (IsBelow kinds a b → ⊥) → (IsBelow kinds b a → ⊥) → AreEqualKeys kinds a b
+total_by : (kinds : List FieldType) (a b : Key) (o : Ordering) → key_cmp kinds a b ≡ o → (IsBelow kinds a b → ⊥)
+    → (IsBelow kinds b a → ⊥) → AreEqualKeys kinds a b
 total_by kinds a b Less h first second = absurd (first h)
 total_by kinds a b Equal h first second = h
 total_by kinds a b Greater h first second = absurd (second (turned kinds a b Greater h))

@@ -13,7 +13,8 @@ use Rattle.byteorder.specs.Endian.{big_from, big_number, twos_complement}
 big_from-suc : (i n : ℕ) (xs : List ℕ) → big_from i (suc n) xs ≡ big_from i n xs * 256 + slice_index xs (i + n)
 big_from-suc i zero xs = grind arith
 big_from-suc i (suc n) xs =
-    let rest : big_from (suc i) (suc n) xs ≡ big_from (suc i) n xs * 256 + slice_index xs (suc i + n) = big_from-suc (suc i) n xs in
+    let rest : big_from (suc i) (suc n) xs ≡ big_from (suc i) n xs * 256 + slice_index xs (suc i + n) =
+    big_from-suc (suc i) n xs in
     let place : suc i + n ≡ i + suc n = omega arith in
     rw (rest, pow-suc 256 n, place) (omega arith)
 
@@ -39,29 +40,34 @@ num-lt (suc w) xs bytes =
 -- the top bit of up to eight bytes is shifted there whole
 pub top_bit_fits : (w : ℕ) → w ≤ 8 → 1 * 2 ^ (8 * w - 1) % 2 ^ 64 ≡ 2 ^ (8 * w - 1)
 top_bit_fits w few =
-    let at_most : 2 ^ (8 * w - 1) ≤ 2 ^ 63 = pow-le-pow_right {n = 2} (omega arith) {i = 8 * w - 1} {j = 63} (omega arith) in
+    let at_most : 2 ^ (8 * w - 1) ≤ 2 ^ 63 = pow-le-pow_right {n = 2} (omega arith) {i = 8 * w - 1} {j =
+    63} (omega arith) in
     rw one-mul (mod-eq_of_lt (omega arith))
 
 -- the top bit is flipped: it is added, or taken away
 pub flipped_low : (k n : ℕ) → n < 2 ^ k → bit_xor n (2 ^ k) ≡ 2 ^ k + n
 flipped_low k n low =
-    let e : bit_xor (0 * 2 ^ k + n) (1 * 2 ^ k + 0) ≡ bit_xor 0 1 * 2 ^ k + bit_xor n 0 = xor_block k 0 1 n 0 low (omega arith) in
+    let e : bit_xor (0 * 2 ^ k + n) (1 * 2 ^ k + 0) ≡ bit_xor 0 1 * 2 ^ k + bit_xor n 0 =
+    xor_block k 0 1 n 0 low (omega arith) in
     let a : 0 * 2 ^ k + n ≡ n = omega arith in
     let b : 1 * 2 ^ k + 0 ≡ 2 ^ k = omega arith in
     rw (a, b, xor_zero_r) at e ∙ omega arith
 
 pub flipped_high : (k n : ℕ) → 2 ^ k ≤ n → n < 2 ^ k + 2 ^ k → bit_xor n (2 ^ k) ≡ n - 2 ^ k
 flipped_high k n high low =
-    let e : bit_xor (1 * 2 ^ k + (n - 2 ^ k)) (1 * 2 ^ k + 0) ≡ bit_xor 1 1 * 2 ^ k + bit_xor (n - 2 ^ k) 0 = xor_block k 1 1 (n - 2 ^ k) 0 (omega arith) (omega arith) in
+    let e : bit_xor (1 * 2 ^ k + (n - 2 ^ k)) (1 * 2 ^ k + 0) ≡ bit_xor 1 1 * 2 ^ k + bit_xor (n - 2 ^ k) 0 =
+    xor_block k 1 1 (n - 2 ^ k) 0 (omega arith) (omega arith) in
     let a : 1 * 2 ^ k + (n - 2 ^ k) ≡ n = omega arith in
     let b : 1 * 2 ^ k + 0 ≡ 2 ^ k = omega arith in
     rw (a, b, xor_zero_r) at e ∙ omega arith
 
 -- a number less its top bit's worth is two's complement with that bit flipped
-pub flipped_is : (w n : ℕ) → 1 ≤ w → n < 256 ^ w → pos n -ℤ pos (2 ^ (8 * w - 1)) ≡ twos_complement w (bit_xor n (2 ^ (8 * w - 1)))
+pub flipped_is : (w n : ℕ) → 1 ≤ w → n < 256 ^ w → pos n -ℤ pos (2 ^ (8 * w - 1)) ≡ twos_complement w
+    (bit_xor n (2 ^ (8 * w - 1)))
 flipped_is w n some fits =
     let whole : 8 * w ≡ suc (8 * w - 1) = omega arith in
-    let twice : 2 ^ (8 * w) ≡ 2 ^ (8 * w - 1) + 2 ^ (8 * w - 1) = ap (λ (e : ℕ). 2 ^ e) whole ∙ two-pow-succ (8 * w - 1) in
+    let twice : 2 ^ (8 * w) ≡ 2 ^ (8 * w - 1) + 2 ^ (8 * w - 1) = ap (λ (e : ℕ). 2 ^ e) whole
+    ∙ two-pow-succ (8 * w - 1) in
     let size = pow256 w in
     ⊎_elim
     (λ low.

@@ -16,11 +16,22 @@ use Rattle.column_values.specs.Characters.{IsCharacter, HasCharacters, IsCharact
 use Rattle.column_values.specs.Types.{HoldsText}
 use Rattle.column_values.specs.Spell.{Spell, Finds, SpellsChar, FitsText, IsTrimmed, IsSpelled, IsSpelling}
 
-pub char_spelled : (n : ℕ) (text bytes : List ℕ) → IsTrimmed n text → AreBytes text → bytes ≡ text ++ replicate (n - length text) 32
+pub char_spelled : (n : ℕ) (text bytes : List ℕ) → IsTrimmed n text → AreBytes text
+    → bytes ≡ text ++ replicate (n - length text) 32
     → IsSpelled (types.Char n) (values.Text text) bytes
 char_spelled n text bytes trimmed are is = rw is (record {
-  are_bytes = All-append (λ (b : ℕ). b < 256) text (replicate (n - length text) 32) are (All-replicate (λ (b : ℕ). b < 256) (n - length text) 32 (omega arith));
-  spell = record { size = omega (arith, trimmed.fits, length-append text (replicate (n - length text) 32), length-replicate {A = ℕ} (n - length text) 32); filled = refl; is_trimmed = trimmed };
+  are_bytes = All-append (λ (b : ℕ). b < 256) text (replicate (n - length text) 32) are
+      (All-replicate (λ (b : ℕ). b < 256) (n - length text) 32 (omega arith));
+  spell = record {
+    size = omega (
+      arith,
+      trimmed.fits,
+      length-append text (replicate (n - length text) 32),
+      length-replicate {A = ℕ} (n - length text) 32,
+    );
+    filled = refl;
+    is_trimmed = trimmed;
+  };
   same = refl;
 })
 
@@ -45,7 +56,7 @@ one_front b not = let t : eqb b 32 ≡ false = grind (arith, nat_tests) in rw t 
 
 all_spaces : (b n : ℕ) → b ≡ 32 → b ∷ replicate (n - 0) 32 ≡ replicate (suc n - 0) 32
 all_spaces b n is =
-    let step : 32 ∷ replicate (n - 0) 32 ≡ replicate (suc (n - 0)) 32 = refl in
+    let step : ◌≡◌ {A = List ℕ} (32 ∷ replicate (n - 0) 32) (replicate (suc (n - 0)) 32) = refl in
     let size : suc (n - 0) ≡ suc n - 0 = omega arith in
     ap (λ (x : ℕ). x ∷ replicate (n - 0) 32) is ∙ step ∙ ap (λ (k : ℕ). replicate k 32) size
 
@@ -54,15 +65,22 @@ one_byte b n = let size : n - 0 ≡ suc n - 1 = omega arith in ap (λ (k : ℕ).
 
 -- the text of a space or another byte, and of nothing but spaces behind it
 abbrev IsTrimOf : ℕ → ℕ → List ℕ → Type 0
-IsTrimOf b n text = (b ∷ replicate (n - 0) 32 ≡ text ++ replicate (suc n - length text) 32) × (length text ≤ suc n) × NoSpaceAtEnd text
+IsTrimOf b n text = (b ∷ replicate (n - 0) 32 ≡ text ++ replicate (suc n - length text) 32) ×
+    (length text ≤ suc n) × NoSpaceAtEnd text
 
 trim_front : (b : ℕ) (text : List ℕ) (n : ℕ) → length text ≤ n → NoSpaceAtEnd text
-    → (b ∷ (text ++ replicate (n - length text) 32) ≡ with_front b text ++ replicate (suc n - length (with_front b text)) 32)
+    → (b ∷ (text ++ replicate (n - length text) 32) ≡ with_front b text ++ replicate
+    (suc n - length (with_front b text)) 32)
     × (length (with_front b text) ≤ suc n) × NoSpaceAtEnd (with_front b text)
 trim_front b [] n fits last =
     elim (cases_eq b 32) [
-      | inl is ↦ subst (λ (t : List ℕ). IsTrimOf b n t) (sym (no_front b is)) (all_spaces b n is, omega arith, λ some. absurd (omega arith))
-      | inr not ↦ subst (λ (t : List ℕ). IsTrimOf b n t) (sym (one_front b not)) (one_byte b n, omega arith, λ some. not)
+      | inl is ↦ subst (λ (t : List ℕ). IsTrimOf b n t) (sym (no_front b is)) (
+        all_spaces b n is,
+        omega arith,
+        λ some. absurd (omega arith),
+      )
+      | inr not ↦ subst (λ (t : List ℕ). IsTrimOf b n t) (sym (one_front b not))
+          (one_byte b n, omega arith, λ some. not)
     ]
 trim_front b (c ∷ text) n fits last =
     let size : n - length (c ∷ text) ≡ suc n - length (b ∷ c ∷ text) = omega arith in
@@ -73,7 +91,8 @@ trim_front b (c ∷ text) n fits last =
       λ some e. last (omega arith) (ap (slice_index (c ∷ text)) that ∙ sym (ap (slice_index (b ∷ c ∷ text)) this) ∙ e),
     )
 
-trimmed_is : (bytes : List ℕ) → (bytes ≡ trim bytes ++ replicate (length bytes - length (trim bytes)) 32) × (length (trim bytes) ≤ length bytes) × NoSpaceAtEnd (trim bytes)
+trimmed_is : (bytes : List ℕ) → (bytes ≡ trim bytes ++ replicate (length bytes - length (trim bytes)) 32) ×
+    (length (trim bytes) ≤ length bytes) × NoSpaceAtEnd (trim bytes)
 trimmed_is [] = (refl, omega arith, λ some. absurd (omega arith))
 trimmed_is (b ∷ bytes) =
     let rest = trimmed_is bytes in
@@ -83,7 +102,12 @@ trimmed_is (b ∷ bytes) =
 pub char_of : (n : ℕ) (bytes : List ℕ) → length bytes ≡ n → SpellsChar n (trim bytes) bytes
 char_of n bytes size =
     let is = trimmed_is bytes in
-    record { size = size; filled = rw (← size) is.0; is_trimmed = record { fits = omega (arith, is.1, size); trimmed = is.2 } }
+    record {
+      size = size;
+      filled = rw (← size) is.0;
+      is_trimmed =
+          record { fits = omega (arith, is.1, size); trimmed = is.2 };
+    }
 
 -- where bytes fit a type they spell a value of it
 pub fit_spells : (kind : ColumnType) (bytes : List ℕ) → FitsText kind bytes → IsSpelling kind bytes
@@ -97,7 +121,8 @@ fit_spells (types.Utf8Varchar n) bytes h = (values.Text bytes, (h, refl))
 fit_spells (types.Utf8Text n) bytes h = (values.Text bytes, (h.0, h.1, refl))
 fit_spells _ bytes h = absurd h
 
-text_fits : (kind : ColumnType) (text bytes : List ℕ) → HoldsText kind → Spell kind (values.Text text) bytes → FitsText kind bytes
+text_fits : (kind : ColumnType) (text bytes : List ℕ) → HoldsText kind → Spell kind (values.Text text) bytes
+    → FitsText kind bytes
 text_fits (types.Char n) text bytes is spell = spell.size
 text_fits (types.Varchar n) text bytes is spell = spell.0
 text_fits (types.Text n) text bytes is spell = spell.0
@@ -107,7 +132,8 @@ text_fits (types.Int w true) text bytes is spell = absurd spell
 text_fits (types.Int w false) text bytes is spell = absurd spell
 text_fits _ text bytes is spell = absurd spell
 
-raw_fits : (kind : ColumnType) (raw bytes : List ℕ) → HoldsText kind → Spell kind (values.Bytes raw) bytes → FitsText kind bytes
+raw_fits : (kind : ColumnType) (raw bytes : List ℕ) → HoldsText kind → Spell kind (values.Bytes raw) bytes
+    → FitsText kind bytes
 raw_fits (types.Binary n) raw bytes is spell = spell.0
 raw_fits (types.Varbinary n) raw bytes is spell = spell.0
 raw_fits (types.Blob n) raw bytes is spell = spell.0
@@ -116,7 +142,8 @@ raw_fits (types.Int w false) raw bytes is spell = absurd spell
 raw_fits _ raw bytes is spell = absurd spell
 
 -- a value of a text or bytes type is a text or bytes
-pub spelled_fits : (kind : ColumnType) (value : Value) (bytes : List ℕ) → HoldsText kind → Spell kind value bytes → FitsText kind bytes
+pub spelled_fits : (kind : ColumnType) (value : Value) (bytes : List ℕ) → HoldsText kind → Spell kind value bytes
+    → FitsText kind bytes
 spelled_fits kind (values.Text text) bytes is spell = text_fits kind text bytes is spell
 spelled_fits kind (values.Bytes raw) bytes is spell = raw_fits kind raw bytes is spell
 spelled_fits (types.Char n) _ bytes is spell = absurd spell
@@ -148,7 +175,8 @@ text_size text count are =
     size_of (a ∷ b ∷ c ∷ d ∷ []) h = (omega arith, omega arith)
     size_of _ h = absurd h
 
-    sizes_of : (cs : List (List ℕ)) → All IsCharacter cs → (length cs ≤ length (concat cs)) × (length (concat cs) ≤ 4 * length cs)
+    sizes_of : (cs : List (List ℕ)) → All IsCharacter cs
+        → (length cs ≤ length (concat cs)) × (length (concat cs) ≤ 4 * length cs)
     sizes_of [] are = (omega arith, omega arith)
     sizes_of (c ∷ cs) are =
         let one = size_of c (All-head IsCharacter c cs are) in
@@ -159,15 +187,21 @@ text_size text count are =
 pub too_long : (n : ℕ) (bytes : List ℕ) → 4 * n < length bytes → ¬ (IsTextUpTo n bytes)
 too_long n bytes long (count, few, are) = omega (arith, (text_size bytes count are).1, few)
 
-pub any_text : (n : ℕ) (bytes : List ℕ) → length bytes ≤ 4294967295 → IsCharacterText bytes → IsTextUpTo 4294967295 bytes
+pub any_text : (n : ℕ) (bytes : List ℕ) → length bytes ≤ 4294967295 → IsCharacterText bytes
+    → IsTextUpTo 4294967295 bytes
 any_text n bytes few (count, are) = (count, omega (arith, (text_size bytes count are).0), are)
 
 -- a value that was found, or none
-pub found_some : (kind : ColumnType) (bytes : List ℕ) (found : Option Value) (test : Bool) → test ≡ is_some found → Finds kind bytes found
+pub found_some : (kind : ColumnType) (bytes : List ℕ) (found : Option Value) (test : Bool) → test ≡ is_some found
+    → Finds kind bytes found
     → (IsTrue test → IsSpelling kind bytes) × (IsSpelling kind bytes → IsTrue test)
 found_some kind bytes (Some value) test is h = (λ _. (value, h), λ _. is)
 found_some kind bytes None test is h = (λ t. absurd (false≢true (sym is ∙ t)), λ some. absurd (h some))
 
-pub fits_both : (kind : ColumnType) (bytes : List ℕ) (test : Bool) → HoldsText kind → ((IsTrue test → FitsText kind bytes) × (FitsText kind bytes → IsTrue test))
+pub fits_both : (kind : ColumnType) (bytes : List ℕ) (test : Bool) → HoldsText kind
+    → ((IsTrue test → FitsText kind bytes) × (FitsText kind bytes → IsTrue test))
     → (IsTrue test → IsSpelling kind bytes) × (IsSpelling kind bytes → IsTrue test)
-fits_both kind bytes test is both = (λ t. fit_spells kind bytes (both.0 t), λ spelling. both.1 (spelled_fits kind spelling.0 bytes is spelling.1))
+fits_both kind bytes test is both = (
+  λ t. fit_spells kind bytes (both.0 t),
+  λ spelling. both.1 (spelled_fits kind spelling.0 bytes is spelling.1),
+)

@@ -14,28 +14,33 @@ use Rattle.column_values.specs.Utf8View.{pending_bytes, state_of, reader_of, IsF
 use Rattle.column_values.proofs.Utf8Texts.{before, same_cut, front_pending}
 
 -- one character more
-more_characters : (front c : List ℕ) (count : ℕ) → HasCharacters front count → IsCharacter c → HasCharacters (front ++ c) (count + 1)
+more_characters : (front c : List ℕ) (count : ℕ) → HasCharacters front count → IsCharacter c
+    → HasCharacters (front ++ c) (count + 1)
 more_characters front c count are is = record {
   characters = are.characters ++ c ∷ [];
   each = All-push IsCharacter are.characters c are.each is;
   counted = length-append are.characters (c ∷ []) ∙ ap (λ (n : ℕ). n + 1) are.counted;
-  joined = ap (λ (t : List ℕ). t ++ c) are.joined ∙ sym (concat-append are.characters (c ∷ []) ∙ ap (λ (t : List ℕ). concat are.characters ++ t) (append-nil c));
+  joined = ap (λ (t : List ℕ). t ++ c) are.joined ∙ sym (concat-append are.characters (c ∷ [])
+      ∙ ap (λ (t : List ℕ). concat are.characters ++ t) (append-nil c));
 }
 
 nothing_pending : IsPending []
 nothing_pending = front_pending [] tt
 
 -- the pending bytes become a character
-whole_cut : (text : List ℕ) (byte count : ℕ) (pending : List ℕ) → IsCut text count pending → IsCharacter (pending ++ byte ∷ []) → IsCut (text ++ byte ∷ []) (count + 1) []
+whole_cut : (text : List ℕ) (byte count : ℕ) (pending : List ℕ) → IsCut text count pending
+    → IsCharacter (pending ++ byte ∷ []) → IsCut (text ++ byte ∷ []) (count + 1) []
 whole_cut text byte count pending cut is = record {
   front = cut.front ++ (pending ++ byte ∷ []);
   characters = more_characters cut.front (pending ++ byte ∷ []) count cut.characters is;
   is_pending = nothing_pending;
-  cut = ap (λ (t : List ℕ). t ++ byte ∷ []) cut.cut ∙ append_assoc cut.front pending (byte ∷ []) ∙ sym (append-nil (cut.front ++ (pending ++ byte ∷ [])));
+  cut = ap (λ (t : List ℕ). t ++ byte ∷ []) cut.cut ∙ append_assoc cut.front pending (byte ∷ [])
+      ∙ sym (append-nil (cut.front ++ (pending ++ byte ∷ [])));
 }
 
 -- or the front of one
-front_cut : (text : List ℕ) (byte count : ℕ) (pending more : List ℕ) → IsCut text count pending → IsFront (pending ++ byte ∷ []) → more ≡ pending ++ byte ∷ []
+front_cut : (text : List ℕ) (byte count : ℕ) (pending more : List ℕ) → IsCut text count pending
+    → IsFront (pending ++ byte ∷ []) → more ≡ pending ++ byte ∷ []
     → IsCut (text ++ byte ∷ []) count more
 front_cut text byte count pending more cut is same = rw same (record {
   front = cut.front;
@@ -45,7 +50,8 @@ front_cut text byte count pending more cut is same = rw same (record {
 })
 
 -- or no text begins so
-no_cut : (text : List ℕ) (byte count : ℕ) (pending : List ℕ) → IsCut text count pending → ¬ (IsCharacter (pending ++ byte ∷ [])) → ¬ (IsFront (pending ++ byte ∷ []))
+no_cut : (text : List ℕ) (byte count : ℕ) (pending : List ℕ) → IsCut text count pending
+    → ¬ (IsCharacter (pending ++ byte ∷ [])) → ¬ (IsFront (pending ++ byte ∷ []))
     → (n : ℕ) (p : List ℕ) → ¬ (IsCut (text ++ byte ∷ []) n p)
 no_cut text byte count pending cut no_character no_front n p other =
     let b = before text byte n p other in
@@ -55,18 +61,23 @@ no_cut text byte count pending cut no_character no_front n p other =
       | inr is ↦ no_front (subst (λ (t : List ℕ). IsFront (t ++ byte ∷ [])) same.1 is)
     ]
 
-by_joined : (text : List ℕ) (byte count : ℕ) (pending : List ℕ) (joined : Joined) → IsCut text count pending → Joins (pending ++ byte ∷ []) joined
+by_joined : (text : List ℕ) (byte count : ℕ) (pending : List ℕ) (joined : Joined) → IsCut text count pending
+    → Joins (pending ++ byte ∷ []) joined
     → StandsFor (state_after count joined) (text ++ byte ∷ [])
 by_joined text byte count pending Whole cut is = whole_cut text byte count pending cut is
-by_joined text byte count pending (Front more) cut is = front_cut text byte count pending (pending_bytes more) cut is.0 is.1
+by_joined text byte count pending (Front more) cut is =
+    front_cut text byte count pending (pending_bytes more) cut is.0 is.1
 by_joined text byte count pending Neither cut is = no_cut text byte count pending cut is.0 is.1
 
 -- what stood for a text stands for one byte more
-pub step_stands : (old new : State) (byte : ℕ) (text : List ℕ) → StepsTo old byte new → StandsFor old text → StandsFor new (text ++ byte ∷ [])
+pub step_stands : (old new : State) (byte : ℕ) (text : List ℕ) → StepsTo old byte new → StandsFor old text
+    → StandsFor new (text ++ byte ∷ [])
 step_stands Bad new byte text step stands =
-    subst (λ (s : State). StandsFor s (text ++ byte ∷ [])) (sym step) (λ n p cut. let b = before text byte n p cut in stands b.count b.pending b.cut)
+    subst (λ (s : State). StandsFor s (text ++ byte ∷ [])) (sym step) (λ n p cut. let b = before text byte n p cut in
+    stands b.count b.pending b.cut)
 step_stands (Good count pending) new byte text step stands =
-    subst (λ (s : State). StandsFor s (text ++ byte ∷ [])) (sym step.2) (by_joined text byte count pending step.0 stands step.1)
+    subst (λ (s : State). StandsFor s (text ++ byte ∷ [])) (sym step.2)
+    (by_joined text byte count pending step.0 stands step.1)
 
 -- there is room for so many characters more
 abbrev pub RoomFor : State → ℕ → Type 0
@@ -77,14 +88,16 @@ pub can_step : (state : State) (more : ℕ) → 1 ≤ more → RoomFor state mor
 can_step Bad more some room = tt
 can_step (Good count pending) more some room = omega arith
 
-room_after : (count more : ℕ) (joined : Joined) → count + suc more ≤ 8589934591 → RoomFor (state_after count joined) more
+room_after : (count more : ℕ) (joined : Joined) → count + suc more ≤ 8589934591
+    → RoomFor (state_after count joined) more
 room_after count more Whole room = omega arith
 room_after count more (Front pending) room = omega arith
 room_after count more Neither room = tt
 
 pub step_room : (old new : State) (byte more : ℕ) → StepsTo old byte new → RoomFor old (suc more) → RoomFor new more
 step_room Bad new byte more step room = subst (λ (s : State). RoomFor s more) (sym step) tt
-step_room (Good count pending) new byte more step room = subst (λ (s : State). RoomFor s more) (sym step.2) (room_after count more step.0 room)
+step_room (Good count pending) new byte more step room =
+    subst (λ (s : State). RoomFor s more) (sym step.2) (room_after count more step.0 room)
 
 -- the number of characters is at most this
 abbrev pub UpTo : ℕ → State → Type 0
@@ -98,14 +111,22 @@ up_to_after most count Neither low = tt
 
 pub step_up_to : (old new : State) (byte most : ℕ) → StepsTo old byte new → UpTo most old → UpTo (most + 1) new
 step_up_to Bad new byte most step low = subst (λ (s : State). UpTo (most + 1) s) (sym step) tt
-step_up_to (Good count pending) new byte most step low = subst (λ (s : State). UpTo (most + 1) s) (sym step.2) (up_to_after most count step.0 low)
+step_up_to (Good count pending) new byte most step low =
+    subst (λ (s : State). UpTo (most + 1) s) (sym step.2) (up_to_after most count step.0 low)
 
 -- a text is a cut with nothing pending
 text_cut : (text : List ℕ) (count : ℕ) → HasCharacters text count → IsCut text count []
-text_cut text count are = record { front = text; characters = are; is_pending = nothing_pending; cut = sym (append-nil text) }
+text_cut text count are = record {
+  front = text;
+  characters = are;
+  is_pending = nothing_pending;
+  cut =
+      sym (append-nil text);
+}
 
 cut_text : (text : List ℕ) (count : ℕ) → IsCut text count [] → HasCharacters text count
-cut_text text count cut = subst (λ (t : List ℕ). HasCharacters t count) (sym (cut.cut ∙ append-nil cut.front)) cut.characters
+cut_text text count cut = subst (λ (t : List ℕ). HasCharacters t count)
+    (sym (cut.cut ∙ append-nil cut.front)) cut.characters
 
 -- the reader is at an end exactly where it was fed a text that it takes
 pub end_takes : (reader : Reader) (fed : List ℕ) → WasFed reader fed → IsAtEnd reader → TakesText reader fed
@@ -126,11 +147,13 @@ pub nothing_read : StandsFor (Good 0 []) []
 nothing_read = text_cut [] 0 (record { characters = []; each = All-nil IsCharacter; counted = refl; joined = refl })
 
 -- one byte more of a piece
-pub step_along : (old new : State) (byte i : ℕ) (text bytes : List ℕ) → StepsTo old byte new → byte ≡ get_or bytes i 0 → i < length bytes
+pub step_along : (old new : State) (byte i : ℕ) (text bytes : List ℕ) → StepsTo old byte new
+    → byte ≡ get_or bytes i 0 → i < length bytes
     → StandsFor old (text ++ take i bytes) → StandsFor new (text ++ take (i + 1) bytes)
 step_along old new byte i text bytes step is below stands =
     let more : (text ++ take i bytes) ++ byte ∷ [] ≡ text ++ take (i + 1) bytes =
-    append_assoc text (take i bytes) (byte ∷ []) ∙ ap (λ (t : List ℕ). text ++ t) (rw is (sym (take_more bytes i 0 below))) in
+    append_assoc text (take i bytes) (byte ∷ []) ∙ ap (λ (t : List ℕ). text ++ t)
+    (rw is (sym (take_more bytes i 0 below))) in
     subst (StandsFor new) more (step_stands old new byte (text ++ take i bytes) step stands)
 
 pub counts_up_to : (most limit : ℕ) (state : State) → CountsUpTo most (Limited limit state) → UpTo most state
@@ -142,19 +165,24 @@ up_to_counts most limit Bad low = tt
 up_to_counts most limit (Good count pending) low = low
 
 -- what a new reader was fed
-pub fed_new : (n : ℕ) (reader : Reader) (bytes : List ℕ) → Feeds (Limited n (Good 0 [])) reader bytes → WasFed reader bytes
+pub fed_new : (n : ℕ) (reader : Reader) (bytes : List ℕ) → Feeds (Limited n (Good 0 [])) reader bytes
+    → WasFed reader bytes
 fed_new n reader bytes feeds = subst (λ (r : Reader). WasFed r bytes) (sym feeds.1) (feeds.2 [] nothing_read)
 
-pub fed_takes : (n : ℕ) (reader : Reader) (bytes : List ℕ) → Feeds (Limited n (Good 0 [])) reader bytes → TakesText reader bytes ≡ IsTextUpTo n bytes
+pub fed_takes : (n : ℕ) (reader : Reader) (bytes : List ℕ) → Feeds (Limited n (Good 0 [])) reader bytes
+    → TakesText reader bytes ≡ IsTextUpTo n bytes
 fed_takes n reader bytes feeds = ap (λ (r : Reader). TakesText r bytes) feeds.1
 
-pub counts_view : (most n : ℕ) (limit : Option ℕ) (old new : Progress) → ((m : ℕ) → UpTo m (state_of old) → UpTo (m + n) (state_of new))
+pub counts_view : (most n : ℕ) (limit : Option ℕ) (old new : Progress)
+    → ((m : ℕ) → UpTo m (state_of old) → UpTo (m + n) (state_of new))
     → CountsUpTo most (reader_of limit old) → CountsUpTo (most + n) (reader_of limit new)
 counts_view most n None old new few low = tt
-counts_view most n (Some limit) old new few low = up_to_counts (most + n) limit (state_of new) (few most (counts_up_to most limit (state_of old) low))
+counts_view most n (Some limit) old new few low = up_to_counts (most + n) limit (state_of new)
+    (few most (counts_up_to most limit (state_of old) low))
 
 -- so many bytes more can be read where the number of characters is bounded
-pub can_feed : (most more : ℕ) (reader : Reader) → CountsUpTo most reader → most + more ≤ 8589934591 → CanFeed reader more
+pub can_feed : (most more : ℕ) (reader : Reader) → CountsUpTo most reader → most + more ≤ 8589934591
+    → CanFeed reader more
 can_feed most more Any low room = tt
 can_feed most more (Limited limit Bad) low room = tt
 can_feed most more (Limited limit (Good count pending)) low room = omega arith

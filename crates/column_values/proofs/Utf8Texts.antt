@@ -46,16 +46,38 @@ first_of_append (a ∷ c) x h = refl
 same_characters : (c d x y : List ℕ) → IsCharacter c → IsCharacter d → c ++ x ≡ d ++ y → (c ≡ d) × (x ≡ y)
 same_characters c d x y is_c is_d e =
     let head : slice_index c 0 ≡ slice_index d 0 =
-    sym (first_of_append c x (some_bytes c is_c)) ∙ ap (λ (t : List ℕ). slice_index t 0) e ∙ first_of_append d y (some_bytes d is_d) in
+    sym (first_of_append c x (some_bytes c is_c)) ∙ ap (λ (t : List ℕ). slice_index t 0) e
+    ∙ first_of_append d y (some_bytes d is_d) in
     same_fronts c d x y (width_is c is_c ∙ ap width_of head ∙ sym (width_is d is_d)) e
 
 front_of_four : (a : ℕ) → 0xF0 ≤ a → a ≤ 0xF4 → IsPending (a ∷ [])
 front_of_four a low high =
     elim (cases_lt a 0xF1) [
-      | inl first ↦ record { rest = 0x90 ∷ 0x80 ∷ 0x80 ∷ []; some_left = omega arith; whole = (inl (omega arith, (omega arith, omega arith)), (omega arith, omega arith), (omega arith, omega arith)) }
+      | inl first ↦ record {
+        rest = 0x90 ∷ 0x80 ∷ 0x80 ∷ [];
+        some_left = omega arith;
+        whole =
+            (inl (omega arith, (omega arith, omega arith)), (omega arith, omega arith), (omega arith, omega arith));
+      }
       | inr up ↦ elim (cases_lt a 0xF4) [
-        | inl second ↦ record { rest = 0x80 ∷ 0x80 ∷ 0x80 ∷ []; some_left = omega arith; whole = (inr (inl ((omega arith, omega arith), (omega arith, omega arith))), (omega arith, omega arith), (omega arith, omega arith)) }
-        | inr last ↦ record { rest = 0x80 ∷ 0x80 ∷ 0x80 ∷ []; some_left = omega arith; whole = (inr (inr (omega arith, (omega arith, omega arith))), (omega arith, omega arith), (omega arith, omega arith)) }
+        | inl second ↦ record {
+          rest = 0x80 ∷ 0x80 ∷ 0x80 ∷ [];
+          some_left = omega arith;
+          whole = (
+            inr (inl ((omega arith, omega arith), (omega arith, omega arith))),
+            (omega arith, omega arith),
+            (omega arith, omega arith),
+          );
+        }
+        | inr last ↦ record {
+          rest = 0x80 ∷ 0x80 ∷ 0x80 ∷ [];
+          some_left = omega arith;
+          whole = (
+            inr (inr (omega arith, (omega arith, omega arith))),
+            (omega arith, omega arith),
+            (omega arith, omega arith),
+          );
+        }
       ]
     ]
 
@@ -63,18 +85,37 @@ three_front : (a b : ℕ) → IsStartOfThree a b → IsFront (a ∷ [])
 three_front a b h = elim h [ inl e ↦ (omega arith, omega arith) | inr r ↦ (omega arith, omega arith) ]
 
 four_front : (a b : ℕ) → IsStartOfFour a b → IsFront (a ∷ [])
-four_front a b h = elim h [ inl e ↦ (omega arith, omega arith) | inr r ↦ elim r [ inl m ↦ (omega arith, omega arith) | inr l ↦ (omega arith, omega arith) ] ]
+four_front a b h = elim h [
+  | inl e ↦ (omega arith, omega arith)
+  | inr r ↦
+      elim r [ inl m ↦ (omega arith, omega arith) | inr l ↦ (omega arith, omega arith) ]
+]
 
 -- a front is followed by the rest of a character
 pub front_pending : (xs : List ℕ) → IsFront xs → IsPending xs
 front_pending [] h = record { rest = 0 ∷ []; some_left = omega arith; whole = omega arith }
 front_pending (a ∷ []) h =
     elim (cases_lt a 0xE0) [
-      | inl two ↦ record { rest = 0x80 ∷ []; some_left = omega arith; whole = ((omega arith, omega arith), (omega arith, omega arith)) }
+      | inl two ↦ record {
+        rest = 0x80 ∷ [];
+        some_left = omega arith;
+        whole =
+            ((omega arith, omega arith), (omega arith, omega arith));
+      }
       | inr up ↦ elim (cases_lt a 0xE1) [
-        | inl three ↦ record { rest = 0xA0 ∷ 0x80 ∷ []; some_left = omega arith; whole = (inl (omega arith, (omega arith, omega arith)), (omega arith, omega arith)) }
+        | inl three ↦ record {
+          rest = 0xA0 ∷ 0x80 ∷ [];
+          some_left = omega arith;
+          whole =
+              (inl (omega arith, (omega arith, omega arith)), (omega arith, omega arith));
+        }
         | inr up ↦ elim (cases_lt a 0xF0) [
-          | inl three ↦ record { rest = 0x80 ∷ 0x80 ∷ []; some_left = omega arith; whole = (inr ((omega arith, omega arith), (omega arith, omega arith)), (omega arith, omega arith)) }
+          | inl three ↦ record {
+            rest = 0x80 ∷ 0x80 ∷ [];
+            some_left = omega arith;
+            whole =
+                (inr ((omega arith, omega arith), (omega arith, omega arith)), (omega arith, omega arith));
+          }
           | inr up ↦ front_of_four a up h.1
         ]
       ]
@@ -82,9 +123,19 @@ front_pending (a ∷ []) h =
 front_pending (a ∷ b ∷ []) h =
     elim h [
       | inl three ↦ record { rest = 0x80 ∷ []; some_left = omega arith; whole = (three, (omega arith, omega arith)) }
-      | inr four ↦ record { rest = 0x80 ∷ 0x80 ∷ []; some_left = omega arith; whole = (four, (omega arith, omega arith), (omega arith, omega arith)) }
+      | inr four ↦ record {
+        rest = 0x80 ∷ 0x80 ∷ [];
+        some_left = omega arith;
+        whole =
+            (four, (omega arith, omega arith), (omega arith, omega arith));
+      }
     ]
-front_pending (a ∷ b ∷ c ∷ []) h = record { rest = 0x80 ∷ []; some_left = omega arith; whole = (h.0, h.1, (omega arith, omega arith)) }
+front_pending (a ∷ b ∷ c ∷ []) h = record {
+  rest = 0x80 ∷ [];
+  some_left = omega arith;
+  whole =
+      (h.0, h.1, (omega arith, omega arith));
+}
 front_pending _ h = absurd h
 
 pending_front : (xs rest : List ℕ) → 1 ≤ length rest → IsCharacter (xs ++ rest) → IsFront xs
@@ -108,7 +159,8 @@ pending_front (a ∷ b ∷ c ∷ d ∷ x ∷ xs) (e ∷ rest) some h = absurd h
 -- a character is no front of one
 shorter : (p c x rest : List ℕ) → 1 ≤ length rest → IsCharacter (p ++ rest) → IsCharacter c → p ≡ c ++ x → ⊥
 shorter p c x rest some whole is_c e =
-    let joined : (p ++ rest) ++ [] ≡ c ++ (x ++ rest) = append-nil (p ++ rest) ∙ ap (λ (t : List ℕ). t ++ rest) e ∙ append_assoc c x rest in
+    let joined : (p ++ rest) ++ [] ≡ c ++ (x ++ rest) = append-nil (p ++ rest) ∙ ap (λ (t : List ℕ). t ++ rest) e
+    ∙ append_assoc c x rest in
     let same = same_characters (p ++ rest) c [] (x ++ rest) whole is_c joined in
     let size : 0 ≡ length (x ++ rest) = ap length same.1 in
     omega (arith, length-append x rest)
@@ -118,11 +170,14 @@ one_cut : (cs ds : List (List ℕ)) (p q : List ℕ) → All IsCharacter cs → 
     → concat cs ++ p ≡ concat ds ++ q → (length cs ≡ length ds) × (p ≡ q)
 one_cut [] [] p q are_c are_d is_p is_q e = (refl, e)
 one_cut [] (d ∷ ds) p q are_c are_d is_p is_q e =
-    absurd (shorter p d (concat ds ++ q) is_p.rest is_p.some_left is_p.whole (All-head IsCharacter d ds are_d) (e ∙ append_assoc d (concat ds) q))
+    absurd (shorter p d (concat ds ++ q) is_p.rest is_p.some_left is_p.whole (All-head IsCharacter d ds are_d) (e
+    ∙ append_assoc d (concat ds) q))
 one_cut (c ∷ cs) [] p q are_c are_d is_p is_q e =
-    absurd (shorter q c (concat cs ++ p) is_q.rest is_q.some_left is_q.whole (All-head IsCharacter c cs are_c) (sym e ∙ append_assoc c (concat cs) p))
+    absurd (shorter q c (concat cs ++ p) is_q.rest is_q.some_left is_q.whole (All-head IsCharacter c cs are_c) (sym e
+    ∙ append_assoc c (concat cs) p))
 one_cut (c ∷ cs) (d ∷ ds) p q are_c are_d is_p is_q e =
-    let same = same_characters c d (concat cs ++ p) (concat ds ++ q) (All-head IsCharacter c cs are_c) (All-head IsCharacter d ds are_d)
+    let same = same_characters c d (concat cs ++ p) (concat ds ++ q) (All-head IsCharacter c cs are_c)
+    (All-head IsCharacter d ds are_d)
     (sym (append_assoc c (concat cs) p) ∙ e ∙ append_assoc d (concat ds) q) in
     let rest = one_cut cs ds p q (All-tail IsCharacter c cs are_c) (All-tail IsCharacter d ds are_d) is_p is_q same.1 in
     (ap suc rest.0, rest.1)
@@ -132,7 +187,8 @@ same_cut text m n p q first second =
     let one = first.characters in
     let two = second.characters in
     let e : concat one.characters ++ p ≡ concat two.characters ++ q =
-    ap (λ (t : List ℕ). t ++ p) (sym one.joined) ∙ sym first.cut ∙ second.cut ∙ ap (λ (t : List ℕ). t ++ q) two.joined in
+    ap (λ (t : List ℕ). t ++ p) (sym one.joined) ∙ sym first.cut ∙ second.cut
+    ∙ ap (λ (t : List ℕ). t ++ q) two.joined in
     let same = one_cut one.characters two.characters p q one.each two.each first.is_pending second.is_pending e in
     (sym one.counted ∙ same.0 ∙ two.counted, same.1)
 
@@ -162,21 +218,31 @@ pub record IsBefore (text : List ℕ) (byte : ℕ) : Type 0 where
   pub cut : IsCut text count pending
   pub goes_on : IsCharacter (pending ++ byte ∷ []) ⊎ IsFront (pending ++ byte ∷ [])
 
-before_pending : (text cs p : List ℕ) (byte y count : ℕ) → HasCharacters cs count → IsPending (p ++ y ∷ []) → text ++ byte ∷ [] ≡ cs ++ (p ++ y ∷ []) → IsBefore text byte
+before_pending : (text cs p : List ℕ) (byte y count : ℕ) → HasCharacters cs count → IsPending (p ++ y ∷ [])
+    → text ++ byte ∷ [] ≡ cs ++ (p ++ y ∷ []) → IsBefore text byte
 before_pending text cs p byte y count are is e =
     let same = last_same text (cs ++ p) byte y (e ∙ sym (append_assoc cs p (y ∷ []))) in
     let whole : IsCharacter (p ++ (y ∷ is.rest)) = subst IsCharacter (append_assoc p (y ∷ []) is.rest) is.whole in
     record {
       count = count;
       pending = p;
-      cut = record { front = cs; characters = are; is_pending = record { rest = y ∷ is.rest; some_left = omega arith; whole = whole }; cut = same.0 };
-      goes_on = inr (subst (λ (t : ℕ). IsFront (p ++ t ∷ [])) (sym same.1) (pending_front (p ++ y ∷ []) is.rest is.some_left is.whole));
+      cut = record {
+        front = cs;
+        characters = are;
+        is_pending =
+            record { rest = y ∷ is.rest; some_left = omega arith; whole = whole };
+        cut = same.0;
+      };
+      goes_on = inr (subst (λ (t : ℕ). IsFront (p ++ t ∷ [])) (sym same.1)
+          (pending_front (p ++ y ∷ []) is.rest is.some_left is.whole));
     }
 
-before_character : (text : List ℕ) (byte : ℕ) (cs : List (List ℕ)) (c p : List ℕ) (y : ℕ) → All IsCharacter cs → IsCharacter c → c ≡ p ++ y ∷ []
+before_character : (text : List ℕ) (byte : ℕ) (cs : List (List ℕ)) (c p : List ℕ) (y : ℕ) → All IsCharacter cs
+    → IsCharacter c → c ≡ p ++ y ∷ []
     → text ++ byte ∷ [] ≡ concat cs ++ c → IsBefore text byte
 before_character text byte cs c p y are is same e =
-    let joined : text ++ byte ∷ [] ≡ (concat cs ++ p) ++ y ∷ [] = e ∙ ap (λ (t : List ℕ). concat cs ++ t) same ∙ sym (append_assoc (concat cs) p (y ∷ [])) in
+    let joined : text ++ byte ∷ [] ≡ (concat cs ++ p) ++ y ∷ [] = e ∙ ap (λ (t : List ℕ). concat cs ++ t) same
+    ∙ sym (append_assoc (concat cs) p (y ∷ [])) in
     let ends = last_same text (concat cs ++ p) byte y joined in
     let whole : IsCharacter (p ++ y ∷ []) = subst IsCharacter same is in
     record {
@@ -191,29 +257,36 @@ before_character text byte cs c p y are is same e =
       goes_on = inl (subst (λ (t : ℕ). IsCharacter (p ++ t ∷ [])) (sym ends.1) whole);
     }
 
-before_last : (text : List ℕ) (byte : ℕ) (cs : List (List ℕ)) (c : List ℕ) → All IsCharacter (cs ++ c ∷ []) → text ++ byte ∷ [] ≡ concat (cs ++ c ∷ []) → IsBefore text byte
+before_last : (text : List ℕ) (byte : ℕ) (cs : List (List ℕ)) (c : List ℕ) → All IsCharacter (cs ++ c ∷ [])
+    → text ++ byte ∷ [] ≡ concat (cs ++ c ∷ []) → IsBefore text byte
 before_last text byte cs c are e =
-    let front : All IsCharacter cs = subst (All IsCharacter) (take_at cs (c ∷ []) (length cs) refl) (All-take IsCharacter (length cs) (cs ++ c ∷ []) are) in
-    let back : All IsCharacter (c ∷ []) = subst (All IsCharacter) (drop_at cs (c ∷ []) (length cs) refl) (All-drop IsCharacter (length cs) (cs ++ c ∷ []) are) in
+    let front : All IsCharacter cs = subst (All IsCharacter) (take_at cs (c ∷ []) (length cs) refl)
+    (All-take IsCharacter (length cs) (cs ++ c ∷ []) are) in
+    let back : All IsCharacter (c ∷ []) = subst (All IsCharacter) (drop_at cs (c ∷ []) (length cs) refl)
+    (All-drop IsCharacter (length cs) (cs ++ c ∷ []) are) in
     let is : IsCharacter c = All-head IsCharacter c [] back in
-    let joined : text ++ byte ∷ [] ≡ concat cs ++ c = e ∙ concat-append cs (c ∷ []) ∙ ap (λ (t : List ℕ). concat cs ++ t) (append-nil c) in
+    let joined : text ++ byte ∷ [] ≡ concat cs ++ c = e ∙ concat-append cs (c ∷ [])
+    ∙ ap (λ (t : List ℕ). concat cs ++ t) (append-nil c) in
     elim (last_of c) [
       | inl none ↦ absurd (omega (arith, some_bytes c is, ap length none))
       | inr some ↦ before_character text byte cs c some.0 some.1 front is some.2 joined
     ]
 
-before_whole : (text : List ℕ) (byte : ℕ) (cs : List (List ℕ)) → All IsCharacter cs → text ++ byte ∷ [] ≡ concat cs → IsBefore text byte
+before_whole : (text : List ℕ) (byte : ℕ) (cs : List (List ℕ)) → All IsCharacter cs → text ++ byte ∷ [] ≡ concat cs
+    → IsBefore text byte
 before_whole text byte cs are e =
     elim (last_of cs) [
       | inl none ↦ absurd (omega (arith, ap length (e ∙ ap concat none), length-append text (byte ∷ [])))
       | inr some ↦ before_last text byte some.0 some.1 (subst (All IsCharacter) some.2 are) (e ∙ ap concat some.2)
     ]
 
-pub before : (text : List ℕ) (byte count : ℕ) (pending : List ℕ) → IsCut (text ++ byte ∷ []) count pending → IsBefore text byte
+pub before : (text : List ℕ) (byte count : ℕ) (pending : List ℕ) → IsCut (text ++ byte ∷ []) count pending
+    → IsBefore text byte
 before text byte count pending cut =
     elim (last_of pending) [
       | inl none ↦ before_whole text byte cut.characters.characters cut.characters.each
           (cut.cut ∙ ap (λ (t : List ℕ). cut.front ++ t) none ∙ append-nil cut.front ∙ cut.characters.joined)
-      | inr some ↦ before_pending text cut.front some.0 byte some.1 count cut.characters (subst IsPending some.2 cut.is_pending)
+      | inr some ↦ before_pending text cut.front some.0 byte some.1 count cut.characters
+          (subst IsPending some.2 cut.is_pending)
           (cut.cut ∙ ap (λ (t : List ℕ). cut.front ++ t) some.2)
     ]

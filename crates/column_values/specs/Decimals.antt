@@ -6,7 +6,8 @@ use Rattle.column_values.specs.Lengths.{group_length, decimal_groups}
 -- a number whose digits are cut into these groups, each as a number of its own
 abbrev pub grouped : List ℕ → ℕ → List ℕ
 grouped [] n = []
-grouped (digits ∷ groups) n = be_bytes (group_length digits) (n / 10 ^ sum groups) ++ grouped groups (n % 10 ^ sum groups)
+grouped (digits ∷ groups) n =
+    be_bytes (group_length digits) (n / 10 ^ sum groups) ++ grouped groups (n % 10 ^ sum groups)
 
 -- all bits turned, and the top bit turned
 abbrev pub complemented : List ℕ → List ℕ

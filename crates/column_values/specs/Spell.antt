@@ -8,6 +8,7 @@ use Rattle.column_values.specs.declared.value.Value.{Value}
 use Rattle.column_values.specs.declared.value.Value.TheVariants as values
 use Rattle.column_values.specs.declared.value.ValueError.{ValueError}
 use Rattle.column_values.specs.declared.value.ValueError.TheVariants.{BadValue, Memory}
+use Rattle.column_values.specs.Types.{HoldsText}
 use Rattle.column_values.specs.Characters.{IsCharacterText, IsTextUpTo}
 use Rattle.column_values.specs.Moments.{SpellsDateTime, SpellsTimestamp, SpellsYear, packed_moment, fraction_bytes, year_byte}
 use Rattle.column_values.specs.Decimals.{SpellsDecimal, decimal_bytes}
@@ -119,11 +120,11 @@ abbrev pub Finds : ColumnType → List ℕ → Option Value → Type 0
 Finds kind bytes (Some value) = Spell kind value bytes
 Finds kind bytes None = ¬ (IsSpelling kind bytes)
 
--- the same, where memory may be refused
+-- the same; memory is taken for texts and bytes alone
 abbrev pub Decodes : ColumnType → List ℕ → Result Value ValueError → Type 0
 Decodes kind bytes (Ok value) = Spell kind value bytes
 Decodes kind bytes (Err BadValue) = ¬ (IsSpelling kind bytes)
-Decodes kind bytes (Err Memory) = ⊤
+Decodes kind bytes (Err Memory) = HoldsText kind
 
 -- the bytes of a value
 pub record IsSpelled (kind : ColumnType) (value : Value) (bytes : List ℕ) : Type 0 where

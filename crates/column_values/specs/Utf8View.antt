@@ -48,7 +48,8 @@ state_after count Neither = Bad
 -- the state after one byte more
 abbrev pub StepsTo : State → ℕ → State → Type 0
 StepsTo Bad byte new = new ≡ Bad
-StepsTo (Good count pending) byte new = (joined : Joined) × Joins (pending ++ byte ∷ []) joined × (new ≡ state_after count joined)
+StepsTo (Good count pending) byte new =
+    (joined : Joined) × Joins (pending ++ byte ∷ []) joined × (new ≡ state_after count joined)
 
 -- one more character can be counted
 abbrev pub CanStep : State → Type 0

@@ -153,7 +153,8 @@ pub(crate) fn decimal(p: u8, s: u8, bytes: &[u8]) -> Option<Value>
 // The bytes with the sign put to them.
 fn signed_bytes(alloc: Global, is_negative: bool, plain: &[u8]) -> Result<ByteList, NoMemory>
     requires { length plain.now ≤ 18 }
-    ensures same { IfOk result (λ list. list ≡ with_top_turned (if is_negative then complemented plain.now else plain.now)) }
+    ensures same { IfOk result (λ list.
+        list ≡ with_top_turned (if is_negative then complemented plain.now else plain.now)) }
     ensures are_bytes { IfOk result AreBytes }
 {
     let mut room = [0; MOST];

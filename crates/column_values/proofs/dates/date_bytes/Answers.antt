@@ -9,5 +9,6 @@ returns-in_ok-push_number-in-Date c =
     let y = c.in-Date.year in
     let m = c.in-Date.month in
     let d = c.in-Date.day in
-    let same = alone 3 _ (packed_date y m d) _ _ c.new-list.ensures c.in_ok-push_number-in-Date.ensures.ok (omega arith) in
+    let same = alone 3 _ (packed_date y m d) _ _ c.new-list.ensures c.in_ok-push_number-in-Date.ensures.ok
+    (omega arith) in
     rw c.in-Date.is (date_spelled y m d _ (omega arith) (omega arith) (omega arith) same)

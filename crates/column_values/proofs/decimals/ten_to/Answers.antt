@@ -5,7 +5,8 @@ use Rattle.column_values.proofs.decimals.ten_to.Goals as goal
 
 pub pow-requires : goal.pow-requires
 pow-requires c =
-    let most : 10 ^ c.args.digits ≤ 10 ^ 38 = pow-le-pow_right {n = 10} (omega arith) {i = c.args.digits} {j = 38} c.requires in
+    let most : 10 ^ c.args.digits ≤ 10 ^ 38 = pow-le-pow_right {n = 10} (omega arith) {i = c.args.digits} {j =
+    38} c.requires in
     omega (arith, most)
 
 pub returns-clause-some : goal.returns-clause-some

@@ -5,7 +5,8 @@ use Rattle.column_values.proofs.MomentValues.{year_spelled, year_in_range}
 use Rattle.column_values.proofs.moments.year_bytes.Goals as goal
 
 pub returns-then-not-is_year : goal.returns-then-not-is_year
-returns-then-not-is_year c = λ is. absurd (false≢true (c.if-not-is_year.ensures.1 (year_in_range c.in-Year.year (rw c.in-Year.is at is))))
+returns-then-not-is_year c = λ is. absurd (false≢true (c.if-not-is_year.ensures.1
+    (year_in_range c.in-Year.year (rw c.in-Year.is at is))))
 
 pub returns : goal.returns
 returns c =

@@ -8,7 +8,8 @@ pub returns-in_ok-push_spaces-in-Text : goal.returns-in_ok-push_spaces-in-Text
 returns-in_ok-push_spaces-in-Text c =
     let text = c.in-Text.text in
     let n = c.args.n in
-    let trimmed : IsTrimmed n text = subst (IsTrimmed n) c.bytes.ensures (c.is_trimmed.ensures.0 c.if-is_trimmed.true) in
+    let trimmed : IsTrimmed n text = subst (IsTrimmed n) c.bytes.ensures
+    (c.is_trimmed.ensures.0 c.if-is_trimmed.true) in
     let same : c.in_ok-list-in-Text.list ≡ text = c.in_ok-list-in-Text.ensures.same ∙ c.bytes-in-Text.ensures in
     let are : AreBytes text = subst AreBytes same c.in_ok-list-in-Text.ensures.are_bytes in
     let filled : c.push_spaces.new.list ≡ text ++ replicate (n - length text) 32 =

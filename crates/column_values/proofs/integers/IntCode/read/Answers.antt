@@ -12,7 +12,16 @@ returns-then-signed g c =
     let top = top_bit_fits W c.requires.few in
     let is_signed : c.args.signed ≡ true = c.if-signed.true in
     let low = num-lt W bytes (λ k. omega (arith, c.type_inv.bytes k)) in
-    record { value = rw is_signed (omega (arith, ints)); flipped = λ _. omega (arith, ints) ∙ flipped_is W (num bytes 0 W) c.requires.some low; range = rw is_signed (omega (arith, ints, (signed_range W (num bytes 0 W) c.requires.some low).0), omega (arith, ints, (signed_range W (num bytes 0 W) c.requires.some low).1)) }
+    record {
+      value = rw is_signed (omega (arith, ints));
+      flipped = λ _. omega (arith, ints)
+          ∙ flipped_is W (num bytes 0 W) c.requires.some low;
+      range =
+          rw is_signed (
+            omega (arith, ints, (signed_range W (num bytes 0 W) c.requires.some low).0),
+            omega (arith, ints, (signed_range W (num bytes 0 W) c.requires.some low).1),
+          );
+    }
 
 pub returns-else-signed-clause-value : goal.returns-else-signed-clause-value
 returns-else-signed-clause-value g c =

@@ -28,7 +28,8 @@ returns-then-signed-clause-value g c =
     let is_signed : c.args.signed ≡ true = c.if-signed.true in
     let range : IsInRange true W c.args.value = rw is_signed at c.requires.range in
     let same : c.write_uint.new.buf ≡ int_bytes true W c.args.value =
-    whole_write W _ (nat_abs (c.args.value +ℤ pos (2 ^ (8 * W - 1)))) _ _ c.requires.size c.write_uint.ensures (omega (arith, ints, c.half.ensures.value)) in
+    whole_write W _ (nat_abs (c.args.value +ℤ pos (2 ^ (8 * W - 1)))) _ _ c.requires.size c.write_uint.ensures
+    (omega (arith, ints, c.half.ensures.value)) in
     rw (is_signed, same) (signed_written W c.args.value c.requires.some range)
 
 pub returns-else-signed-clause-value : goal.returns-else-signed-clause-value

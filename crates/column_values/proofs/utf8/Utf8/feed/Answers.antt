@@ -12,15 +12,19 @@ loop-byte-preserved c =
     let left : length bytes - i ≡ suc (length bytes - (i + 1)) = omega arith in
     let room : RoomFor old (suc (length bytes - (i + 1))) = rw left at c.loop-byte.invariant.room in
     record {
-      stands = λ text s. step_along old new _ i text bytes c.with-progress.ensures refl (omega arith) (c.loop-byte.invariant.stands text s);
+      stands = λ text s. step_along old new _ i text bytes c.with-progress.ensures refl (omega arith)
+          (c.loop-byte.invariant.stands text s);
       room = step_room old new _ (length bytes - (i + 1)) c.with-progress.ensures room;
-      few = λ most low. let more = step_up_to old new _ (most + i) c.with-progress.ensures (c.loop-byte.invariant.few most low) in
+      few = λ most low. let more = step_up_to old new _ (most + i) c.with-progress.ensures
+          (c.loop-byte.invariant.few most low) in
           let sum : most + i + 1 ≡ most + (i + 1) = omega arith in subst (λ (n : ℕ). UpTo n new) sum more;
     }
 
 pub returns-clause-counts : goal.returns-clause-counts
 returns-clause-counts c = λ most low.
     let bytes = c.args.bytes.now in
-    let whole : length bytes ≡ c.loop-byte.byte-index = omega (arith, c.loop-byte-test.false, c.loop-byte.auto.byte-index-end) in
+    let whole : length bytes ≡ c.loop-byte.byte-index =
+    omega (arith, c.loop-byte-test.false, c.loop-byte.auto.byte-index-end) in
     let before = rw (← c.self.view_is) at low in
-    rw whole (counts_view most c.loop-byte.byte-index c.self.inside.limit c.self.inside.progress c.loop-byte.progress c.loop-byte.invariant.few before)
+    rw whole (counts_view most c.loop-byte.byte-index c.self.inside.limit c.self.inside.progress c.loop-byte.progress
+    c.loop-byte.invariant.few before)

@@ -1,7 +1,7 @@
 use Rattle.std.proofs.Common.{◌≡◌, ◌+◌, length, arith}
 use Rattle.column_values.specs.Utf8Reader.{CountsUpTo, new_reader}
 use Rattle.column_values.proofs.Utf8Steps.{can_feed}
-use Rattle.column_values.proofs.tests.is_text_in_two.Goals as goal
+use Rattle.column_values.proofs.tests.texts.is_text_in_two.Goals as goal
 
 pub feed-requires-2 : goal.feed-requires-2
 feed-requires-2 c =

@@ -1,0 +1,161 @@
+ghost use Rattle.column_values.specs.Types.{IsColumnType};
+
+use super::{decimal, int, is_known};
+use crate::codec::{decode, encode, is_value};
+use crate::kind::ColumnType;
+use crate::value::{Value, ValueError};
+use page_source::ByteList;
+use std::alloc::Global;
+use std::test::Fail;
+
+fn is_refused(alloc: Global, kind: &ColumnType, bytes: &[u8]) -> bool
+    requires { IsColumnType kind.now }
+{
+    let result = decode(alloc, kind, bytes);
+    matches!(result, Err(ValueError::BadValue)) && !is_value(kind, bytes)
+}
+
+#[test]
+fn refuses_bytes_that_spell_nothing(rt: HostRuntime) {
+    let table: [(ColumnType, &[u8]); 35] = [
+        (int(4, true), &[0x00, 0x00, 0x00]),
+        (int(1, false), &[]),
+        (
+            int(8, true),
+            &[0x00, 0x00, 0x00, 0x00, 0x00, 0x00, 0x00, 0x00, 0x00],
+        ),
+        (ColumnType::Date, &[0x7F, 0xFF, 0xFF]),
+        (ColumnType::Date, &[0x8F, 0xB8]),
+        (ColumnType::Date, &[0x8F, 0xB9, 0xA1]),
+        (ColumnType::Date, &[0xCE, 0x20, 0x00]),
+        (
+            ColumnType::DateTime { f: 0 },
+            &[0x19, 0x8B, 0x42, 0xD3, 0x8F],
+        ),
+        (
+            ColumnType::DateTime { f: 0 },
+            &[0xFE, 0xF4, 0x00, 0x00, 0x00],
+        ),
+        (
+            ColumnType::DateTime { f: 0 },
+            &[0x99, 0x8B, 0x43, 0x80, 0x00],
+        ),
+        (
+            ColumnType::DateTime { f: 0 },
+            &[0x99, 0x8B, 0x42, 0x0F, 0x00],
+        ),
+        (
+            ColumnType::DateTime { f: 0 },
+            &[0x99, 0x8B, 0x42, 0x00, 0x3C],
+        ),
+        (ColumnType::DateTime { f: 0 }, &[0x99, 0x8B, 0x42, 0xD3]),
+        (
+            ColumnType::DateTime { f: 0 },
+            &[0x99, 0x8B, 0x42, 0xD3, 0x8F, 0x00],
+        ),
+        (
+            ColumnType::DateTime { f: 2 },
+            &[0x99, 0x8B, 0x42, 0xD3, 0x8F, 0x64],
+        ),
+        (
+            ColumnType::DateTime { f: 6 },
+            &[0x99, 0x8B, 0x42, 0x00, 0x00, 0x0F, 0x42, 0x40],
+        ),
+        (
+            ColumnType::DateTime { f: 1 },
+            &[0x99, 0x8B, 0x42, 0x00, 0x00, 0x0B],
+        ),
+        (
+            ColumnType::DateTime { f: 5 },
+            &[0x99, 0x8B, 0x42, 0x00, 0x00, 0x00, 0x00, 0x01],
+        ),
+        (ColumnType::Timestamp { f: 0 }, &[0x80, 0x00, 0x00, 0x00]),
+        (
+            ColumnType::Timestamp { f: 2 },
+            &[0x00, 0x00, 0x00, 0x00, 0x01],
+        ),
+        (
+            ColumnType::Timestamp { f: 3 },
+            &[0x00, 0x00, 0x00, 0x01, 0x00, 0x01],
+        ),
+        (ColumnType::Timestamp { f: 0 }, &[0x00, 0x00, 0x00]),
+        (ColumnType::Year, &[]),
+        (ColumnType::Year, &[0x01, 0x01]),
+        (decimal(5, 2), &[0x7F, 0xFF, 0xFF]),
+        (decimal(5, 2), &[0x80, 0x00, 0x64]),
+        (decimal(5, 2), &[0x80, 0x00]),
+        (decimal(1, 0), &[0x8A]),
+        (decimal(9, 0), &[0xBB, 0x9A, 0xCA, 0x00]),
+        (ColumnType::Char { n: 3 }, b"ab"),
+        (ColumnType::Binary { n: 2 }, b"abc"),
+        (ColumnType::Varchar { n: 3 }, b"abcd"),
+        (ColumnType::Varbinary { n: 3 }, b"abcd"),
+        (ColumnType::Utf8Varchar { n: 2 }, b"abc"),
+        (ColumnType::Utf8Text { n: 255 }, b"\xFF"),
+    ];
+    for (kind, bytes) in table {
+        assert!(rt; is_known(&kind));
+        assert!(rt; is_refused(rt.alloc(), &kind, bytes), "{kind:?} {bytes:?}");
+    }
+}
+
+fn list_of(alloc: Global, bytes: &[u8]) -> Result<ByteList, ValueError> {
+    let mut list = ByteList::new(alloc);
+    list.extend(bytes)?;
+    Ok(list)
+}
+
+#[test]
+fn refuses_values_of_other_types(rt: HostRuntime) -> Result<(), Fail> {
+    let table: [(ColumnType, Value); 12] = [
+        (int(1, true), Value::Null),
+        (int(1, true), Value::Signed(128)),
+        (int(3, false), Value::Unsigned(16777216)),
+        (int(8, true), Value::Unsigned(1)),
+        (
+            ColumnType::Date,
+            Value::Date {
+                year: 2012,
+                month: 13,
+                day: 1,
+            },
+        ),
+        (
+            ColumnType::Char { n: 3 },
+            Value::Text(list_of(rt.alloc(), b"a ")?),
+        ),
+        (
+            ColumnType::Varchar { n: 3 },
+            Value::Bytes(list_of(rt.alloc(), b"a")?),
+        ),
+        (
+            ColumnType::Utf8Varchar { n: 3 },
+            Value::Text(list_of(rt.alloc(), b"\xC3")?),
+        ),
+        (
+            ColumnType::Timestamp { f: 0 },
+            Value::Timestamp {
+                seconds: 0x8000_0000,
+                micro: 0,
+            },
+        ),
+        (
+            ColumnType::Timestamp { f: 1 },
+            Value::Timestamp {
+                seconds: 1,
+                micro: 10,
+            },
+        ),
+        (ColumnType::Year, Value::Year(1900)),
+        (decimal(5, 2), Value::Decimal(-100000)),
+    ];
+    for (kind, value) in table {
+        assert!(rt; is_known(&kind));
+        let result = encode(rt.alloc(), &kind, &value);
+        assert!(rt;
+            matches!(result, Err(ValueError::BadValue)),
+            "{kind:?} {value:?}"
+        );
+    }
+    Ok(())
+}
