@@ -29,10 +29,13 @@ pub record IsFormed (t : TableDef) (line : Line) (o : Option ColumnType) (nullab
   pub type : IsTypeRead (type_part line) (Some o)
   pub nullity : last_word line ≡ nullity_word nullable
 
-pub form_of : (t : TableDef) (line : Line) (o : Option ColumnType) (nullable : Bool) → IsFormed t line o nullable → (length t.indexes ≡ 0) × IsColumnForm line
-form_of t line o nullable h = (h.before, (h.long, read_form (type_part line) o h.type, is_nullity (last_word line) nullable h.nullity))
+pub form_of : (t : TableDef) (line : Line) (o : Option ColumnType) (nullable : Bool) → IsFormed t line o nullable
+    → (length t.indexes ≡ 0) × IsColumnForm line
+form_of t line o nullable h =
+    (h.before, (h.long, read_form (type_part line) o h.type, is_nullity (last_word line) nullable h.nullity))
 
-pub last_is : (line : Line) (n : ℕ) (last : List ℕ) → n ≡ length line → last ≡ get_or line (n - 1) [] → last ≡ last_word line
+pub last_is : (line : Line) (n : ℕ) (last : List ℕ) → n ≡ length line → last ≡ get_or line (n - 1) []
+    → last ≡ last_word line
 last_is line n last size e = e ∙ ap (λ (k : ℕ). get_or line (k - 1) []) size
 
 pub first_word : (line : Line) → is_column_line line ≡ true → word line 0 ≡ codes "column"
@@ -45,18 +48,26 @@ pub type_number : (words : Line) (o : Option ColumnType) → o ≡ None → IsTy
 type_number words None e h = h.1
 type_number words (Some kind) e h = absurd (cc)
 
-pub type_good : (words : Line) (o : Option ColumnType) (kind : ColumnType) → o ≡ Some kind → IsTypeRead words (Some o) → IsTypeRead words (Some (Some kind))
+pub type_good : (words : Line) (o : Option ColumnType) (kind : ColumnType) → o ≡ Some kind → IsTypeRead words (Some o)
+    → IsTypeRead words (Some (Some kind))
 type_good words o kind e h = subst (λ (p : Option ColumnType). IsTypeRead words (Some p)) e h
 
-pub any_not_new : (t : TableDef) (columns : List Column) (name w : List ℕ) → columns ≡ t.columns → name ≡ w → Any (λ (c : Column). c.name ≡ name) columns → IsNewColumn t w → ⊥
+pub any_not_new : (t : TableDef) (columns : List Column) (name w : List ℕ) → columns ≡ t.columns → name ≡ w
+    → Any (λ (c : Column). c.name ≡ name) columns → IsNewColumn t w → ⊥
 any_not_new t columns name w e n h new =
-    any_not_all (λ (c : Column). c.name ≡ name) columns h (λ k d below same. subst (λ (xs : List Column). All (λ (c : Column). c.name ≡ w → ⊥) xs) (sym e) new k d below (same ∙ n))
+    any_not_all (λ (c : Column). c.name
+    ≡ name) columns h (λ k d below same. subst (λ (xs : List Column). All (λ (c : Column). c.name ≡ w
+    → ⊥) xs) (sym e) new k d below (same ∙ n))
 
-pub is_new : (t : TableDef) (columns : List Column) (name w : List ℕ) → columns ≡ t.columns → name ≡ w → All (λ (c : Column). c.name ≢ name) columns → IsNewColumn t w
-is_new t columns name w e n h = subst (λ (xs : List Column). All (λ (c : Column). c.name ≡ w → ⊥) xs) e (λ k d below same. h k d below (same ∙ sym n))
+pub is_new : (t : TableDef) (columns : List Column) (name w : List ℕ) → columns ≡ t.columns → name ≡ w
+    → All (λ (c : Column). c.name ≢ name) columns → IsNewColumn t w
+is_new t columns name w e n h = subst (λ (xs : List Column). All (λ (c : Column). c.name ≡ w
+    → ⊥) xs) e (λ k d below same. h k d below (same ∙ sym n))
 
 -- a column line that passes
-pub column_read : (t : TableDef) (line : Line) (kind : ColumnType) (nullable : Bool) → IsPart t → is_column_line line ≡ true → IsFormed t line (Some kind) nullable → IsName (word line 1) → length t.columns < 64 → IsNewColumn t (word line 1) → IsColumnRead t line (word line 1) kind nullable
+pub column_read : (t : TableDef) (line : Line) (kind : ColumnType) (nullable : Bool) → IsPart t
+    → is_column_line line ≡ true → IsFormed t line (Some kind) nullable → IsName (word line 1) → length t.columns < 64
+    → IsNewColumn t (word line 1) → IsColumnRead t line (word line 1) kind nullable
 column_read t line kind nullable part first h name few new = record {
   part = part;
   checked = column_good t line (form_of t line (Some kind) nullable h) name (kind, h.type.0, h.type.1) few new;

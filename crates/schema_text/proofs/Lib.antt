@@ -16,3 +16,4 @@ pub mod TextLemmas
 pub mod ReadingLemmas
 pub mod FieldLemmas
 pub mod PrintLemmas
+pub mod GoodLines

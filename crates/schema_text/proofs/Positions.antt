@@ -10,7 +10,8 @@ cond_none true x e = cc
 cond_none false x e = refl
 
 -- where no place is found, nothing there passes
-pub none_passes : {X : Type 0} (p : X → Bool) (xs : List X) → position p xs ≡ None → (k : ℕ) (d : X) → k < length xs → p (get_or xs k d) ≡ false
+pub none_passes : {X : Type 0} (p : X → Bool) (xs : List X) → position p xs ≡ None → (k : ℕ) (d : X) → k < length xs
+    → p (get_or xs k d) ≡ false
 none_passes p xs none k d within =
     let past = ltb-false (position_or_len p xs) (length xs) (cond_none _ (position_or_len p xs) none) in
     fails_before_first p xs k d (omega arith)

@@ -30,10 +30,12 @@ pub three_words_are : (line : Line) → length line ≡ 3 → line ≡ word line
 three_words_are (a ∷ b ∷ c ∷ []) h = refl
 three_words_are _ h = absurd (omega arith)
 
-pub table_begun : (name own : List ℕ) (format : Format) (line : Line) (t : TableDef) → IsName name → own ≡ name → line ≡ codes "table" ∷ name ∷ format_word format ∷ []
+pub table_begun : (name own : List ℕ) (format : Format) (line : Line) (t : TableDef) → IsName name → own ≡ name
+    → line ≡ codes "table" ∷ name ∷ format_word format ∷ []
     → t ≡ record { table = own; format = format; columns = []; indexes = [] } → AreLinesOf t (line ∷ [])
 table_begun name own format line t is same spelled made =
-    let begun : t ≡ record { table = name; format = format; columns = []; indexes = [] } = made ∙ ap (λ n. record { table = n; format = format; columns = []; indexes = [] }) same in
+    let begun : t ≡ record { table = name; format = format; columns = []; indexes = [] } = made
+    ∙ ap (λ n. record { table = n; format = format; columns = []; indexes = [] }) same in
     subst (λ v. AreLinesOf v (line ∷ [])) (sym begun)
     (record { part = part_begun name format is; spelled = ap (λ w. w ∷ []) spelled ∙ sym (words_begun name format) })
 
@@ -41,26 +43,54 @@ table_begun name own format line t is same spelled made =
 abbrev pub HasClusteredForm : TableDef → Line → Type 0
 HasClusteredForm t line = (1 ≤ length t.columns) × (length t.indexes ≡ 0) × IsClusteredForm line
 
-pub clustered_form : (t : TableDef) (line : Line) → (HasClusteredForm t line → ⊥) → ClusteredLineChecks t line (Some Form)
+pub clustered_form : (t : TableDef) (line : Line) → (HasClusteredForm t line → ⊥)
+    → ClusteredLineChecks t line (Some Form)
 unfolding ClusteredLineChecks
 clustered_form t line bad = inl (bad, refl)
 
-pub clustered_name : (t : TableDef) (line : Line) → HasClusteredForm t line → (All IsName (drop 3 line) → ⊥) → ClusteredLineChecks t line (Some Name)
+pub clustered_name : (t : TableDef) (line : Line) → HasClusteredForm t line → (All IsName (drop 3 line) → ⊥)
+    → ClusteredLineChecks t line (Some Name)
 unfolding ClusteredLineChecks
 clustered_name t line form bad = inr (form, inl (bad, refl))
 
 abbrev AreKeysRead : TableDef → IndexLine → ℕ → Type 0
 AreKeysRead t line root = IsRoot root × (line.root ≡ decimal root) × KeyChecks t line None
 
-pub clustered_result : (t : TableDef) (line : Line) (number : List ℕ) (r : Result ℕ SchemaWhy) → IsPart t → HasClusteredForm t line → All IsName (drop 3 line) → number ≡ word line 2
-    → MatchResult r (λ root. IsRoot root × (number ≡ decimal root) × KeyChecks t (record { name = []; root = number; keys = drop 3 line }) None) (λ why. KeyChecks t (record { name = []; root = number; keys = drop 3 line }) (Some why))
+pub clustered_result : (t : TableDef) (line : Line) (number : List ℕ) (r : Result ℕ SchemaWhy) → IsPart t
+    → HasClusteredForm t line → All IsName (drop 3 line) → number ≡ word line 2
+    → MatchResult r (λ root. IsRoot root × (number ≡ decimal root) × KeyChecks t (record {
+      name = [];
+      root = number;
+      keys = drop 3 line;
+    }) None) (λ why. KeyChecks t (record {
+      name = [];
+      root = number;
+      keys = drop 3 line;
+    }) (Some why))
     → MatchResult r (λ root. IsClusteredRead t line root) (λ why. ClusteredLineChecks t line (Some why))
 unfolding ClusteredLineChecks
 clustered_result t line number (Ok root) part form names e h =
     let key = subst (λ n. KeyChecks t (record { name = []; root = n; keys = drop 3 line }) None) e h.2 in
-    record { part = part; is_root = h.0; number = sym e ∙ h.1; columns = form.0; first = form.1; form = form.2; key = key; checked = (form, (names, key)) }
+    record {
+      part = part;
+      is_root = h.0;
+      number = sym e
+          ∙ h.1;
+      columns = form.0;
+      first = form.1;
+      form = form.2;
+      key = key;
+      checked = (form, (names, key));
+    }
 clustered_result t line number (Err why) part form names e h =
-    inr (form, inr (names, subst (λ n. KeyChecks t (record { name = []; root = n; keys = drop 3 line }) (Some why)) e h))
+    inr (
+      form,
+      inr (
+        names,
+        subst (λ n. KeyChecks t (record { name = []; root = n; keys = drop 3 line }) (Some why)) e
+            h,
+      ),
+    )
 
 -- the line of another index
 abbrev pub HasIndexForm : TableDef → Line → Type 0
@@ -70,34 +100,73 @@ pub index_form : (t : TableDef) (line : Line) → (HasIndexForm t line → ⊥) 
 unfolding IndexLineChecks
 index_form t line bad = inl (bad, refl)
 
-pub index_name : (t : TableDef) (line : Line) → HasIndexForm t line → (IsName (word line 1) × All IsName (drop 4 line) → ⊥) → IndexLineChecks t line (Some Name)
+pub index_name : (t : TableDef) (line : Line) → HasIndexForm t line → (IsName (word line 1) × All IsName (drop 4 line)
+    → ⊥) → IndexLineChecks t line (Some Name)
 unfolding IndexLineChecks
 index_name t line form bad = inr (form, inl (bad, refl))
 
-pub index_result : (t : TableDef) (line : Line) (name number : List ℕ) (r : Result ℕ SchemaWhy) → IsPart t → HasIndexForm t line → IsName (word line 1) → All IsName (drop 4 line) → name ≡ word line 1 → number ≡ word line 3
-    → MatchResult r (λ root. IsRoot root × (number ≡ decimal root) × KeyChecks t (record { name = name; root = number; keys = drop 4 line }) None) (λ why. KeyChecks t (record { name = name; root = number; keys = drop 4 line }) (Some why))
+pub index_result : (t : TableDef) (line : Line) (name number : List ℕ) (r : Result ℕ SchemaWhy) → IsPart t
+    → HasIndexForm t line → IsName (word line 1) → All IsName (drop 4 line) → name ≡ word line 1 → number ≡ word line 3
+    → MatchResult r (λ root. IsRoot root × (number ≡ decimal root) × KeyChecks t (record {
+      name = name;
+      root = number;
+      keys = drop 4 line;
+    }) None) (λ why. KeyChecks t (record {
+      name = name;
+      root = number;
+      keys = drop 4 line;
+    }) (Some why))
     → MatchResult r (λ root. IsIndexLineRead t line root) (λ why. IndexLineChecks t line (Some why))
 unfolding IndexLineChecks
 index_result t line name number (Ok root) part form is names n e h =
-    let key = subst (λ m. KeyChecks t (record { name = m; root = word line 3; keys = drop 4 line }) None) n (subst (λ m. KeyChecks t (record { name = name; root = m; keys = drop 4 line }) None) e h.2) in
-    record { part = part; is_root = h.0; number = sym e ∙ h.1; name = is; behind = form.0; form = form.1; key = key; checked = (form, ((is, names), key)) }
+    let key = subst (λ m. KeyChecks t (record { name = m; root = word line 3; keys = drop 4 line }) None) n
+    (subst (λ m. KeyChecks t (record { name = name; root = m; keys = drop 4 line }) None) e h.2) in
+    record {
+      part = part;
+      is_root = h.0;
+      number = sym e
+          ∙ h.1;
+      name = is;
+      behind = form.0;
+      form = form.1;
+      key = key;
+      checked = (form, ((is, names), key));
+    }
 index_result t line name number (Err why) part form is names n e h =
-    inr (form, inr ((is, names), subst (λ m. KeyChecks t (record { name = m; root = word line 3; keys = drop 4 line }) (Some why)) n (subst (λ m. KeyChecks t (record { name = name; root = m; keys = drop 4 line }) (Some why)) e h)))
+    inr (
+      form,
+      inr (
+        (is, names),
+        subst (λ m. KeyChecks t (record {
+          name = m;
+          root = word line 3;
+          keys = drop 4 line;
+        }) (Some why)) n (subst (λ m. KeyChecks t (record {
+          name = name;
+          root = m;
+          keys = drop 4 line;
+        }) (Some why)) e h),
+      ),
+    )
 
 -- the checks by the first word
-pub by_column : (t : TableDef) (line : Line) (why : Option SchemaWhy) → is_column_line line ≡ true → ColumnChecks t line why → NextChecks t line why
+pub by_column : (t : TableDef) (line : Line) (why : Option SchemaWhy) → is_column_line line ≡ true
+    → ColumnChecks t line why → NextChecks t line why
 unfolding NextChecks
 by_column t line why first h = rw first h
 
-pub by_clustered : (t : TableDef) (line : Line) (why : Option SchemaWhy) → is_column_line line ≡ false → is_clustered_line line ≡ true → ClusteredLineChecks t line why → NextChecks t line why
+pub by_clustered : (t : TableDef) (line : Line) (why : Option SchemaWhy) → is_column_line line ≡ false
+    → is_clustered_line line ≡ true → ClusteredLineChecks t line why → NextChecks t line why
 unfolding NextChecks
 by_clustered t line why a first h = rw (a, first) h
 
-pub by_index : (t : TableDef) (line : Line) (why : Option SchemaWhy) → is_column_line line ≡ false → is_clustered_line line ≡ false → is_index_line line ≡ true → IndexLineChecks t line why → NextChecks t line why
+pub by_index : (t : TableDef) (line : Line) (why : Option SchemaWhy) → is_column_line line ≡ false
+    → is_clustered_line line ≡ false → is_index_line line ≡ true → IndexLineChecks t line why → NextChecks t line why
 unfolding NextChecks
 by_index t line why a b first h = rw (a, b, first) h
 
-pub by_none : (t : TableDef) (line : Line) → is_column_line line ≡ false → is_clustered_line line ≡ false → is_index_line line ≡ false → NextChecks t line (Some Form)
+pub by_none : (t : TableDef) (line : Line) → is_column_line line ≡ false → is_clustered_line line ≡ false
+    → is_index_line line ≡ false → NextChecks t line (Some Form)
 unfolding NextChecks
 by_none t line a b c = rw (a, b, c) ((λ h. h, refl))
 
@@ -106,7 +175,8 @@ pub on_ok_as : {A E : Type 0} (r : Result A E) (P Q : Type 0) → (P → Q) → 
 on_ok_as (Ok a) P Q f h = f h
 on_ok_as (Err e) P Q f h = tt
 
-pub refused_as : {A : Type 0} (n : ℕ) (r : Result A SchemaError) (P Q : Option SchemaWhy → Type 0) → ((why : Option SchemaWhy) → P why → Q why) → IfErr r (RefusedAt n P) → IfErr r (RefusedAt n Q)
+pub refused_as : {A : Type 0} (n : ℕ) (r : Result A SchemaError) (P Q : Option SchemaWhy → Type 0)
+    → ((why : Option SchemaWhy) → P why → Q why) → IfErr r (RefusedAt n P) → IfErr r (RefusedAt n Q)
 refused_as n (Ok a) P Q f h = tt
 refused_as n (Err (Refused line why)) P Q f h = (h.0, f (Some why) h.1)
 refused_as n (Err Memory) P Q f h = tt

@@ -46,7 +46,8 @@ three_on_line (a ∷ b ∷ c ∷ d ∷ e ∷ f ∷ []) h = refl
 three_on_line _ h = absurd (omega arith)
 
 -- a column line, put together from its words
-pub column_line_is : (line : Line) → 4 ≤ length line → line ≡ ((word line 0 ∷ word line 1 ∷ []) ++ type_part line) ++ last_word line ∷ []
+pub column_line_is : (line : Line) → 4 ≤ length line
+    → line ≡ ((word line 0 ∷ word line 1 ∷ []) ++ type_part line) ++ last_word line ∷ []
 column_line_is (a ∷ b ∷ line) h =
     let size : length line ≡ suc (length line - 1) = omega arith in
     let inner : suc (suc (length line)) - 3 ≡ length line - 1 = omega arith in

@@ -18,63 +18,89 @@ use Rattle.std.specs.Bool.{then_some}
 use Rattle.std.specs.Borrow.{Bor}
 
 -- from the cases of `strip_prefix`
-pub behind_found : (s p : List ℕ) (r : Option (Bor (List ℕ))) → MatchOption r ((rest : List ℕ) → s ≢ p ++ rest) (λ x. s ≡ p ++ x.now) → IfSome r (λ x. s ≡ p ++ x.now)
+pub behind_found : (s p : List ℕ) (r : Option (Bor (List ℕ)))
+    → MatchOption r ((rest : List ℕ) → s ≢ p ++ rest) (λ x. s ≡ p ++ x.now) → IfSome r (λ x. s ≡ p ++ x.now)
 behind_found s p None h = tt
 behind_found s p (Some x) h = h
 
-pub behind_only : (s p : List ℕ) (r : Option (Bor (List ℕ))) → MatchOption r ((rest : List ℕ) → s ≢ p ++ rest) (λ x. s ≡ p ++ x.now) → (rest : List ℕ) → s ≡ p ++ rest → IsSomeAnd r (λ x. x.now ≡ rest)
+pub behind_only : (s p : List ℕ) (r : Option (Bor (List ℕ)))
+    → MatchOption r ((rest : List ℕ) → s ≢ p ++ rest) (λ x. s ≡ p ++ x.now) → (rest : List ℕ) → s ≡ p ++ rest
+    → IsSomeAnd r (λ x. x.now ≡ rest)
 behind_only s p None h rest e = absurd (h rest e)
 behind_only s p (Some x) h rest e = append_cancel_left p x.now rest (sym h ∙ e)
 
 -- from the cases of `strip_suffix`
-pub ahead_found : (s p : List ℕ) (r : Option (Bor (List ℕ))) → MatchOption r ((front : List ℕ) → s ≢ front ++ p) (λ x. s ≡ x.now ++ p) → IfSome r (λ x. s ≡ x.now ++ p)
+pub ahead_found : (s p : List ℕ) (r : Option (Bor (List ℕ)))
+    → MatchOption r ((front : List ℕ) → s ≢ front ++ p) (λ x. s ≡ x.now ++ p) → IfSome r (λ x. s ≡ x.now ++ p)
 ahead_found s p None h = tt
 ahead_found s p (Some x) h = h
 
-pub ahead_only : (s p : List ℕ) (r : Option (Bor (List ℕ))) → MatchOption r ((front : List ℕ) → s ≢ front ++ p) (λ x. s ≡ x.now ++ p) → (front : List ℕ) → s ≡ front ++ p → IsSomeAnd r (λ x. x.now ≡ front)
+pub ahead_only : (s p : List ℕ) (r : Option (Bor (List ℕ)))
+    → MatchOption r ((front : List ℕ) → s ≢ front ++ p) (λ x. s ≡ x.now ++ p) → (front : List ℕ) → s ≡ front ++ p
+    → IsSomeAnd r (λ x. x.now ≡ front)
 ahead_only s p None h front e = absurd (h front e)
 ahead_only s p (Some x) h front e = append_cancel_right x.now front p (sym h ∙ e)
 
 -- the first such byte stands behind what lacks it
-pub place_between : (byte : ℕ) (first rest : List ℕ) → Lacks byte first → position (λ b. eqb b byte) (first ++ byte ∷ rest) ≡ Some (length first)
+pub place_between : (byte : ℕ) (first rest : List ℕ) → Lacks byte first
+    → position (λ b. eqb b byte) (first ++ byte ∷ rest) ≡ Some (length first)
 place_between byte first rest lacks =
-    let size : length (first ++ byte ∷ rest) ≡ length first + (length rest + 1) = omega (arith, length-append first (byte ∷ rest)) in
-    let is : position_or_len (λ b. eqb b byte) (first ++ byte ∷ rest) ≡ length first = position_or_len_is (λ b. eqb b byte) (first ++ byte ∷ rest) (length first) 0 (omega arith) (λ k below. rw get_or_append_left (let ne = lacks k 0 below in grind (arith, nat_tests))) (λ _. rw (get_or_at first byte rest 0 (length first) refl) (grind (arith, nat_tests))) in
+    let size : length (first ++ byte ∷ rest)
+    ≡ length first + (length rest + 1) = omega (arith, length-append first (byte ∷ rest)) in
+    let is : position_or_len (λ b. eqb b byte) (first ++ byte ∷ rest)
+    ≡ length first = position_or_len_is (λ b. eqb b byte) (first ++ byte ∷ rest) (length first) 0 (omega arith)
+    (λ k below. rw get_or_append_left (let ne = lacks k 0 below in
+    grind (arith, nat_tests))) (λ _. rw (get_or_at first byte rest 0 (length first) refl)
+    (grind (arith, nat_tests))) in
     rw (is, lt-ltb (length first) (length (first ++ byte ∷ rest)) (omega arith)) refl
 
-pub parts_between : (byte at : ℕ) (s first rest : List ℕ) → at ≡ length first → s ≡ first ++ byte ∷ rest → (take at s ≡ first) × (take (length s - (at + 1)) (drop (at + 1) s) ≡ rest)
+pub parts_between : (byte at : ℕ) (s first rest : List ℕ) → at ≡ length first → s ≡ first ++ byte ∷ rest
+    → (take at s ≡ first) × (take (length s - (at + 1)) (drop (at + 1) s) ≡ rest)
 parts_between byte at s first rest e t =
     let regrouped : s ≡ (first ++ byte ∷ []) ++ rest = t ∙ sym (append_assoc first (byte ∷ []) rest) in
-    let place : length (first ++ byte ∷ []) ≡ at + 1 = omega (arith, length-append first (byte ∷ [])) in
-    (ap (take at) t ∙ take_at first (byte ∷ rest) at (sym e), take_rest s (at + 1) ∙ ap (drop (at + 1)) regrouped ∙ drop_at (first ++ byte ∷ []) rest (at + 1) place)
+    let place : length (first ++ byte ∷ []) ≡ at + 1 = omega (arith, length-append first (byte ∷ [])) in (
+      ap (take at) t ∙ take_at first (byte ∷ rest) at (sym e),
+      take_rest s (at + 1) ∙ ap (drop (at + 1)) regrouped
+          ∙ drop_at (first ++ byte ∷ []) rest (at + 1) place,
+    )
 
-pub found_place : (byte at : ℕ) (s : List ℕ) → Some at ≡ position (λ b. eqb b byte) s → s ≡ take at s ++ byte ∷ take (length s - (at + 1)) (drop (at + 1) s)
+pub found_place : (byte at : ℕ) (s : List ℕ) → Some at ≡ position (λ b. eqb b byte) s
+    → s ≡ take at s ++ byte ∷ take (length s - (at + 1)) (drop (at + 1) s)
 found_place byte at s e =
     let p = position-Some (λ b. eqb b byte) s at 0 (sym e) in
     let within : at < length s = p.0 in
     let here : get_or s at 0 ≡ byte = eqb-true (get_or s at 0) byte p.1 in
-    sym (take-append-drop at s) ∙ ap (λ x. take at s ++ x) (drop_more s at 0 within ∙ ap (λ b. b ∷ drop (at + 1) s) here ∙ ap (λ r. byte ∷ r) (sym (take_rest s (at + 1))))
+    sym (take-append-drop at s) ∙ ap (λ x. take at s ++ x) (drop_more s at 0 within
+    ∙ ap (λ b. b ∷ drop (at + 1) s) here ∙ ap (λ r. byte ∷ r) (sym (take_rest s (at + 1))))
 
-pub no_place : (byte : ℕ) (s first rest : List ℕ) → None ≡ position (λ b. eqb b byte) s → Lacks byte first → s ≡ first ++ byte ∷ rest → ⊥
+pub no_place : (byte : ℕ) (s first rest : List ℕ) → None ≡ position (λ b. eqb b byte) s → Lacks byte first
+    → s ≡ first ++ byte ∷ rest → ⊥
 no_place byte s first rest none lacks e =
-    let some : position (λ b. eqb b byte) s ≡ Some (length first) = ap (position (λ b. eqb b byte)) e ∙ place_between byte first rest lacks in
+    let some : position (λ b. eqb b byte) s ≡ Some (length first) = ap (position (λ b. eqb b byte)) e
+    ∙ place_between byte first rest lacks in
     let bad : None ≡ Some (length first) = none ∙ some in
     cc
 
-pub one_place : (byte at : ℕ) (s first rest : List ℕ) → Some at ≡ position (λ b. eqb b byte) s → Lacks byte first → s ≡ first ++ byte ∷ rest → (take at s ≡ first) × (take (length s - (at + 1)) (drop (at + 1) s) ≡ rest)
+pub one_place : (byte at : ℕ) (s first rest : List ℕ) → Some at ≡ position (λ b. eqb b byte) s → Lacks byte first
+    → s ≡ first ++ byte ∷ rest → (take at s ≡ first) × (take (length s - (at + 1)) (drop (at + 1) s) ≡ rest)
 one_place byte at s first rest some lacks e =
-    let same : Some at ≡ Some (length first) = some ∙ ap (position (λ b. eqb b byte)) e ∙ place_between byte first rest lacks in
+    let same : Some at ≡ Some (length first) = some ∙ ap (position (λ b. eqb b byte)) e
+    ∙ place_between byte first rest lacks in
     let at_is : at ≡ length first = cc in
     parts_between byte at s first rest at_is e
 
 -- from the cases of `from_utf8`
-pub utf8_text : {E : Type 0} (F : E → Type 0) (s : List ℕ) (r : Result (Bor (List ℕ)) E) (t : Bor (List ℕ)) → MatchResult r (λ t. (t.now ≡ s) × IsUtf8 s) (λ e. ¬ (IsUtf8 s) × F e) → Some t ≡ result_ok r → t.now ≡ s
+pub utf8_text : {E : Type 0} (F : E → Type 0) (s : List ℕ) (r : Result (Bor (List ℕ)) E) (t : Bor (List ℕ))
+    → MatchResult r (λ t. (t.now ≡ s) × IsUtf8 s) (λ e. ¬ (IsUtf8 s) × F e) → Some t ≡ result_ok r → t.now ≡ s
 utf8_text F s (Ok x) t h e = let same : t ≡ x = cc in ap (λ (b : Bor (List ℕ)). b.now) same ∙ h.0
 utf8_text F s (Err x) t h e = absurd (cc)
 
-pub utf8_decimal : {E : Type 0} (F : E → Type 0) (s : List ℕ) (n : ℕ) (r : Result (Bor (List ℕ)) E) → MatchResult r (λ t. (t.now ≡ s) × IsUtf8 s) (λ e. ¬ (IsUtf8 s) × F e) → None ≡ result_ok r → n < 2 ^ 64 → s ≡ decimal n → ⊥
+pub utf8_decimal : {E : Type 0} (F : E → Type 0) (s : List ℕ) (n : ℕ) (r : Result (Bor (List ℕ)) E)
+    → MatchResult r (λ t. (t.now ≡ s) × IsUtf8 s) (λ e. ¬ (IsUtf8 s) × F e) → None ≡ result_ok r → n < 2 ^ 64
+    → s ≡ decimal n → ⊥
 utf8_decimal F s n (Ok x) h e fits t = cc
-utf8_decimal F s n (Err x) h e fits t = h.0 (subst IsUtf8 (sym t) (IsUtf8-from_ascii (decimal n) (IsAscii-decimal n fits)))
+utf8_decimal F s n (Err x) h e fits t = h.0
+    (subst IsUtf8 (sym t) (IsUtf8-from_ascii (decimal n) (IsAscii-decimal n fits)))
 
 pub ok_part_some : {E : Type 0} (r : Result ℕ E) (n : ℕ) → None ≡ result_ok r → r ≡ Ok n → ⊥
 ok_part_some (Ok m) n none e = cc
@@ -93,7 +119,8 @@ pub lacks_before : (byte at : ℕ) (s : List ℕ) → Some at ≡ position (λ b
 lacks_before byte at s e = λ k d below same.
     let p = position-Some (λ b. eqb b byte) s at 0 (sym e) in
     let short = length-take-le at s (omega (arith, p.0)) in
-    let here : get_or (take at s) k d ≡ get_or s k 0 = get_or-take at s k d (omega arith) ∙ get_or_default s k d 0 (omega (arith, p.0)) in
+    let here : get_or (take at s) k d ≡ get_or s k 0 = get_or-take at s k d (omega arith)
+    ∙ get_or_default s k d 0 (omega (arith, p.0)) in
     let fails = p.2 k (omega arith) in
     absurd (false≢true (sym fails ∙ eq-eqb (get_or s k 0) byte (sym here ∙ same)))
 

@@ -12,7 +12,11 @@ abbrev pub kept_field : Column → Field
 kept_field column = record { kind = fields.Column column.kind; nullable = column.nullable; may_leave = false }
 
 abbrev pub leaving_field : Column → Field
-leaving_field column = record { kind = fields.Column column.kind; nullable = column.nullable; may_leave = is_big_kind column.kind }
+leaving_field column = record {
+  kind = fields.Column column.kind;
+  nullable = column.nullable;
+  may_leave = is_big_kind column.kind;
+}
 
 -- the hidden fields, of fixed length
 abbrev pub row_id_field : Field
@@ -61,7 +65,8 @@ clustered_key table = row_key table.columns (clustered_positions table) (cluster
 
 -- what a secondary entry keeps of the clustered key
 abbrev pub row_reference : TableDef → List ℕ → List Field
-row_reference table positions = row_key table.columns (clustered_positions table) (positions_without (clustered_positions table) positions)
+row_reference table positions = row_key table.columns (clustered_positions table)
+    (positions_without (clustered_positions table) positions)
 
 -- what follows the key in a clustered leaf record
 abbrev pub clustered_rest : TableDef → List Field

@@ -15,10 +15,12 @@ names_at columns positions = map (λ (c : Column). c.name) (columns_at columns p
 
 -- the words of the clustered line, and of another index's line, by the columns of the table
 abbrev pub clustered_by : List Column → IndexDef → List (List ℕ)
-clustered_by columns index = (codes "clustered" ∷ codes "root" ∷ decimal index.root ∷ []) ++ names_at columns index.columns
+clustered_by columns index = (codes "clustered" ∷ codes "root" ∷ decimal index.root ∷ [])
+    ++ names_at columns index.columns
 
 abbrev pub index_by : List Column → IndexDef → List (List ℕ)
-index_by columns index = (codes "index" ∷ index.name ∷ codes "root" ∷ decimal index.root ∷ []) ++ names_at columns index.columns
+index_by columns index = (codes "index" ∷ index.name ∷ codes "root" ∷ decimal index.root ∷ [])
+    ++ names_at columns index.columns
 
 -- all columns of the index are among these
 abbrev pub HasKnownColumns : List Column → IndexDef → Type 0

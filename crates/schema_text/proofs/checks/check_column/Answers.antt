@@ -14,24 +14,42 @@ returns-in_default c = column_form _ _ (λ f. c.in_default.ensures f.1.1)
 pub returns-then-indexes-gt0 : goal.returns-then-indexes-gt0
 returns-then-indexes-gt0 c =
     let size = ap length c.indexes.ensures.same in
-    column_form _ _ (λ f. elim c.then-indexes-gt0.branch [ then-indexes-gt0-via-then-indexes-gt0 w ↦ omega (arith, f.0) | then-indexes-gt0-via-else-indexes-gt0+then-len-lt4 w ↦ omega (arith, f.1.0) ])
+    column_form _ _
+    (λ f. elim c.then-indexes-gt0.branch [
+      | then-indexes-gt0-via-then-indexes-gt0 w ↦ omega
+          (arith, f.0)
+      | then-indexes-gt0-via-else-indexes-gt0+then-len-lt4 w ↦ omega (arith, f.1.0)
+    ])
 
 pub returns-in_default-nullity : goal.returns-in_default-nullity
 returns-in_default-nullity c =
-    column_form _ _ (λ f. let none = c.in_default-nullity.ensures.only (subst IsNullityWord (sym (last_is c.args.line.now _ _ c.len-2.ensures c.at.ensures)) f.1.2) in absurd (false≢true none))
+    column_form _ _ (λ f. let none = c.in_default-nullity.ensures.only
+    (subst IsNullityWord (sym (last_is c.args.line.now _ _ c.len-2.ensures c.at.ensures)) f.1.2) in
+    absurd (false≢true none))
 
 pub returns-then-not-is_name : goal.returns-then-not-is_name
 returns-then-not-is_name c =
     let size = ap length c.indexes.ensures.same in
     let formed : IsFormed c.args.part.now c.args.line.now c.in-Some.kind c.in-Some-nullity.nullable =
-    record { before = omega arith; long = omega arith; type = c.in-Some.ensures; nullity = sym (last_is c.args.line.now _ _ c.len-2.ensures c.at.ensures) ∙ c.in-Some-nullity.ensures.found } in
-    column_name _ _ (form_of _ _ _ _ formed) (λ n. let yes = c.if-not-is_name.ensures.1 (subst IsName (sym c.at-name.ensures) n) in absurd (false≢true yes))
+    record {
+      before = omega arith;
+      long = omega arith;
+      type = c.in-Some.ensures;
+      nullity = sym (last_is c.args.line.now _ _ c.len-2.ensures c.at.ensures) ∙ c.in-Some-nullity.ensures.found;
+    } in
+    column_name _ _ (form_of _ _ _ _ formed)
+    (λ n. let yes = c.if-not-is_name.ensures.1 (subst IsName (sym c.at-name.ensures) n) in absurd (false≢true yes))
 
 pub returns-in_default-kind : goal.returns-in_default-kind
 returns-in_default-kind c =
     let size = ap length c.indexes.ensures.same in
     let formed : IsFormed c.args.part.now c.args.line.now c.in-Some.kind c.in-Some-nullity.nullable =
-    record { before = omega arith; long = omega arith; type = c.in-Some.ensures; nullity = sym (last_is c.args.line.now _ _ c.len-2.ensures c.at.ensures) ∙ c.in-Some-nullity.ensures.found } in
+    record {
+      before = omega arith;
+      long = omega arith;
+      type = c.in-Some.ensures;
+      nullity = sym (last_is c.args.line.now _ _ c.len-2.ensures c.at.ensures) ∙ c.in-Some-nullity.ensures.found;
+    } in
     let bad = type_number _ _ c.in_default-kind.is c.in-Some.ensures in
     let name = subst IsName c.at-name.ensures (c.if-not-is_name.ensures.0 refl) in
     column_number _ _ (form_of _ _ _ _ formed) name bad
@@ -40,7 +58,12 @@ pub returns-then-columns-ge-MOST_COLUMNS : goal.returns-then-columns-ge-MOST_COL
 returns-then-columns-ge-MOST_COLUMNS c =
     let size = ap length c.indexes.ensures.same in
     let formed : IsFormed c.args.part.now c.args.line.now c.in-Some.kind c.in-Some-nullity.nullable =
-    record { before = omega arith; long = omega arith; type = c.in-Some.ensures; nullity = sym (last_is c.args.line.now _ _ c.len-2.ensures c.at.ensures) ∙ c.in-Some-nullity.ensures.found } in
+    record {
+      before = omega arith;
+      long = omega arith;
+      type = c.in-Some.ensures;
+      nullity = sym (last_is c.args.line.now _ _ c.len-2.ensures c.at.ensures) ∙ c.in-Some-nullity.ensures.found;
+    } in
     let type = type_good _ _ _ c.in-Some-kind.is c.in-Some.ensures in
     let name = subst IsName c.at-name.ensures (c.if-not-is_name.ensures.0 refl) in
     let many = ap length c.columns.ensures.same in
@@ -50,7 +73,12 @@ pub returns-then-has_column : goal.returns-then-has_column
 returns-then-has_column c =
     let size = ap length c.indexes.ensures.same in
     let formed : IsFormed c.args.part.now c.args.line.now c.in-Some.kind c.in-Some-nullity.nullable =
-    record { before = omega arith; long = omega arith; type = c.in-Some.ensures; nullity = sym (last_is c.args.line.now _ _ c.len-2.ensures c.at.ensures) ∙ c.in-Some-nullity.ensures.found } in
+    record {
+      before = omega arith;
+      long = omega arith;
+      type = c.in-Some.ensures;
+      nullity = sym (last_is c.args.line.now _ _ c.len-2.ensures c.at.ensures) ∙ c.in-Some-nullity.ensures.found;
+    } in
     let type = type_good _ _ _ c.in-Some-kind.is c.in-Some.ensures in
     let name = subst IsName c.at-name.ensures (c.if-not-is_name.ensures.0 refl) in
     let many = ap length c.columns.ensures.same in
@@ -62,12 +90,19 @@ pub returns : goal.returns
 returns c =
     let size = ap length c.indexes.ensures.same in
     let formed : IsFormed c.args.part.now c.args.line.now c.in-Some.kind c.in-Some-nullity.nullable =
-    record { before = omega arith; long = omega arith; type = c.in-Some.ensures; nullity = sym (last_is c.args.line.now _ _ c.len-2.ensures c.at.ensures) ∙ c.in-Some-nullity.ensures.found } in
+    record {
+      before = omega arith;
+      long = omega arith;
+      type = c.in-Some.ensures;
+      nullity = sym (last_is c.args.line.now _ _ c.len-2.ensures c.at.ensures) ∙ c.in-Some-nullity.ensures.found;
+    } in
     let type = type_good _ _ _ c.in-Some-kind.is c.in-Some.ensures in
     let name = subst IsName c.at-name.ensures (c.if-not-is_name.ensures.0 refl) in
     let many = ap length c.columns.ensures.same in
     let good : IsFormed c.args.part.now c.args.line.now (Some c.in-Some-kind.kind) c.in-Some-nullity.nullable =
     record { before = formed.before; long = formed.long; type = type; nullity = formed.nullity } in
     let new = is_new c.args.part.now _ _ _ c.columns-2.ensures.same c.at-name.ensures c.if-has_column.ensures.no in
-    subst (λ n. IsColumnRead c.args.part.now c.args.line.now n c.in-Some-kind.kind c.in-Some-nullity.nullable) (sym c.at-name.ensures)
-    (column_read c.args.part.now c.args.line.now c.in-Some-kind.kind c.in-Some-nullity.nullable c.indexes.ensures.part c.requires good name (omega arith) new)
+    subst (λ n. IsColumnRead c.args.part.now c.args.line.now n c.in-Some-kind.kind c.in-Some-nullity.nullable)
+    (sym c.at-name.ensures)
+    (column_read c.args.part.now c.args.line.now c.in-Some-kind.kind c.in-Some-nullity.nullable c.indexes.ensures.part
+    c.requires good name (omega arith) new)

@@ -4,4 +4,5 @@ use Rattle.schema_text.proofs.keys.has_new_root.Goals as goal
 
 pub returns : goal.returns
 returns c =
-    root_split c.args.part.now c.indexes.result.now c.args.root c.has_root.result c.indexes.ensures.same c.indexes.ensures.part (omega arith) c.has_root.ensures.yes c.has_root.ensures.no
+    root_split c.args.part.now c.indexes.result.now c.args.root c.has_root.result c.indexes.ensures.same
+    c.indexes.ensures.part (omega arith) c.has_root.ensures.yes c.has_root.ensures.no

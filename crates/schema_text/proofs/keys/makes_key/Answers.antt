@@ -10,21 +10,32 @@ loop-i-init c = key_begun c.args.format c.args.clustered c.args.columns.now c.ar
 
 pub declared-column-requires : goal.declared-column-requires
 declared-column-requires c =
-    key_known (IsAmong c.args.columns.now) c.args.line.now c.args.from c.loop-i.i _ (omega arith) (omega arith) c.at.ensures c.requires
+    key_known (IsAmong c.args.columns.now) c.args.line.now c.args.from c.loop-i.i _ (omega arith)
+    (omega arith) c.at.ensures c.requires
 
 pub returns-in_default : goal.returns-in_default
 returns-in_default c =
     let columns = c.args.columns.now in
     let named : column_named columns (get_or c.args.line.now c.loop-i.i []) ≡ Some c.declared-column.result.now =
-    ap (column_named columns) (sym c.at.ensures) ∙ c.declared-column.ensures in
-    (λ t. absurd (false≢true t), λ makes. absurd (key_not c.args.format c.args.clustered columns c.args.line.now c.args.from c.loop-i.i c.loop-i.total c.declared-column.result.now (omega arith) (omega arith) named c.loop-i.invariant c.in_default.ensures makes))
+    ap (column_named columns) (sym c.at.ensures) ∙ c.declared-column.ensures in (
+      λ t. absurd (false≢true t),
+      λ makes. absurd
+          (key_not c.args.format c.args.clustered columns c.args.line.now c.args.from c.loop-i.i c.loop-i.total
+          c.declared-column.result.now (omega arith) (omega arith) named c.loop-i.invariant c.in_default.ensures makes),
+    )
 
 pub loop-i-preserved : goal.loop-i-preserved
 loop-i-preserved c =
     let columns = c.args.columns.now in
     let named : column_named columns (get_or c.args.line.now c.loop-i.i []) ≡ Some c.declared-column.result.now =
     ap (column_named columns) (sym c.at.ensures) ∙ c.declared-column.ensures in
-    key_more c.args.format c.args.clustered columns c.args.line.now c.args.from c.loop-i.i c.loop-i.total c.in-Some.longer c.declared-column.result.now (omega arith) (omega arith) named c.loop-i.invariant c.in-Some.ensures
+    key_more c.args.format c.args.clustered columns c.args.line.now c.args.from c.loop-i.i c.loop-i.total
+    c.in-Some.longer c.declared-column.result.now (omega arith)
+    (omega arith) named c.loop-i.invariant c.in-Some.ensures
 
 pub returns : goal.returns
-returns c = (λ _. key_made c.args.format c.args.clustered c.args.columns.now c.args.line.now c.args.from c.loop-i.i c.loop-i.total (omega arith) c.loop-i.invariant, λ _. refl)
+returns c = (
+  λ _. key_made c.args.format c.args.clustered c.args.columns.now c.args.line.now c.args.from c.loop-i.i
+      c.loop-i.total (omega arith) c.loop-i.invariant,
+  λ _. refl,
+)

@@ -6,5 +6,8 @@ use Rattle.schema_text.proofs.names.are_names.Goals as goal
 pub returns-then-not-is_name : goal.returns-then-not-is_name
 returns-then-not-is_name c =
     let bad : IsName (get_or c.args.line.now c.loop-i.i []) → ⊥ =
-    λ h. let yes = c.if-not-is_name.ensures.1 (subst IsName (sym c.at.ensures) h) in cc in
-    (λ t. cc, λ all. absurd (not_all_from IsName c.args.line.now c.args.from c.loop-i.i (omega arith) (omega arith) bad all))
+    λ h. let yes = c.if-not-is_name.ensures.1 (subst IsName (sym c.at.ensures) h) in cc in (
+      λ t. cc,
+      λ all. absurd (not_all_from IsName c.args.line.now c.args.from c.loop-i.i (omega arith)
+          (omega arith) bad all),
+    )

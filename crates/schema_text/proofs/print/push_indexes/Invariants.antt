@@ -7,4 +7,5 @@ use Rattle.schema_text.proofs.print.push_indexes.Given as goal
 
 abbrev pub invariant-loop-index : goal.invariant-loop-index
 invariant-loop-index l =
-    l.text ≡ l.initial.text ++ flat_map (λ (x : IndexDef). line_of (index_by l.columns x)) (take l.index-index l.indexes)
+    l.text ≡ l.initial.text
+    ++ flat_map (λ (x : IndexDef). line_of (index_by l.columns x)) (take l.index-index l.indexes)

@@ -13,11 +13,17 @@ pub returns-then-not-is : goal.returns-then-not-is
 returns-then-not-is c = first_form _ (λ f. absurd (false≢true (c.if-not-is.ensures.same.1 (c.at.ensures ∙ f.1))))
 
 pub returns-in_default : goal.returns-in_default
-returns-in_default c = first_form _ (λ f. absurd (false≢true (c.in_default.ensures.only (subst IsFormatWord (sym c.at-2.ensures) f.2))))
+returns-in_default c = first_form _
+    (λ f. absurd (false≢true (c.in_default.ensures.only (subst IsFormatWord (sym c.at-2.ensures) f.2))))
 
 pub returns-then-not-is_name : goal.returns-then-not-is_name
 returns-then-not-is_name c =
-    let form : IsTableForm c.args.line.now = (omega arith, sym c.at.ensures ∙ c.if-not-is.ensures.same.0 refl, is_format _ _ (sym c.at-2.ensures ∙ c.in-Some.ensures.found)) in
+    let form : IsTableForm c.args.line.now = (
+      omega arith,
+      sym c.at.ensures
+          ∙ c.if-not-is.ensures.same.0 refl,
+      is_format _ _ (sym c.at-2.ensures ∙ c.in-Some.ensures.found),
+    ) in
     first_name _ form (λ n. absurd (false≢true (c.if-not-is_name.ensures.1 (subst IsName (sym c.at-name.ensures) n))))
 
 pub returns : goal.returns
@@ -29,5 +35,7 @@ returns c =
     let name = c.if-not-is_name.ensures.0 refl in (
       name,
       first_good _ form (subst IsName c.at-name.ensures name),
-      three_words_are line (omega arith) ∙ ap (λ w. w ∷ word line 1 ∷ word line 2 ∷ []) first ∙ ap (λ w. codes "table" ∷ w ∷ word line 2 ∷ []) (sym c.at-name.ensures) ∙ ap (λ w. codes "table" ∷ c.at-name.result.now ∷ w ∷ []) last,
+      three_words_are line (omega arith) ∙ ap (λ w. w ∷ word line 1 ∷ word line 2 ∷ []) first
+          ∙ ap (λ w. codes "table" ∷ w ∷ word line 2 ∷ []) (sym c.at-name.ensures)
+          ∙ ap (λ w. codes "table" ∷ c.at-name.result.now ∷ w ∷ []) last,
     )

@@ -7,7 +7,8 @@ use Rattle.schema_text.proofs.read.clustered_line.Goals as goal
 pub add_index-requires : goal.add_index-requires
 add_index-requires c =
     let h = c.in-Ok.ensures in
-    next_index c.args.part.now _ _ c.in_ok-index-in-Ok.ensures h.columns (λ _. refl) (λ some. absurd (omega (arith, h.first)))
+    next_index c.args.part.now _ _ c.in_ok-index-in-Ok.ensures h.columns (λ _. refl)
+    (λ some. absurd (omega (arith, h.first)))
 
 pub returns-in_ok-add_index-in-Ok-clause-ok : goal.returns-in_ok-add_index-in-Ok-clause-ok
 returns-in_ok-add_index-in-Ok-clause-ok c =

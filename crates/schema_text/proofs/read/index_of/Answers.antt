@@ -7,4 +7,5 @@ use Rattle.schema_text.proofs.read.index_of.Goals as goal
 pub places_of-requires-clause-known : goal.places_of-requires-clause-known
 unfolding KeyChecks
 places_of-requires-clause-known c =
-    subst (λ (columns : List Column). All (IsAmong columns) (drop c.args.from c.args.line.now)) (sym c.columns-2.ensures.same) c.requires.checked.1.1.1.0
+    subst (λ (columns : List Column). All (IsAmong columns) (drop c.args.from c.args.line.now))
+    (sym c.columns-2.ensures.same) c.requires.checked.1.1.1.0

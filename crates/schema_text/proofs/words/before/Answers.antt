@@ -5,5 +5,6 @@ use Rattle.schema_text.proofs.words.before.Goals as goal
 
 pub returns : goal.returns
 returns c =
-    let cases = strip_suffix_is Decides-eqb c.args.text.now c.args.end.now c.strip_suffix.result c.strip_suffix.ensures.cases in
+    let cases = strip_suffix_is Decides-eqb c.args.text.now c.args.end.now c.strip_suffix.result
+    c.strip_suffix.ensures.cases in
     record { found = ahead_found _ _ _ cases; only = ahead_only _ _ _ cases }

@@ -7,4 +7,9 @@ invariant_of-self-2 c =
     let next = rw (← c.self.view_is) at c.requires in
     let inside = c.self.inside in
     let grown : c.push.new.self.items ≡ inside.indexes.items ++ c.args.index ∷ [] = c.in_ok-push.ensures.items in
-    rw grown (part_with_index (record { table = inside.table; format = inside.format; columns = inside.columns.items; indexes = inside.indexes.items }) c.args.index c.self.invariant next)
+    rw grown (part_with_index (record {
+      table = inside.table;
+      format = inside.format;
+      columns = inside.columns.items;
+      indexes = inside.indexes.items;
+    }) c.args.index c.self.invariant next)

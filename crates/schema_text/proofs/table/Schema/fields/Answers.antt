@@ -61,7 +61,8 @@ list_of-requires c =
       size = ap length c.as_slice-keys.ensures.value;
     } in
     let is : record { fields = c.deref-then-leaf.result.now; nullable = nullable; keys = keys } ≡ leaf_fields t j =
-    ap (λ fs. record { fields = fs; nullable = nullable; keys = keys }) c.deref-then-leaf.ensures.value ∙ built_leaf t j key fields nullable keys built in
+    ap (λ fs. record { fields = fs; nullable = nullable; keys = keys }) c.deref-then-leaf.ensures.value
+    ∙ built_leaf t j key fields nullable keys built in
     subst AreListed (sym is) (leaf_good t j built.table built.within).listed
 
 pub returns-then-leaf : goal.returns-then-leaf
@@ -81,10 +82,13 @@ returns-then-leaf c =
       size = ap length c.as_slice-keys.ensures.value;
     } in
     let is : record { fields = c.deref-then-leaf.result.now; nullable = nullable; keys = keys } ≡ leaf_fields t j =
-    ap (λ fs. record { fields = fs; nullable = nullable; keys = keys }) c.deref-then-leaf.ensures.value ∙ built_leaf t j key fields nullable keys built in
+    ap (λ fs. record { fields = fs; nullable = nullable; keys = keys }) c.deref-then-leaf.ensures.value
+    ∙ built_leaf t j key fields nullable keys built in
     record {
-      value = IfOk-weaker c.list_of.result _ (λ fields. fields ≡ index_fields t j c.args.leaf) (λ list h. h ∙ is ∙ ap (index_fields t j) (sym c.if-leaf.true)) c.list_of.ensures;
-      are = IfOk-weaker c.list_of.result _ AreFields (λ list h. subst AreFields (sym (h ∙ is)) (leaf_good t j built.table built.within)) c.list_of.ensures;
+      value = IfOk-weaker c.list_of.result _ (λ fields. fields ≡ index_fields t j c.args.leaf) (λ list h. h ∙ is
+          ∙ ap (index_fields t j) (sym c.if-leaf.true)) c.list_of.ensures;
+      are = IfOk-weaker c.list_of.result _ AreFields (λ list h. subst AreFields (sym (h
+          ∙ is)) (leaf_good t j built.table built.within)) c.list_of.ensures;
     }
 
 pub overflow_cast-nullable-2 : goal.overflow_cast-nullable-2
@@ -141,7 +145,8 @@ list_of-requires-2 c =
       count = c.nullable_count-nullable.ensures.value ∙ ap nullable_count c.deref.ensures.value;
       size = ap length c.as_slice-keys.ensures.value;
     } in
-    let nodes = c.deref-2.ensures.value ∙ c.in_ok-push.ensures.items ∙ ap (λ fs. fs ++ child_field ∷ []) c.truncate.ensures.items in
+    let nodes = c.deref-2.ensures.value ∙ c.in_ok-push.ensures.items
+    ∙ ap (λ fs. fs ++ child_field ∷ []) c.truncate.ensures.items in
     let is : record { fields = c.deref-2.result.now; nullable = nullable; keys = keys } ≡ node_fields t j =
     built_node t j key fields c.deref-2.result.now nullable keys built nodes in
     subst AreListed (sym is) (node_good t j built.table built.within).listed
@@ -162,10 +167,13 @@ returns c =
       count = c.nullable_count-nullable.ensures.value ∙ ap nullable_count c.deref.ensures.value;
       size = ap length c.as_slice-keys.ensures.value;
     } in
-    let nodes = c.deref-2.ensures.value ∙ c.in_ok-push.ensures.items ∙ ap (λ fs. fs ++ child_field ∷ []) c.truncate.ensures.items in
+    let nodes = c.deref-2.ensures.value ∙ c.in_ok-push.ensures.items
+    ∙ ap (λ fs. fs ++ child_field ∷ []) c.truncate.ensures.items in
     let is : record { fields = c.deref-2.result.now; nullable = nullable; keys = keys } ≡ node_fields t j =
     built_node t j key fields c.deref-2.result.now nullable keys built nodes in
     record {
-      value = IfOk-weaker c.list_of-2.result _ (λ fields. fields ≡ index_fields t j c.args.leaf) (λ list h. h ∙ is ∙ ap (index_fields t j) (sym c.if-leaf.false)) c.list_of-2.ensures;
-      are = IfOk-weaker c.list_of-2.result _ AreFields (λ list h. subst AreFields (sym (h ∙ is)) (node_good t j built.table built.within)) c.list_of-2.ensures;
+      value = IfOk-weaker c.list_of-2.result _ (λ fields. fields ≡ index_fields t j c.args.leaf) (λ list h. h ∙ is
+          ∙ ap (index_fields t j) (sym c.if-leaf.false)) c.list_of-2.ensures;
+      are = IfOk-weaker c.list_of-2.result _ AreFields (λ list h. subst AreFields (sym (h
+          ∙ is)) (node_good t j built.table built.within)) c.list_of-2.ensures;
     }
