@@ -1,11 +1,8 @@
 -- The header of an index page, its records in chain order and its directory (page0page).
 use Rattle.std.specs.Prelude.{Option, Some, None, ◌==◌, ◌||◌, if◌then◌else◌, ℕ, zero, suc, ◌+◌, ◌-◌, ◌*◌, ◌%◌, List}
-use Rattle.std.specs.Prelude.{[], ◌∷◌, ◌++◌, slice_index}
+use Rattle.std.specs.Prelude.{[], ◌∷◌, ◌++◌}
 use Rattle.page_source.specs.Pages.{num}
-use Rattle.column_values.specs.Types.{Fields}
-use Rattle.column_values.specs.Order.{Key}
 use Rattle.compact_record.specs.Header.{next_field, next_origin}
-use Rattle.compact_record.specs.Reading.{key_of}
 
 abbrev pub infimum : ℕ
 infimum = 99
@@ -73,10 +70,6 @@ heap_of page = records_of page ++ free_of page
 -- directory slot i
 abbrev pub slot_at : List ℕ → ℕ → ℕ
 slot_at page i = num page (16374 - 2 * i) 2
-
--- the key of record k
-abbrev pub record_key : List ℕ → Fields → ℕ → Key
-record_key page fields k = key_of page (slice_index (records_of page) k) fields
 
 -- where the next field leads, around the end of the page
 abbrev pub next_target : List ℕ → ℕ → ℕ

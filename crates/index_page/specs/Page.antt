@@ -52,9 +52,6 @@ pub record IsChain (page : List ℕ) (chain : List ℕ) : Type 0 where
   pub distinct : AllPairs (λ a b. a ≢ b) chain
   pub leads : Leads page infimum chain supremum
 
-abbrev pub HasChain : List ℕ → Type 0
-HasChain page = (chain : List ℕ) × IsChain page chain
-
 -- the free records, up to one with the next field 0
 abbrev pub LeadsToEnd : List ℕ → ℕ → List ℕ → Type 0
 LeadsToEnd page first [] = first ≡ 0
