@@ -2,6 +2,8 @@
 #![tactic(auto)]
 
 mod checks;
+#[cfg(test)]
+mod counts;
 mod errors;
 mod fields;
 mod first;
