@@ -1,0 +1,6 @@
+pub mod Used
+pub mod Masks
+pub mod Uses
+pub mod Readers
+pub mod Stages
+pub mod Sound

@@ -1,0 +1,121 @@
+//! The first page of a tablespace: its frame and its space header (fsp0fsp).
+
+ghost use Rattle.std.specs.Prelude.{◌≡◌, ◌+◌, ◌-◌, ◌^◌, ◌≤◌, ◌↔◌, ◌⊎◌, ℕ, min, IsTrue, IfOk};
+ghost use Rattle.page_source.specs.Pages.{num};
+ghost use Rattle.page_source.specs.Checks.{Halts, Finds};
+ghost use Rattle.page_source.specs.Calls.{OfFile, HaltsOver};
+ghost use Rattle.fil_frame.specs.Frame.{space_of};
+ghost use Rattle.space_header.specs.Header.{header_of};
+ghost use Rattle.extent_map.specs.Head.{HeadChecks, HeaderChecks, IsSize, IsLimit, HasBounds, HasHeader};
+
+use fil_frame::{frame_fault, kind};
+use page_source::{Fault, Halt, Page, PageSource, Rule, Steps, read_be};
+use space_header::SpaceHeader;
+use std::sync::ledger::Ledger;
+
+/// FIL_PAGE_TYPE_FSP_HDR, the type of page 0.
+const HEADER_KIND: u16 = 8;
+
+/// FIL_PAGE_ARCH_LOG_NO_OR_SPACE_ID, 4 bytes.
+const FRAME_SPACE: usize = 34;
+
+// The fields of the space header, 4 bytes each.
+
+/// FSP_SPACE_ID.
+const SPACE: usize = 38;
+
+/// FSP_SIZE, in pages.
+const SIZE: usize = 46;
+
+/// FSP_FREE_LIMIT: no page from here on was ever used.
+const LIMIT: usize = 50;
+
+/// FSP_SPACE_FLAGS.
+const FLAGS: usize = 54;
+
+/// The flag for a table with a DATA DIRECTORY clause, which may stand besides.
+const DATA_DIRECTORY: u32 = 1024;
+
+/// Reads page 0 by the rules of the head, 1 to 7, and leaves it in `page`.
+pub fn check_head<S: PageSource, L: Ledger>(
+    source: &mut S,
+    flags: u32,
+    page: &mut Page,
+    steps: &mut Steps<L>,
+) -> Result<SpaceHeader, Halt>
+    ensures exact { OfFile S.PageSource source.old (λ file. Halts result (HeadChecks file flags)) }
+    ensures header { IfOk result (λ header. OfFile S.PageSource source.old (λ file. HasHeader file header)) }
+    ensures bounds { IfOk result HasBounds }
+    ensures cost { steps.new ≤ steps.old + 1 }
+    ensures over { HaltsOver S.PageSource source.old source.new result }
+{
+    let pages = source.pages()?;
+    if pages < 4 {
+        return Err(Halt::Broken(Rule::FileSize.at(0)));
+    }
+    source.fetch(0, page, steps)?;
+    Ok(check_header(page, pages, flags)?)
+}
+
+/// The rules of page 0 of a file of so many pages, 4,294,967,295 standing for more too.
+#[tactic(auto, unfolding(crate::specs::Head::HeaderChecks))]
+fn check_header(page: &Page, pages: u32, flags: u32) -> Result<SpaceHeader, Fault>
+    ensures exact { (count : ℕ) → pages ≡ min count (2 ^ 32 - 1) → Finds result (HeaderChecks page.now count flags) }
+    ensures header { IfOk result (λ header. header ≡ header_of page.now) }
+    ensures space { IfOk result (λ header. space_of page.now ≡ header.space) }
+    ensures within { IfOk result (λ header. header.size ≤ pages) }
+    ensures bounds { IfOk result HasBounds }
+{
+    let space = number(page, FRAME_SPACE);
+    let size = number(page, SIZE);
+    if frame_fault(page, 0, space) {
+        return Err(Rule::HeadFrame.at(0));
+    }
+    if kind(page) != HEADER_KIND {
+        return Err(Rule::HeadType.at(0));
+    }
+    if space != number(page, SPACE) {
+        return Err(Rule::HeadSpace.at(0));
+    }
+    if !has_flags(number(page, FLAGS), flags) {
+        return Err(Rule::HeadFlags.at(0));
+    }
+    if !is_size(size, pages) {
+        return Err(Rule::HeadSize.at(0));
+    }
+    if !is_limit(size, number(page, LIMIT)) {
+        return Err(Rule::HeadLimit.at(0));
+    }
+    Ok(SpaceHeader::read(page))
+}
+
+fn number(page: &Page, at: usize) -> u32
+    requires { at + 4 ≤ 16384 }
+    ensures { result ≡ num page.now at 4 }
+{
+    read_be::<4>(page, at) as u32
+}
+
+fn has_flags(stated: u32, flags: u32) -> bool
+    ensures { IsTrue result ↔ ((stated ≡ flags) ⊎ (stated ≡ flags + 1024)) }
+{
+    stated == flags || stated.checked_sub(DATA_DIRECTORY) == Some(flags)
+}
+
+fn is_size(size: u32, pages: u32) -> bool
+    ensures exact { (count : ℕ) → pages ≡ min count (2 ^ 32 - 1) → (IsTrue result ↔ IsSize size count) }
+    ensures within { IsTrue result → IsSize size pages }
+{
+    (4..=4_194_304).contains(&size) && size <= pages
+}
+
+fn is_limit(size: u32, limit: u32) -> bool
+    ensures { IsTrue result ↔ IsLimit size limit }
+{
+    limit % 64 == 0
+        && if size < 64 {
+            limit == 64
+        } else {
+            (64..=size).contains(&limit)
+        }
+}

@@ -1,0 +1,17 @@
+//! The head of a tablespace and its extent descriptors: which pages are used, and in what extents.
+#![tactic(auto)]
+
+mod checks;
+mod descriptors;
+mod extent;
+mod extents;
+mod flags;
+mod head;
+#[cfg(test)]
+mod tests;
+
+pub use descriptors::read_extents;
+pub use extent::{Extent, read_extent};
+pub use extents::Extents;
+pub use flags::FlagList;
+pub use head::check_head;

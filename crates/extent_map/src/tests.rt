@@ -1,0 +1,221 @@
+//! Tablespaces whose head and descriptors are sound, and one edit after another that breaks a rule.
+
+ghost use Rattle.std.specs.Prelude.{◌≡◌, ◌<◌, ◌≤◌, length};
+
+use crate::{Extents, check_head, read_extents};
+use fil_frame::seal;
+use page_source::{Fails, NoMemory, Page, PageMap, Rule, SparsePages, Steps, Stop, write_be};
+use space_header::{
+    Address, Base, ExtentList, FollowError, Node, SpaceHeader, descriptor_address, follow,
+    write_node,
+};
+use std::alloc::Global;
+use std::marker::Brand;
+use std::sync::ledger::{Blank, Ledger};
+use std::test::Fail;
+
+const NULL: Address = Address {
+    page: 0xFFFF_FFFF,
+    offset: 0,
+};
+
+const EMPTY: Base = Base {
+    length: 0,
+    first: NULL,
+    last: NULL,
+};
+
+/// The header of a tablespace of format DYNAMIC.
+fn header(size: u32, limit: u32) -> SpaceHeader {
+    SpaceHeader {
+        space: 23,
+        size,
+        limit,
+        flags: 33,
+        frag_used: 4,
+        next_segment: 3,
+        free: EMPTY,
+        free_frag: EMPTY,
+        full_frag: EMPTY,
+        inodes_full: EMPTY,
+        inodes_free: EMPTY,
+    }
+}
+
+/// Writes the descriptor at place `i` of its page: its node, its state and the first byte of its
+/// bitmap, whose other pages are free.
+fn put_descriptor(page: &mut Page, i: usize, node: &Node, state: u32, first: u8)
+    requires { i < 256 }
+{
+    let at = 150 + 40 * i;
+    write_node(page, at + 8, node);
+    write_be::<4>(page, at + 20, u64::from(state));
+    page.put_bytes(at + 24, &[0xFF; 16]);
+    page.put_bytes(at + 24, &[first]);
+}
+
+/// Page 0, whose first four pages are used.
+fn first_page(alloc: Global, size: u32, limit: u32) -> Result<Page, NoMemory> {
+    let mut page = Page::zeroed(alloc)?;
+    header(size, limit).write(&mut page);
+    let alone = Node {
+        prev: NULL,
+        next: NULL,
+    };
+    put_descriptor(&mut page, 0, &alone, 2, 0xAA);
+    Ok(page)
+}
+
+/// Checks the head and reads the extents.
+fn read<L: Ledger>(alloc: Global, file: &mut SparsePages, blank: Blank) -> Result<Extents, Stop>
+    requires name { blank.name ≡ L.name }
+    requires parts { blank.parts ≡ L.parts }
+    requires shared { 0 < blank.parts }
+{
+    let mut steps = Steps::<L>::new(blank);
+    let mut page = Page::zeroed(alloc)?;
+    let header = check_head(file, 33, &mut page, &mut steps)?;
+    read_extents(alloc, file, &header, &mut steps)
+}
+
+/// A file of so many pages with this page 0, sealed.
+fn file_of(alloc: Global, pages: u32, mut page: Page) -> Result<SparsePages, NoMemory> {
+    seal(&mut page, 0, 23, 1, 8);
+    let mut held = PageMap::new(alloc);
+    held.put(0, page)?;
+    Ok(SparsePages::new(pages, held, Fails::of(alloc, &[])?))
+}
+
+#[test]
+fn reads_a_small_tablespace(rt: HostRuntime) -> Result<(), Fail> {
+    let alloc = rt.alloc();
+    let mut file = file_of(alloc, 6, first_page(alloc, 6, 64)?)?;
+    let extents = read::<Brand>(alloc, &mut file, Blank::new(1))?;
+    assert_eq!(rt; extents.count(), 1);
+    for (page, used) in [(0, true), (3, true), (4, false), (63, false), (64, false)] {
+        assert_eq!(rt; extents.is_used(page), used, "page {page}");
+    }
+    let fragments = extents.fragment_pages(alloc)?;
+    assert_eq!(rt; fragments.flags().len(), 64);
+    assert!(rt;
+        fragments
+            .flags()
+            .starts_with(&[false, false, true, true, false])
+    );
+    Ok(())
+}
+
+#[test]
+fn names_the_first_broken_rule(rt: HostRuntime) -> Result<(), Fail> {
+    let alloc = rt.alloc();
+    let edits: [(usize, u8, Rule); 9] = [
+        (41, 24, Rule::HeadSpace),
+        (57, 32, Rule::HeadFlags),
+        (49, 3, Rule::HeadSize),
+        (49, 7, Rule::HeadSize),
+        (53, 63, Rule::HeadLimit),
+        (173, 5, Rule::ExtentState),
+        (173, 3, Rule::ExtentUse),
+        (175, 0xEF, Rule::ExtentPastEnd),
+        (174, 0xAB, Rule::ExtentSystem),
+    ];
+    for (at, byte, rule) in edits {
+        let mut page = first_page(alloc, 6, 64)?;
+        assert!(rt; at < 16384);
+        page.put_bytes(at, &[byte]);
+        let mut file = file_of(alloc, 6, page)?;
+        let answer = read::<Brand>(alloc, &mut file, Blank::new(1));
+        let wanted = Stop::Broken(rule.at(0));
+        assert!(rt; matches!(answer, Err(stop) if stop == wanted), "at {at}");
+    }
+    Ok(())
+}
+
+/// A tablespace of 16,448 pages: page 0, and page 16384 of a type with a descriptor of its own.
+fn large(alloc: Global, kind: u16, space: u32) -> Result<SparsePages, NoMemory> {
+    let mut page = first_page(alloc, 16448, 16448)?;
+    for i in 1..256usize {
+        let node = Node {
+            prev: if i == 1 {
+                NULL
+            } else {
+                descriptor_address(i as u32 - 1)
+            },
+            next: if i == 255 {
+                NULL
+            } else {
+                descriptor_address(i as u32 + 1)
+            },
+        };
+        put_descriptor(&mut page, i, &node, 1, 0xFF);
+    }
+    seal(&mut page, 0, 23, 1, 8);
+    let mut second = Page::zeroed(alloc)?;
+    let alone = Node {
+        prev: NULL,
+        next: NULL,
+    };
+    put_descriptor(&mut second, 0, &alone, 2, 0xFA);
+    seal(&mut second, 16384, space, 1, kind);
+    let mut held = PageMap::new(alloc);
+    held.put(0, page)?;
+    held.put(16384, second)?;
+    Ok(SparsePages::new(16448, held, Fails::of(alloc, &[])?))
+}
+
+fn followed<L: Ledger>(
+    alloc: Global,
+    base: &Base,
+    nodes: &[Node],
+    blank: Blank,
+) -> Result<ExtentList, FollowError>
+    requires few { length nodes.now ≤ 65536 }
+    requires name { blank.name ≡ L.name }
+    requires parts { blank.parts ≡ L.parts }
+    requires shared { 0 < blank.parts }
+{
+    let mut steps = Steps::<L>::new(blank);
+    follow(alloc, base, nodes, &mut steps)
+}
+
+#[test]
+fn reads_two_descriptor_pages(rt: HostRuntime) -> Result<(), Fail> {
+    let alloc = rt.alloc();
+    let mut file = large(alloc, 9, 23)?;
+    let extents = read::<Brand>(alloc, &mut file, Blank::new(1))?;
+    assert_eq!(rt; extents.count(), 257);
+    assert_eq!(rt; extents.extent(256).state, 2);
+    for (page, used) in [
+        (4, false),
+        (16384, true),
+        (16385, true),
+        (16386, false),
+        (16448, false),
+    ] {
+        assert_eq!(rt; extents.is_used(page), used, "page {page}");
+    }
+    let free = Base {
+        length: 255,
+        first: descriptor_address(1),
+        last: descriptor_address(255),
+    };
+    assert!(rt; extents.nodes().len() <= 65536);
+    let list = followed::<Brand>(alloc, &free, extents.nodes(), Blank::new(1))?;
+    assert_eq!(rt; list.items().len(), 255);
+    Ok(())
+}
+
+#[test]
+fn checks_later_descriptor_pages(rt: HostRuntime) -> Result<(), Fail> {
+    let alloc = rt.alloc();
+    for (kind, space, rule) in [(9, 24, Rule::XdesFrame), (5, 23, Rule::XdesType)] {
+        let mut file = large(alloc, kind, space)?;
+        let answer = read::<Brand>(alloc, &mut file, Blank::new(1));
+        let wanted = Stop::Broken(rule.at(16384));
+        assert!(rt;
+            matches!(answer, Err(stop) if stop == wanted),
+            "type {kind}"
+        );
+    }
+    Ok(())
+}
