@@ -1,8 +1,8 @@
 //! Which bytes spell which value of a type, both ways.
 
 ghost use Rattle.std.specs.Prelude.{◌↔◌, IsTrue};
-ghost use Rattle.column_values.specs.Types.{IsColumnType};
-ghost use Rattle.column_values.specs.Spell.{IsSpelling, Decodes, Encodes};
+ghost use Rattle.column_values.specs.Types.{IsColumnType, HoldsText};
+ghost use Rattle.column_values.specs.Spell.{IsSpelling, Finds, Decodes, Encodes};
 
 use crate::dates::{date, date_bytes};
 use crate::decimals::{decimal, decimal_bytes};
@@ -36,6 +36,23 @@ pub fn decode(alloc: Global, kind: &ColumnType, bytes: &[u8]) -> Result<Value, V
         ColumnType::Timestamp { f } => timestamp(f, bytes).ok_or(ValueError::BadValue),
         ColumnType::Year => year(bytes).ok_or(ValueError::BadValue),
         ColumnType::Decimal { p, s } => decimal(p, s, bytes).ok_or(ValueError::BadValue),
+    }
+}
+
+/// The value that the bytes of a number or of a moment spell, or none. Takes no memory.
+pub fn decode_number(kind: &ColumnType, bytes: &[u8]) -> Option<Value>
+    requires known { IsColumnType kind.now }
+    requires number { ¬ (HoldsText kind.now) }
+    ensures { Finds kind.now bytes.now result }
+{
+    match *kind {
+        ColumnType::Int { width, signed } => integer(width, signed, bytes),
+        ColumnType::Date => date(bytes),
+        ColumnType::DateTime { f } => date_time(f, bytes),
+        ColumnType::Timestamp { f } => timestamp(f, bytes),
+        ColumnType::Year => year(bytes),
+        ColumnType::Decimal { p, s } => decimal(p, s, bytes),
+        _ => None,
     }
 }
 

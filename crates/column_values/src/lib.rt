@@ -18,11 +18,12 @@ mod texts;
 mod utf8;
 mod value;
 
-pub use codec::{decode, encode, is_value};
+pub use codec::{decode, decode_number, encode, is_value};
 pub use field::{Field, FieldList, FieldType};
 pub use integers::IntCode;
 pub use kind::ColumnType;
 pub use lengths::greatest_length;
 pub use order::compare;
+pub use texts::trimmed;
 pub use utf8::Utf8;
 pub use value::{Value, ValueError};

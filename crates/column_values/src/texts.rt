@@ -23,8 +23,8 @@ pub(crate) fn list_of(alloc: Global, bytes: &[u8]) -> Result<ByteList, NoMemory>
     Ok(list)
 }
 
-// The text without its trailing spaces.
-fn trimmed(bytes: &[u8]) -> &[u8]
+/// The text without its trailing spaces: the value of a text of fixed length.
+pub fn trimmed(bytes: &[u8]) -> &[u8]
     ensures { SpellsChar (length bytes.now) result.now bytes.now }
 {
     let mut end = bytes.len();

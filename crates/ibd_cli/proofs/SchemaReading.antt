@@ -1,16 +1,18 @@
 -- What was read of a schema text, up to one byte more than it may have.
-use Rattle.std.proofs.Common.{◌≡◌, ℕ, ◌<◌, ◌≤◌, List, [], length, take, drop, Option, Some, sym, ap, ◌∙◌, subst, arith, length-take-le}
+use Rattle.std.proofs.Common.{◌≡◌, ℕ, ◌<◌, ◌≤◌, List, [], length, take, drop, Option, Some, Result, Ok, Err, IsErrAnd, sym, ap, ◌∙◌, subst, inl, inr, arith, length-take-le}
+use Rattle.std.proofs.lemmas.Bool.{cases_lt}
 use Rattle.std.proofs.lemmas.List.{drop_all}
 use Rattle.std.proofs.Math.Seq.{take-length}
 use Rattle.schema_text.specs.TableDef.{TableDef}
-use Rattle.schema_text.specs.First.{IsFirstTextOf}
+use Rattle.schema_text.specs.Grammar.{IsTextOf}
+use Rattle.schema_text.specs.declared.errors.SchemaWhy.{SchemaWhy}
+use Rattle.schema_text.specs.declared.errors.SchemaError.{SchemaError}
+use Rattle.schema_text.specs.declared.errors.SchemaError.TheVariants as refusals
+use Rattle.schema_text.specs.Refusals.{SchemaChecks, ReadsAs}
+use Rattle.ibd_cli.specs.declared.dump.DumpStop.{DumpStop}
+use Rattle.ibd_cli.specs.Answers.{ReadsSchema, stop_of_schema}
 use Rattle.ibd_cli.specs.Reading.{CameUpTo}
-use Rattle.ibd_cli.specs.Answers.{IsSchemaOf}
-use Rattle.ibd_cli.specs.Outcome.{IsOtherSchema}
-
--- a schema's text is short
-text_is_short : (table : TableDef) (text : List ℕ) → IsFirstTextOf table text → length text ≤ 65536
-text_is_short table text is = omega (arith, ap length is.is_text.text_is, is.is_text.is.short)
+use Rattle.ibd_cli.specs.Outcome.{IsRefusedText}
 
 -- where fewer bytes came than the buffer has, they are the text
 came_whole : (text buffer : List ℕ) (left : Option (List ℕ)) (n : ℕ) → n < length buffer → CameUpTo text left n buffer → take n buffer ≡ text
@@ -18,28 +20,49 @@ came_whole text buffer left n short came =
     let all : n ≡ length text = came.whole short in
     came.came.bytes ∙ ap (λ (k : ℕ). take k text) all ∙ take-length text
 
--- the only schema of the bytes that came is the only one of the text
-pub schema_found : (text buffer : List ℕ) (left : Option (List ℕ)) (n : ℕ) (table : TableDef) → length buffer ≡ 65537 → n ≤ length buffer
-    → IsFirstTextOf table (take n buffer) → ((other : TableDef) → IsFirstTextOf other (take n buffer) → table ≡ other)
-    → CameUpTo text left n buffer → IsSchemaOf text table × (left ≡ Some [])
-schema_found text buffer left n table size within is only came =
+-- the schema of the bytes that came is that of the text, which was read to its end
+pub schema_found : (text buffer : List ℕ) (left : Option (List ℕ)) (n : ℕ) (table : TableDef) → length buffer ≡ 65537
+    → n ≤ length buffer → IsTextOf table (take n buffer) → CameUpTo text left n buffer
+    → IsTextOf table text × (left ≡ Some [])
+schema_found text buffer left n table size within is came =
     let front : length (take n buffer) ≡ n = length-take-le n buffer within in
-    let short : n < length buffer = omega (arith, text_is_short table (take n buffer) is) in
+    let few : length (take n buffer) ≤ 65536 = omega (arith, ap length is.text_is, is.is.short) in
+    let short : n < length buffer = omega arith in
     let same : take n buffer ≡ text = came_whole text buffer left n short came in
     let all : n ≡ length text = came.whole short in
-    let end : drop n text ≡ [] = drop_all n text (omega arith) in (
-      record {
-        is = subst (λ (t : List ℕ). IsFirstTextOf table t) same is;
-        only = λ other other_is. let e : table ≡ other = only other (subst (λ (t : List ℕ). IsFirstTextOf other t) (sym same) other_is) in cc;
-      },
-      came.came.rest ∙ ap Some end,
-    )
+    let end : drop n text ≡ [] = drop_all n text (omega arith) in
+    (subst (λ (t : List ℕ). IsTextOf table t) same is, came.came.rest ∙ ap Some end)
 
--- where the bytes that came are of no schema, the text is of none
-pub schema_missing : (text buffer : List ℕ) (left : Option (List ℕ)) (n : ℕ) → length buffer ≡ 65537 → n ≤ length buffer
-    → ((other : TableDef) → ¬ IsFirstTextOf other (take n buffer))
-    → CameUpTo text left n buffer → IsOtherSchema text
-schema_missing text buffer left n size within only came table is =
-    let short : n < length buffer = omega (arith, text_is_short table text is, came.came.within) in
-    let same : take n buffer ≡ text = came_whole text buffer left n short came in
-    only table (subst (λ (t : List ℕ). IsFirstTextOf table t) (sym same) is)
+-- so is their refusal, since a text that is too long is refused as such
+too_long : (text front : List ℕ) (line : ℕ) (why : SchemaWhy) → 65536 < length front → 65536 < length text
+    → IsRefusedText front line why → IsRefusedText text line why
+unfolding SchemaChecks
+too_long text front line why long longer refused =
+    elim refused [
+      | inl size ↦ inl (size.0, ((λ short. omega arith), size.1.1))
+      | inr rest ↦ absurd (omega (arith, rest.0))
+    ]
+
+pub schema_refused : (text buffer : List ℕ) (left : Option (List ℕ)) (n line : ℕ) (why : SchemaWhy) → length buffer ≡ 65537
+    → n ≤ length buffer → IsRefusedText (take n buffer) line why → CameUpTo text left n buffer → IsRefusedText text line why
+schema_refused text buffer left n line why size within refused came =
+    elim (cases_lt n (length buffer)) [
+      | inl short ↦ subst (λ (t : List ℕ). IsRefusedText t line why) (came_whole text buffer left n short came) refused
+      | inr full ↦
+          let front : length (take n buffer) ≡ n = length-take-le n buffer within in
+          too_long text (take n buffer) line why (omega arith) (omega (arith, came.came.within)) refused
+    ]
+
+-- what a refusal, or want of memory, says of the text
+pub schema_halts : (text buffer bytes : List ℕ) (left : Option (List ℕ)) (n : ℕ) (error : SchemaError) (result : Result TableDef DumpStop)
+    → length buffer ≡ 65537 → n ≤ length buffer → bytes ≡ buffer → ReadsAs (take n bytes) (Err error)
+    → IsErrAnd result (λ stop. stop ≡ stop_of_schema error) → CameUpTo text left n buffer → ReadsSchema text left result
+schema_halts text buffer bytes left n error (Ok table) size within same reads gives came = absurd gives
+schema_halts text buffer bytes left n error (Err stop) size within same reads gives came =
+    subst (λ (s : DumpStop). ReadsSchema text left (Err s)) (sym gives) (by_error error reads)
+  where
+    by_error : (error : SchemaError) → ReadsAs (take n bytes) (Err error) → ReadsSchema text left (Err (stop_of_schema error))
+    by_error (refusals.Refused line why) reads =
+        schema_refused text buffer left n line why size within
+        (subst (λ (bs : List ℕ). IsRefusedText (take n bs) line why) same reads) came
+    by_error refusals.Memory reads = tt

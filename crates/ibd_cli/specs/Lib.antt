@@ -2,8 +2,8 @@ pub mod Forms
 pub mod Lines
 pub mod Causes
 pub mod Reading
-pub mod Head
-pub mod IndexPage
+pub mod Texts
+pub mod Values
 pub mod Rows
 pub mod Outcome
 pub mod Answers

@@ -6,12 +6,10 @@ ghost use Rattle.std.specs.Prelude.{◌≡◌, ◌≢◌, ◌<◌, ◌↔◌};
 ghost use Rattle.ibd_cli.specs.Forms.{IsForm, HasNoForm};
 ghost use Rattle.ibd_cli.specs.declared.words.Form.{Form};
 
+mod columns;
 mod command_line;
 mod dump;
-mod head;
-mod index_page;
-mod layout;
-mod record;
+mod page;
 mod report;
 mod root;
 mod rows;
@@ -20,6 +18,8 @@ mod schema_file;
 mod status;
 #[cfg(test)]
 mod tests;
+mod text;
+mod values;
 mod words;
 
 use command_line::read_words;

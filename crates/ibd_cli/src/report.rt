@@ -1,13 +1,13 @@
 //! The line of a status on the standard error.
 
-ghost use Rattle.std.specs.Prelude.{◌≡◌, ◌≤◌, flat_map};
+ghost use Rattle.std.specs.Prelude.{◌≡◌, ◌≤◌};
 ghost use Rattle.page_source.specs.Calls.{Puts};
 ghost use Rattle.ibd_cli.specs.Causes.{Reports};
 ghost use Rattle.ibd_cli.specs.Lines.{status_line, fault_line, why_word};
 
 use crate::status::Status;
 use itoa::Buffer;
-use page_source::{ByteSink, Failed, Fault};
+use page_source::{ByteSink, Failed, Fault, put_pieces};
 use schema_text::SchemaWhy;
 
 /// Writes the status's line. A fault of this sink changes nothing else.
@@ -79,14 +79,4 @@ fn why_name(why: SchemaWhy) -> &'static str
         SchemaWhy::Key => "key",
         SchemaWhy::Root => "root",
     }
-}
-
-/// Puts the pieces, up to the first that fails.
-fn put_pieces<E: ByteSink>(err: &mut E, pieces: &[&[u8]]) -> Result<(), Failed>
-    ensures { Puts E.ByteSink err.old err.new (flat_map (λ piece. piece.now) pieces.now) result }
-{
-    for piece in pieces {
-        err.put(piece)?;
-    }
-    Ok(())
 }

@@ -4,12 +4,11 @@ ghost use Rattle.std.specs.Prelude.{◌≡◌, ◌+◌, ◌≤◌, OnOk};
 ghost use Rattle.page_source.specs.Pages.{page_of};
 ghost use Rattle.page_source.specs.Checks.{Halts};
 ghost use Rattle.page_source.specs.Calls.{OfFile, HaltsOver};
-ghost use Rattle.ibd_cli.specs.Head.{IsHead};
-ghost use Rattle.ibd_cli.specs.Outcome.{RootChecks};
+ghost use Rattle.ibd_cli.specs.Outcome.{RootChecks, IsHead};
 
-use crate::head::Head;
 use fil_frame::{frame_fault, kind};
 use page_source::{Halt, Page, PageSource, Rule, Steps};
+use space_header::SpaceHeader;
 use std::sync::ledger::Ledger;
 
 /// FIL_PAGE_INDEX, the type of a page of an index.
@@ -19,12 +18,12 @@ const INDEX_KIND: u16 = 17855;
 #[tactic(auto, unfolding(crate::specs::Outcome::RootChecks))]
 pub fn check_root<F: PageSource, L: Ledger>(
     file: &mut F,
-    head: Head,
+    head: &SpaceHeader,
     root: u32,
     page: &mut Page,
     steps: &mut Steps<L>,
 ) -> Result<(), Halt>
-    requires head { OfFile F.PageSource file.old (λ content. IsHead content head.space head.size) }
+    requires head { OfFile F.PageSource file.old (λ content. IsHead content head.now.space head.now.size) }
     ensures exact { OfFile F.PageSource file.old (λ content. Halts result (RootChecks content root)) }
     ensures page { OnOk result (OfFile F.PageSource file.old (λ content. page.new ≡ page_of content root)) }
     ensures keeps { HaltsOver F.PageSource file.old file.new result }

@@ -1,127 +1,123 @@
-//! The rows of a page of whole numbers as INSERT lines.
+//! The lines of the rows of a page whose checks hold.
 
-ghost use Rattle.std.specs.Prelude.{◌≡◌, ◌+◌, ◌==◌, ◌≤◌, ℕ, List, [], ◌∷◌, ◌++◌, if◌then◌else◌, length, codes, IfOk, OnOk};
-ghost use Rattle.std.specs.Fmt.{signed_decimal};
-ghost use Rattle.column_values.specs.Types.{IsWidth, greatest_length};
-ghost use Rattle.schema_text.specs.First.{IsIntType};
-ghost use Rattle.column_values.specs.Spell.{int_of};
-ghost use Rattle.ibd_cli.specs.IndexPage.{HasChain, HaveRoom, IsChain, heap_top};
-ghost use Rattle.ibd_cli.specs.Rows.{IsServed, record_size, value_at, row_at, rows_of, values_of, line_of, text_of};
+ghost use Rattle.std.specs.Prelude.{◌≡◌, ◌≤◌, ◌<◌, false, ℕ, List, [], ◌++◌, length, map, All, IfOk, OnOk};
+ghost use Rattle.std.specs.List.{range_with_len};
+ghost use Rattle.column_values.specs.Types.{IsColumnType, AreFields};
+ghost use Rattle.column_values.specs.declared.value.Value.{Value};
+ghost use Rattle.compact_record.specs.Keys.{IsOnPage};
+ghost use Rattle.compact_record.specs.Reading.{places_of};
+ghost use Rattle.schema_text.specs.IndexFields.{field_of_column};
+ghost use Rattle.row_text.specs.Values.{value_text};
+ghost use Rattle.row_text.specs.Line.{line_of};
+ghost use Rattle.row_text.specs.Writer.{before_value, with_value};
+ghost use Rattle.ibd_cli.specs.Values.{IsSoundCell};
+ghost use Rattle.ibd_cli.specs.Rows.{HasValue, IsRow, HasLines};
+ghost use Rattle.ibd_cli.specs.Outcome.{IsServed, IsWholeRecord, row_fields};
 
-use crate::index_page::record_count;
-use crate::layout::{column_offset, column_width};
-use crate::record::{INFIMUM, is_deleted, next_origin};
-use column_values::{ColumnType, IntCode};
-use itoa::Buffer;
-use page_source::{ByteList, NoMemory, Page};
+use crate::columns::column_fields;
+use crate::text::TextSink;
+use crate::values::read_record;
+use column_values::{ColumnType, FieldList};
+use compact_record::{Located, Place};
+use page_source::{ByteList, Failed, NoMemory, Page};
+use row_text::RowWriter;
 use schema_text::Schema;
 use std::alloc::Global;
 
-/// The lines of the records that have no delete mark, in the order of the chain.
-pub fn page_text(alloc: Global, page: &Page, schema: &Schema) -> Result<ByteList, NoMemory>
-    requires served { IsServed schema.now }
-    requires chain { HasChain page.now }
-    requires room { HaveRoom page.now (record_size schema.now) }
-    requires top { heap_top page.now ≤ 16376 }
-    ensures { IfOk result (λ text. (chain : List ℕ) × IsChain page.now chain × (text ≡ text_of schema.now (rows_of page.now schema.now chain))) }
-{
-    let mut text = ByteList::new(alloc);
-    let mut origin = INFIMUM;
-    for _ in 0..record_count(page) {
-        origin = next_origin(page, origin);
-        push_record(&mut text, page, schema, origin)?;
-    }
-    Ok(text)
-}
-
-/// The line of the record at this origin; a record with the delete mark has none.
-fn push_record(
-    text: &mut ByteList,
+/// Adds the value of the column that lies here.
+fn put_value(
+    text: &mut TextSink,
+    writer: &mut RowWriter,
     page: &Page,
-    schema: &Schema,
-    origin: usize,
-) -> Result<(), NoMemory>
-    requires served { IsServed schema.now }
-    requires least { 5 ≤ origin }
-    requires room { origin + record_size schema.now ≤ 16384 }
-    ensures { OnOk result (text.new ≡ text.old ++ text_of schema.now (rows_of page.now schema.now (origin ∷ []))) }
+    kind: &ColumnType,
+    place: Place,
+) -> Result<(), Failed>
+    requires few { writer.old.came < 64 }
+    requires known { IsColumnType kind.now }
+    requires inside { IsOnPage place }
+    requires here { place.external ≡ false }
+    requires sound { IsSoundCell page.now (record { kind = kind.now; place = place }) }
+    ensures value { OnOk result ((value : Value) × HasValue page.now (record { kind = kind.now; place = place }) value
+        × (text.new.bytes ≡ text.old.bytes ++ (before_value writer.old.came ++ value_text kind.now value))) }
+    ensures counts { OnOk result (writer.new ≡ with_value writer.old writer.old.lacks) }
 {
-    if is_deleted(page, origin) {
-        Ok(())
+    if place.null {
+        writer.null(text)
     } else {
-        push_line(text, page, schema, origin)
+        writer.value(text, kind, &page.bytes()[place.from..place.until])
     }
 }
 
-/// The line of the record at this origin, whether or not it has the delete mark.
-fn push_line(
-    text: &mut ByteList,
+/// Adds the line of the record whose fields lie at these places; column `c` is field `at[c]`.
+fn put_row(
+    text: &mut TextSink,
     page: &Page,
     schema: &Schema,
+    at: &[usize],
+    places: &[Place],
     origin: usize,
-) -> Result<(), NoMemory>
+) -> Result<(), Failed>
     requires served { IsServed schema.now }
-    requires room { origin + record_size schema.now ≤ 16384 }
-    ensures { OnOk result (text.new ≡ text.old ++ line_of schema.now (row_at page.now schema.now origin)) }
+    requires at { at.now ≡ map (field_of_column schema.now) (range_with_len 0 (length schema.now.columns)) }
+    requires places { places.now ≡ places_of page.now origin (row_fields schema.now) }
+    requires few { length places.now ≤ 128 }
+    requires record { IsWholeRecord page.now schema.now origin }
+    ensures { OnOk result ((row : List Value) × IsRow page.now schema.now origin row
+        × (text.new.bytes ≡ text.old.bytes ++ line_of schema.now row)) }
 {
-    text.extend(b"INSERT INTO `")?;
-    text.extend(schema.table())?;
-    text.extend(b"` VALUES (")?;
-    push_values(text, page, schema, origin)?;
-    text.extend(b");\n")
+    let mut writer = RowWriter::begin(text, schema)?;
+    for (c, column) in schema.columns().iter().enumerate() {
+        put_value(text, &mut writer, page, &column.kind, places[at[c]])?;
+    }
+    writer.end(text)
 }
 
-/// The values of the record at this origin, joined by commas.
-fn push_values(
-    text: &mut ByteList,
+/// Adds the lines of these records.
+fn put_rows(
+    text: &mut TextSink,
+    located: &mut Located,
     page: &Page,
     schema: &Schema,
-    origin: usize,
-) -> Result<(), NoMemory>
+    fields: &FieldList,
+    at: &[usize],
+    origins: &[usize],
+) -> Result<(), Failed>
     requires served { IsServed schema.now }
-    requires room { origin + record_size schema.now ≤ 16384 }
-    ensures { OnOk result (text.new ≡ text.old ++ values_of (row_at page.now schema.now origin)) }
+    requires at { at.now ≡ map (field_of_column schema.now) (range_with_len 0 (length schema.now.columns)) }
+    requires fields { fields.now ≡ row_fields schema.now }
+    requires are_fields { AreFields fields.now }
+    requires room { length fields.now.fields ≤ located.old.members }
+    requires records { All (IsWholeRecord page.now schema.now) origins.now }
+    ensures { OnOk result ((lines : List ℕ) × HasLines page.now schema.now origins.now lines
+        × (text.new.bytes ≡ text.old.bytes ++ lines)) }
 {
-    let mut before = 0;
-    for (position, column) in schema.columns().iter().enumerate() {
-        let at = origin + column_offset(schema, position, before);
-        text.extend(comma(position))?;
-        push_value(text, page, at, column.kind)?;
-        before += column_width(column);
+    for origin in origins {
+        read_record(located, page, fields, *origin);
+        put_row(text, page, schema, at, located.places(), *origin)?;
     }
     Ok(())
 }
 
-/// What stands before the value at this position.
-fn comma(position: usize) -> &'static [u8]
-    ensures { result.now ≡ if position == 0 then [] else codes "," }
+/// The lines of these records.
+pub fn lines(
+    alloc: Global,
+    located: &mut Located,
+    page: &Page,
+    schema: &Schema,
+    fields: &FieldList,
+    origins: &[usize],
+) -> Result<ByteList, NoMemory>
+    requires served { IsServed schema.now }
+    requires fields { fields.now ≡ row_fields schema.now }
+    requires are_fields { AreFields fields.now }
+    requires room { length fields.now.fields ≤ located.old.members }
+    requires records { All (IsWholeRecord page.now schema.now) origins.now }
+    ensures { IfOk result (HasLines page.now schema.now origins.now) }
 {
-    if position == 0 { b"" } else { b"," }
-}
-
-/// The number of the column that begins at `at`.
-fn push_value(text: &mut ByteList, page: &Page, at: usize, kind: ColumnType) -> Result<(), NoMemory>
-    requires known { IsIntType kind }
-    requires inside { at + greatest_length kind ≤ 16384 }
-    ensures { OnOk result (text.new ≡ text.old ++ signed_decimal (value_at page.now at kind)) }
-{
-    if let ColumnType::Int { width, signed } = kind {
-        let value = int_value(signed, &page.bytes()[at..at + usize::from(width)]);
-        text.extend(Buffer::new().format(value).as_bytes())?;
-    }
-    Ok(())
-}
-
-/// The number that these bytes of a column spell.
-fn int_value(signed: bool, bytes: &[u8]) -> i128
-    requires { IsWidth (length bytes.now) }
-    ensures { result ≡ int_of signed (length bytes.now) bytes.now }
-{
-    match bytes.len() {
-        1 => IntCode::<1>::read(signed, bytes),
-        2 => IntCode::<2>::read(signed, bytes),
-        3 => IntCode::<3>::read(signed, bytes),
-        4 => IntCode::<4>::read(signed, bytes),
-        _ => IntCode::<8>::read(signed, bytes),
+    let at = column_fields(alloc, schema)?;
+    let mut text = TextSink::new(alloc);
+    match put_rows(&mut text, located, page, schema, fields, &at, origins) {
+        Ok(()) => Ok(text.into_bytes()),
+        Err(Failed) => Err(NoMemory),
     }
 }

@@ -1,21 +1,16 @@
 //! The whole program as one call over the objects that reach outside.
 
-ghost use Rattle.std.specs.Prelude.{◌≡◌, ◌≢◌, ◌+◌, ◌≤◌, ◌⊎◌, ◌↔◌, ℕ, List, IfSome, Some};
-ghost use Rattle.page_source.specs.Faults.{Rose};
-ghost use Rattle.page_source.specs.Calls.{OfFile};
+ghost use Rattle.std.specs.Prelude.{◌≡◌, ◌≢◌, ◌↔◌, ◌+◌, ◌≤◌};
 ghost use Rattle.ibd_cli.specs.Forms.{IsForm, HasNoForm};
 ghost use Rattle.ibd_cli.specs.Lines.{status_line};
 ghost use Rattle.ibd_cli.specs.Causes.{Reports};
-ghost use Rattle.ibd_cli.specs.Outcome.{Told, DumpGives, IsOtherSchema};
-ghost use Rattle.ibd_cli.specs.Reading.{IsReadUpTo};
-ghost use Rattle.ibd_cli.specs.Run.{Leaves, ServesNothing, BreaksFile};
+ghost use Rattle.ibd_cli.specs.Run.{Dumps};
 
-use crate::dump::{DumpStop, read_text};
+use crate::dump::read_text;
 use crate::report::report;
 use crate::status::Status;
 use crate::words::{Form, Words};
-use page_source::{ByteSink, ByteSource, Fault, PageSource, PageStore, Steps};
-use schema_text::SchemaWhy;
+use page_source::{ByteSink, ByteSource, PageSource, PageStore, Steps};
 use std::alloc::Global;
 use std::sync::ledger::Ledger;
 
@@ -49,36 +44,13 @@ pub fn run<
     ensures file { ¬ (IsForm words.now Form.Dump) → file.new ≡ file.old }
     ensures schema { ¬ (IsForm words.now Form.Dump) → schema.new ≡ schema.old }
     ensures steps { ¬ (IsForm words.now Form.Dump) → steps.new ≡ steps.old }
-    ensures untouched { (text : List ℕ) → Q.left schema.old ≡ Some text → IsOtherSchema text
-        → (file.new ≡ file.old) × (steps.new ≡ steps.old) }
+    ensures out { ¬ (IsForm words.now Form.Dump) → out.new ≡ out.old }
     ensures rows { rows.new ≡ rows.old }
     ensures target { target.new ≡ target.old }
 
-    // What one input shows, whatever the others tell.
-    ensures refused { (line : ℕ) (why : SchemaWhy) → result ≢ Status.SchemaRefused line why }
-    ensures other { (text : List ℕ) → IsForm words.now Form.Dump → Q.left schema.old ≡ Some text
-        → IsOtherSchema text → ServesNothing result }
-    ensures broken { (fault : Fault) → result ≡ Status.Broken fault
-        → OfFile F.PageSource file.old (λ content. BreaksFile content fault) }
-    ensures read { IsForm words.now Form.Dump
-        → IfSome (Q.left schema.old) (λ text. IsReadUpTo 65537 text (Q.left schema.new)) }
-
-    // What is written, where the inputs are told.
-    ensures leaves { (told : Told) → IsForm words.now Form.Dump
-        → Q.left schema.old ≡ Some told.schema → F.content file.old ≡ Some told.file
-        → Leaves told result (O.written out.old) (O.written out.new) (Q.left schema.new) }
-    ensures out { result ≢ Status.Done → result ≢ Status.SinkFault → out.new ≡ out.old }
-    ensures complete { (told : Told) (given : Status) (output : List ℕ) → IsForm words.now Form.Dump
-        → Q.left schema.old ≡ Some told.schema → F.content file.old ≡ Some told.file
-        → DumpGives told given output
-        → ¬ (Rose (F.faults file.old) (F.faults file.new)) → ¬ (Rose (Q.faults schema.old) (Q.faults schema.new))
-        → ¬ (Rose (O.faults out.old) (O.faults out.new))
-        → (result ≡ given) ⊎ (result ≡ Status.Memory) }
-
-    // Why it ended early.
-    ensures source { result ≡ Status.SourceFault
-        → Rose (F.faults file.old) (F.faults file.new) ⊎ Rose (Q.faults schema.old) (Q.faults schema.new) }
-    ensures sink { result ≡ Status.SinkFault → Rose (O.faults out.old) (O.faults out.new) }
+    // What a dump does to the objects that it names, and how it ends.
+    ensures dump { IsForm words.now Form.Dump → Dumps F.PageSource Q.ByteSource O.ByteSink file.old file.new
+        schema.old schema.new out.old out.new steps.old steps.new result }
 
     ensures report { Reports (E.written err.old) (E.written err.new) (E.faults err.old) (E.faults err.new) (status_line result) }
     ensures content { F.content file.new ≡ F.content file.old }
@@ -102,37 +74,15 @@ fn dump<F: PageSource, Q: ByteSource, O: ByteSink, L: Ledger>(
     out: &mut O,
     steps: &mut Steps<L>,
 ) -> Status
-    ensures leaves { (told : Told) → Q.left schema.old ≡ Some told.schema → F.content file.old ≡ Some told.file
-        → Leaves told result (O.written out.old) (O.written out.new) (Q.left schema.new) }
-    ensures out { result ≢ Status.Done → result ≢ Status.SinkFault → out.new ≡ out.old }
-    ensures complete { (told : Told) (given : Status) (output : List ℕ)
-        → Q.left schema.old ≡ Some told.schema → F.content file.old ≡ Some told.file
-        → DumpGives told given output
-        → ¬ (Rose (F.faults file.old) (F.faults file.new)) → ¬ (Rose (Q.faults schema.old) (Q.faults schema.new))
-        → ¬ (Rose (O.faults out.old) (O.faults out.new))
-        → (result ≡ given) ⊎ (result ≡ Status.Memory) }
-    ensures untouched { (text : List ℕ) → Q.left schema.old ≡ Some text → IsOtherSchema text
-        → (file.new ≡ file.old) × (steps.new ≡ steps.old) }
+    ensures dump { Dumps F.PageSource Q.ByteSource O.ByteSink file.old file.new
+        schema.old schema.new out.old out.new steps.old steps.new result }
     ensures usage { result ≢ Status.Usage }
-    ensures refused { (line : ℕ) (why : SchemaWhy) → result ≢ Status.SchemaRefused line why }
-    ensures other { (text : List ℕ) → Q.left schema.old ≡ Some text → IsOtherSchema text → ServesNothing result }
-    ensures broken { (fault : Fault) → result ≡ Status.Broken fault
-        → OfFile F.PageSource file.old (λ content. BreaksFile content fault) }
-    ensures read { IfSome (Q.left schema.old) (λ text. IsReadUpTo 65537 text (Q.left schema.new)) }
-    ensures source { result ≡ Status.SourceFault
-        → Rose (F.faults file.old) (F.faults file.new) ⊎ Rose (Q.faults schema.old) (Q.faults schema.new) }
-    ensures sink { result ≡ Status.SinkFault → Rose (O.faults out.old) (O.faults out.new) }
-    ensures content { F.content file.new ≡ F.content file.old }
-    ensures cost { steps.new ≤ steps.old + 2 }
 {
     match read_text(alloc, file, schema, steps) {
         Ok(text) => match out.put(text.bytes()) {
             Ok(()) => Status::Done,
             Err(_) => Status::SinkFault,
         },
-        Err(DumpStop::Unbuilt) => Status::Unbuilt,
-        Err(DumpStop::Broken(fault)) => Status::Broken(fault),
-        Err(DumpStop::Source) => Status::SourceFault,
-        Err(DumpStop::Memory) => Status::Memory,
+        Err(stop) => Status::from(stop),
     }
 }

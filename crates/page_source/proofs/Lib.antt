@@ -8,3 +8,4 @@ pub mod Marks
 pub mod Times
 pub mod Told
 pub mod SparseFiles
+pub mod Texts

@@ -65,18 +65,10 @@ impl<'a, R: Files> NamedFile<'a, R> {
         page.fill_from(file)
     }
 
-    /// A read that a signal interrupts is tried again.
     fn read_some(&mut self, buffer: &mut [u8]) -> io::Result<usize>
         ensures { IfOk result (λ k. k ≤ length buffer.new) }
     {
-        let file = self.open()?;
-        for _ in 0..u64::MAX {
-            match file.read(buffer) {
-                Err(error) if error.kind() == ErrorKind::Interrupted => {}
-                answer => return answer,
-            }
-        }
-        Err(Error::from(ErrorKind::Interrupted))
+        read_some(self.open()?, buffer)
     }
 
     fn set_pages(&mut self, pages: u32) -> io::Result<()> {
@@ -88,6 +80,19 @@ impl<'a, R: Files> NamedFile<'a, R> {
         file.seek(SeekFrom::Start(PAGE_SIZE as u64 * u64::from(n)))?;
         file.write_all(page.bytes())
     }
+}
+
+/// A read that a signal interrupts is tried again.
+fn read_some<F: Read>(file: &mut F, buffer: &mut [u8]) -> io::Result<usize>
+    ensures { IfOk result (λ k. k ≤ length buffer.new) }
+{
+    for _ in 0..u64::MAX {
+        match file.read(buffer) {
+            Err(error) if error.kind() == ErrorKind::Interrupted => {}
+            answer => return answer,
+        }
+    }
+    Err(Error::from(ErrorKind::Interrupted))
 }
 
 fn open_word<R: Files>(rt: &R, word: Option<&[u8]>, opening: Opening) -> io::Result<R::File> {
@@ -244,5 +249,45 @@ impl<R: Files> PageStore for FileStore<'_, R> {
     {
         let done = self.named.write_page(n, page);
         counted(&mut self.faults, done)
+    }
+}
+
+#[cfg(test)]
+mod tests {
+    use super::*;
+    use std::test::Fail;
+
+    /// A file whose first calls are interrupted, and which then gives three bytes, or fails.
+    #[derive(Drop)]
+    struct Interrupted {
+        calls: u8,
+        fails: bool,
+    }
+
+    impl Read for Interrupted {
+        fn read(&mut self, buffer: &mut [u8]) -> io::Result<usize> {
+            if self.calls > 0 {
+                self.calls -= 1;
+                return Err(Error::from(ErrorKind::Interrupted));
+            }
+            if self.fails {
+                return Err(Error::from(ErrorKind::Unsupported));
+            }
+            Ok(buffer.len().min(3))
+        }
+    }
+
+    #[test]
+    fn an_interrupted_read_is_tried_again(rt: HostRuntime) -> Result<(), Fail> {
+        for calls in 0..3u8 {
+            let mut file = Interrupted {
+                calls,
+                fails: false,
+            };
+            assert_eq!(rt; read_some(&mut file, &mut [0; 5])?, 3);
+            let mut file = Interrupted { calls, fails: true };
+            assert!(rt; read_some(&mut file, &mut [0; 5]).is_err());
+        }
+        Ok(())
     }
 }

@@ -10,6 +10,7 @@ mod files;
 mod memory;
 mod objects;
 mod page;
+mod pieces;
 mod rule;
 mod steps;
 mod streams;
@@ -26,6 +27,7 @@ pub use memory::{
 };
 pub use objects::{ByteSink, ByteSource, PageSource, PageStore};
 pub use page::{PAGE_SIZE, Page, read_be, write_be};
+pub use pieces::put_pieces;
 pub use rule::{Fault, Rule};
 pub use steps::Steps;
 pub use streams::StdSink;

@@ -18,7 +18,7 @@ read_form : (words : Line) (o : Option ColumnType) → IsTypeRead words (Some o)
 read_form words None h = h.0
 read_form words (Some kind) h = inl (kind, h.0, h.1)
 
-is_nullity : (w : List ℕ) (b : Bool) → w ≡ nullity_word b → IsNullityWord w
+pub is_nullity : (w : List ℕ) (b : Bool) → w ≡ nullity_word b → IsNullityWord w
 is_nullity w true e = inl e
 is_nullity w false e = inr e
 

@@ -33,7 +33,7 @@ a_member : (columns : List Column) (place : ℕ) → place < length columns → 
 a_member [] place h = absurd (omega arith)
 a_member (c ∷ columns) place h = c
 
-found_at : (columns : List Column) (name : List ℕ) (place : ℕ) → IsPlaceOf columns name place
+pub found_at : (columns : List Column) (name : List ℕ) (place : ℕ) → IsPlaceOf columns name place
     → IsFoundAt columns name place
 found_at columns name place h =
     let test : Column → Bool = λ c. bytes_eq c.name name in
@@ -91,7 +91,7 @@ names_of_places columns (n ∷ names) (p ∷ places) h =
     ∙ ap (λ first. first ∷ map (λ (c : Column). c.name) (filter_map (slice_get columns) places)) found.named
     ∙ ap (λ rest. n ∷ rest) (names_of_places columns names places h.1)
 
-length_places : (columns : List Column) (names : Line) (places : List ℕ) → ArePlacesOf columns names places
+pub length_places : (columns : List Column) (names : Line) (places : List ℕ) → ArePlacesOf columns names places
     → length places ≡ length names
 length_places columns [] [] h = refl
 length_places columns [] (p ∷ places) h = absurd h
@@ -107,7 +107,7 @@ known_places columns (n ∷ names) (p ∷ places) h =
     All-cons (λ i. i < length columns) p places (found_at columns n p h.0).within
     (known_places columns names places h.1)
 
-place_at : (columns : List Column) (names : Line) (places : List ℕ) (k : ℕ) → ArePlacesOf columns names places
+pub place_at : (columns : List Column) (names : Line) (places : List ℕ) (k : ℕ) → ArePlacesOf columns names places
     → k < length places → IsPlaceOf columns (get_or names k []) (get_or places k 0)
 place_at columns [] [] k h below = absurd (omega arith)
 place_at columns [] (p ∷ places) k h below = absurd h

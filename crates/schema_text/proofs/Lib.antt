@@ -2,8 +2,6 @@ pub mod Positions
 pub mod WordLemmas
 pub mod LineLemmas
 pub mod NameLemmas
-pub mod ColumnLemmas
-pub mod TableLemmas
 pub mod TypeLemmas
 pub mod PartLemmas
 pub mod PlaceLemmas
@@ -17,3 +15,9 @@ pub mod ReadingLemmas
 pub mod FieldLemmas
 pub mod PrintLemmas
 pub mod GoodLines
+pub mod WordsBack
+pub mod ReadBack
+pub mod OneSchema
+pub mod NextLines
+pub mod GoodTexts
+pub mod OneAnswer

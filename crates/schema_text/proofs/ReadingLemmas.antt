@@ -37,7 +37,7 @@ unfolding LineChecks
 first_refused lines bad e h = (e, h)
 
 -- a line behind others
-next_good : (lines : List Line) (k : ℕ) (t : TableDef) → 1 ≤ k → AreLinesOf t (take k lines)
+pub next_good : (lines : List Line) (k : ℕ) (t : TableDef) → 1 ≤ k → AreLinesOf t (take k lines)
     → NextChecks t (get_or lines k []) None → LineChecks lines k None
 unfolding LineChecks
 next_good lines zero t some are h = absurd (omega arith)

@@ -1,7 +1,6 @@
 pub mod Formats
 pub mod TableDef
 pub mod Grammar
-pub mod First
 pub mod Cuts
 pub mod Parts
 pub mod Refusals

@@ -8,9 +8,8 @@ ghost use Rattle.schema_text.specs.Refusals.{KeyChecks, HasCounts, HasNewNames, 
 ghost use Rattle.schema_text.specs.Cuts.{MayJoin, MakesKey, IsKeyStep, IsPlaceOf, ArePlacesOf, IsAmong};
 
 use crate::errors::SchemaWhy;
-use crate::first::position_of;
 use crate::line::Words;
-use crate::names::{are_declared, column_of, has_index, has_root, keys_differ};
+use crate::names::{are_declared, column_of, has_index, has_root, keys_differ, position_of};
 use crate::part::Part;
 use crate::table::{Column, Format};
 use crate::words::root_number;

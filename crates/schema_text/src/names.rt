@@ -1,6 +1,6 @@
 //! Names and roots that stand before a line or on it.
 
-ghost use Rattle.std.specs.Prelude.{◌≡◌, ◌≢◌, ◌≤◌, ◌<◌, ◌↔◌, [], ℕ, List, length, drop, slice_index_or, All, AllPairs, Any, IsTrue};
+ghost use Rattle.std.specs.Prelude.{◌≡◌, ◌≢◌, ◌≤◌, ◌<◌, ◌↔◌, [], ℕ, List, length, drop, slice_index_or, All, AllPairs, Any, IsTrue, position, bytes_eq, IfSome};
 ghost use Rattle.std.specs.Bool.{OnFalse};
 ghost use Rattle.std.specs.Option.{option_copied};
 ghost use Rattle.schema_text.specs.declared.table.Column.{Column};
@@ -19,6 +19,14 @@ pub(crate) fn has_column(columns: &[Column], name: &[u8]) -> bool
     ensures no { OnFalse result (All (λ (c : Column). c.name ≢ name.now) columns.now) }
 {
     columns.iter().any(|c| c.name.bytes() == name)
+}
+
+/// The place of the first column of this name.
+pub(crate) fn position_of(columns: &[Column], name: &[u8]) -> Option<usize>
+    ensures value { result ≡ position (λ (c : Column). bytes_eq c.name name.now) columns.now }
+    ensures bound { IfSome result (λ place. place < length columns.now) }
+{
+    columns.iter().position(|c| c.name.bytes() == name)
 }
 
 /// The column of this name.

@@ -9,14 +9,13 @@ ghost use Rattle.schema_text.specs.Cuts.{IsIndexRead, IsClusteredRead, IsIndexLi
 
 use crate::checks::{check_column, format_of};
 use crate::errors::{SchemaError, SchemaWhy};
-use crate::first::owned;
 use crate::keys::{check_key, places_of};
 use crate::line::Words;
 use crate::names::are_names;
 use crate::part::Part;
 use crate::table::{Column, ColumnList, Format, IndexDef, Schema};
 use crate::words::{cut, is, is_name};
-use page_source::NoMemory;
+use page_source::{ByteList, NoMemory};
 use std::alloc::Global;
 
 const LONGEST_TEXT: usize = 65_536;
@@ -42,6 +41,15 @@ fn check_table<'a>(line: &Words<'a>) -> Result<(&'a [u8], Format), SchemaWhy>
         return Err(SchemaWhy::Name);
     }
     Ok((name, format))
+}
+
+/// These bytes as a list of its own.
+fn owned(alloc: Global, bytes: &[u8]) -> Result<ByteList, NoMemory>
+    ensures { IfOk result (λ list. list ≡ bytes.now) }
+{
+    let mut list = ByteList::new(alloc);
+    list.extend(bytes)?;
+    Ok(list)
 }
 
 /// The table that the first line begins.

@@ -5,19 +5,29 @@ ghost use Rattle.column_values.specs.declared.kind.ColumnType.{ColumnType};
 ghost use Rattle.column_values.specs.Types.{IsWidth, IsLongLength, IsColumnType};
 ghost use Rattle.schema_text.specs.Grammar.{int_word, long_prefix, type_words};
 ghost use Rattle.schema_text.specs.Refusals.{IsSizedWord, type_part};
-ghost use Rattle.schema_text.specs.Cuts.{IsSizedType, IsTypeRead};
+ghost use Rattle.schema_text.specs.Cuts.{IsSizedType, IsTypeRead, Parses, SpellsType};
 
 use crate::line::Words;
-use crate::lines::int_width;
 use crate::words::{decimal_number, is};
 use column_values::ColumnType;
 
+/// The width of the integers that the word names.
+fn int_width(word: &[u8]) -> Option<u8>
+    ensures { Parses (λ width. IsWidth width × (word.now ≡ int_word width)) result }
+{
+    match word {
+        b"tinyint" => Some(1),
+        b"smallint" => Some(2),
+        b"mediumint" => Some(3),
+        b"int" => Some(4),
+        b"bigint" => Some(8),
+        _ => None,
+    }
+}
+
 /// The greatest length of the text kind that the word names.
 fn text_length(word: &[u8]) -> Option<u32>
-    ensures found { IfSome result
-        (λ n. IsLongLength n × (word.now ≡ long_prefix n ++ codes "text")) }
-    ensures only { (n : ℕ) → IsLongLength n → word.now ≡ long_prefix n ++ codes "text"
-        → result ≡ Some n }
+    ensures { Parses (λ n. IsLongLength n × (word.now ≡ long_prefix n ++ codes "text")) result }
 {
     match word {
         b"tinytext" => Some(255),
@@ -30,10 +40,7 @@ fn text_length(word: &[u8]) -> Option<u32>
 
 /// The greatest length of the blob kind that the word names.
 fn blob_length(word: &[u8]) -> Option<u32>
-    ensures found { IfSome result
-        (λ n. IsLongLength n × (word.now ≡ long_prefix n ++ codes "blob")) }
-    ensures only { (n : ℕ) → IsLongLength n → word.now ≡ long_prefix n ++ codes "blob"
-        → result ≡ Some n }
+    ensures { Parses (λ n. IsLongLength n × (word.now ≡ long_prefix n ++ codes "blob")) result }
 {
     match word {
         b"tinyblob" => Some(255),
@@ -46,10 +53,7 @@ fn blob_length(word: &[u8]) -> Option<u32>
 
 /// The type that a single word names.
 fn plain_type(word: &[u8]) -> Option<ColumnType>
-    ensures found { IfSome result
-        (λ kind. IsColumnType kind × (word.now ∷ [] ≡ type_words kind)) }
-    ensures only { (kind : ColumnType) → IsColumnType kind → word.now ∷ [] ≡ type_words kind
-        → result ≡ Some kind }
+    ensures { Parses (SpellsType (word.now ∷ [])) result }
 {
     if let Some(width) = int_width(word) {
         return Some(ColumnType::Int {
@@ -113,10 +117,7 @@ fn is_sized_word(word: &[u8]) -> bool
 
 /// The type that two words name.
 fn pair_type(first: &[u8], second: &[u8]) -> Option<ColumnType>
-    ensures found { IfSome result
-        (λ kind. IsColumnType kind × (first.now ∷ second.now ∷ [] ≡ type_words kind)) }
-    ensures only { (kind : ColumnType) → IsColumnType kind
-        → first.now ∷ second.now ∷ [] ≡ type_words kind → result ≡ Some kind }
+    ensures { Parses (SpellsType (first.now ∷ second.now ∷ [])) result }
 {
     if let Some(width) = int_width(first) {
         return is(second, b"unsigned").then_some(ColumnType::Int {
@@ -132,10 +133,7 @@ fn pair_type(first: &[u8], second: &[u8]) -> Option<ColumnType>
 
 /// A `varchar` of utf8mb4.
 fn utf8_type(size: &[u8]) -> Option<ColumnType>
-    ensures found { IfSome result (λ kind. IsColumnType kind
-        × (codes "varchar" ∷ size.now ∷ codes "utf8mb4" ∷ [] ≡ type_words kind)) }
-    ensures only { (kind : ColumnType) → IsColumnType kind
-        → codes "varchar" ∷ size.now ∷ codes "utf8mb4" ∷ [] ≡ type_words kind → result ≡ Some kind }
+    ensures { Parses (SpellsType (codes "varchar" ∷ size.now ∷ codes "utf8mb4" ∷ [])) result }
 {
     let n = decimal_number(size)?;
     (1 <= n && n <= 16383).then_some(ColumnType::Utf8Varchar { n })
@@ -143,10 +141,7 @@ fn utf8_type(size: &[u8]) -> Option<ColumnType>
 
 /// A decimal of so many digits, some of them behind the point.
 fn decimal_type(digits: &[u8], behind: &[u8]) -> Option<ColumnType>
-    ensures found { IfSome result (λ kind. IsColumnType kind
-        × (codes "decimal" ∷ digits.now ∷ behind.now ∷ [] ≡ type_words kind)) }
-    ensures only { (kind : ColumnType) → IsColumnType kind
-        → codes "decimal" ∷ digits.now ∷ behind.now ∷ [] ≡ type_words kind → result ≡ Some kind }
+    ensures { Parses (SpellsType (codes "decimal" ∷ digits.now ∷ behind.now ∷ [])) result }
 {
     let p = decimal_number(digits)?;
     let s = decimal_number(behind)?;

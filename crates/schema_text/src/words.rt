@@ -2,7 +2,7 @@
 
 ghost use Rattle.std.specs.Prelude.{◌≡◌, ◌<◌, ◌^◌, ◌↔◌, ◌==◌, ◌∷◌, ◌++◌, List, ℕ, IsTrue, IfSome, IsSomeAnd, MatchOption, Some, decimal, position, bytes_eq};
 ghost use Rattle.schema_text.specs.Grammar.{IsName, IsNameByte, IsRoot};
-ghost use Rattle.schema_text.specs.Cuts.{Lacks};
+ghost use Rattle.schema_text.specs.Cuts.{Lacks, Parses, ParsesPart};
 
 use itoa::Buffer;
 use std::str;
@@ -20,24 +20,6 @@ pub(crate) fn is(word: &[u8], text: &[u8]) -> bool
     ensures same { IsTrue result ↔ (word.now ≡ text.now) }
 {
     word == text
-}
-
-/// What follows the front that the text begins with.
-pub(crate) fn after<'a>(text: &'a [u8], front: &[u8]) -> Option<&'a [u8]>
-    ensures found { IfSome result (λ rest. text.now ≡ front.now ++ rest.now) }
-    ensures only { (rest : List ℕ) → text.now ≡ front.now ++ rest
-        → IsSomeAnd result (λ found. found.now ≡ rest) }
-{
-    text.strip_prefix(front)
-}
-
-/// What stands before the end that the text ends with.
-pub(crate) fn before<'a>(text: &'a [u8], end: &[u8]) -> Option<&'a [u8]>
-    ensures found { IfSome result (λ rest. text.now ≡ rest.now ++ end.now) }
-    ensures only { (rest : List ℕ) → text.now ≡ rest ++ end.now
-        → IsSomeAnd result (λ found. found.now ≡ rest) }
-{
-    text.strip_suffix(end)
 }
 
 /// The place of the first such byte.
@@ -93,8 +75,7 @@ pub fn decimal_number(word: &[u8]) -> Option<u32>
 
 /// The number of a root page.
 pub(crate) fn root_number(word: &[u8]) -> Option<u32>
-    ensures found { IfSome result (λ root. IsRoot root × (word.now ≡ decimal root)) }
-    ensures only { (root : ℕ) → IsRoot root → word.now ≡ decimal root → result ≡ Some root }
+    ensures { Parses (λ root. IsRoot root × (word.now ≡ decimal root)) result }
 {
     let root = decimal_number(word)?;
     (FIRST_ROOT <= root && root <= LAST_ROOT).then_some(root)

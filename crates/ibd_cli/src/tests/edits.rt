@@ -12,296 +12,177 @@ pub const ALL: &str =
     "0|INSERT INTO `t` VALUES (-1);\nINSERT INTO `t` VALUES (0);\nINSERT INTO `t` VALUES (2147483647);\n|";
 
 /// Edits of page 0, by the rules of the head.
-pub const HEAD: [Edit; 29] = [
-    (&[(0, 24, &[0, 0x09])], "3||broken 3 head-type page 0\n"),
-    (&[(0, 24, &[0, 0])], "3||broken 3 head-type page 0\n"),
-    (&[(0, 24, &[0x45, 0xBF])], "3||broken 3 head-type page 0\n"),
+pub const HEAD: [Edit; 11] = [
+    (&[(0, 4, b"\0\0\0\x01")], "3||broken 2 head-frame page 0\n"),
+    (&[(0, 24, b"\0\x09")], "3||broken 3 head-type page 0\n"),
+    (&[(0, 38, b"\0\0\0\x18")], "3||broken 4 head-space page 0\n"),
     (
-        &[(0, 38, &[0, 0, 0, 0x18])],
-        "3||broken 4 head-space page 0\n",
-    ),
-    (
-        &[(0, 34, &[0, 0, 0, 0x18])],
-        "3||broken 4 head-space page 0\n",
-    ),
-    (
-        &[(0, 34, &[0, 0, 0, 0x18]), (0, 38, &[0, 0, 0, 0x18])],
+        &[(0, 34, b"\0\0\0\x18"), (0, 38, b"\0\0\0\x18")],
         "3||broken 25 frame page 3\n",
     ),
-    (&[(0, 54, &[0, 0, 0, 0])], "3||broken 5 head-flags page 0\n"),
+    (&[(0, 54, b"\0\0\0\0")], "3||broken 5 head-flags page 0\n"),
+    (&[(0, 54, b"\0\0\x04!")], ALL),
+    (&[(0, 46, b"\0\0\0\x03")], "3||broken 6 head-size page 0\n"),
+    (&[(0, 46, b"\0\0\0\x04")], ALL),
+    (&[(0, 46, b"\0\0\0\x07")], "3||broken 6 head-size page 0\n"),
+    (&[(0, 50, b"\0\0\0A")], "3||broken 7 head-limit page 0\n"),
     (
-        &[(0, 54, &[0, 0, 0, 0x01])],
-        "3||broken 5 head-flags page 0\n",
-    ),
-    (
-        &[(0, 54, &[0, 0, 0, 0x20])],
-        "3||broken 5 head-flags page 0\n",
-    ),
-    (&[(0, 54, &[0, 0, 0x04, 0x21])], ALL),
-    (
-        &[(0, 54, &[0, 0, 0x04, 0])],
-        "3||broken 5 head-flags page 0\n",
-    ),
-    (
-        &[(0, 54, &[0, 0, 0x08, 0x21])],
-        "3||broken 5 head-flags page 0\n",
-    ),
-    (
-        &[(0, 54, &[0, 0, 0x04, 0x20])],
-        "3||broken 5 head-flags page 0\n",
-    ),
-    (&[(0, 46, &[0, 0, 0, 0])], "3||broken 6 head-size page 0\n"),
-    (
-        &[(0, 46, &[0, 0, 0, 0x03])],
-        "3||broken 6 head-size page 0\n",
-    ),
-    (&[(0, 46, &[0, 0, 0, 0x04])], ALL),
-    (&[(0, 46, &[0, 0, 0, 0x05])], ALL),
-    (
-        &[(0, 46, &[0, 0, 0, 0x07])],
-        "3||broken 6 head-size page 0\n",
-    ),
-    (
-        &[(0, 46, &[0, 0, 0, 0x40])],
-        "3||broken 6 head-size page 0\n",
-    ),
-    (
-        &[(0, 46, &[0, 0x40, 0, 0])],
-        "3||broken 6 head-size page 0\n",
-    ),
-    (
-        &[(0, 46, &[0, 0x40, 0, 0x01])],
-        "3||broken 6 head-size page 0\n",
-    ),
-    (
-        &[(0, 46, &[0xFF, 0xFF, 0xFF, 0xFF])],
-        "3||broken 6 head-size page 0\n",
-    ),
-    (&[(0, 50, &[0, 0, 0, 0])], "3||broken 7 head-limit page 0\n"),
-    (
-        &[(0, 50, &[0, 0, 0, 0x3F])],
-        "3||broken 7 head-limit page 0\n",
-    ),
-    (
-        &[(0, 50, &[0, 0, 0, 0x41])],
-        "3||broken 7 head-limit page 0\n",
-    ),
-    (
-        &[(0, 50, &[0, 0, 0, 0x80])],
-        "3||broken 7 head-limit page 0\n",
-    ),
-    (
-        &[(0, 50, &[0xFF, 0xFF, 0xFF, 0xC0])],
-        "3||broken 7 head-limit page 0\n",
-    ),
-    (
-        &[(0, 4, &[0, 0, 0, 0x01])],
-        "3||broken 2 head-frame page 0\n",
-    ),
-    (
-        &[(0, 46, &[0, 0, 0, 0x03]), (0, 50, &[0, 0, 0, 0])],
+        &[(0, 46, b"\0\0\0\x03"), (0, 50, b"\0\0\0\0")],
         "3||broken 6 head-size page 0\n",
     ),
 ];
 
 /// Edits of the place of the root page.
 pub const ROOT: [Edit; 7] = [
-    (
-        &[(3, 24, &[0x45, 0xBE])],
-        "3||broken 27 root-place page 3\n",
-    ),
-    (&[(3, 24, &[0, 0])], "3||broken 27 root-place page 3\n"),
-    (&[(3, 4, &[0, 0, 0, 0x02])], "3||broken 25 frame page 3\n"),
-    (&[(3, 34, &[0, 0, 0, 0x18])], "3||broken 25 frame page 3\n"),
-    (&[(3, 64, &[0, 0x01])], "10||unbuilt\n"),
-    (&[(3, 64, &[0x01, 0])], "10||unbuilt\n"),
-    (&[(3, 64, &[0, 0x01]), (3, 38, &[0, 0])], "10||unbuilt\n"),
+    (&[(3, 24, b"E\xBE")], "3||broken 27 root-place page 3\n"),
+    (&[(3, 24, b"\0\0")], "3||broken 27 root-place page 3\n"),
+    (&[(3, 4, b"\0\0\0\x02")], "3||broken 25 frame page 3\n"),
+    (&[(3, 34, b"\0\0\0\x18")], "3||broken 25 frame page 3\n"),
+    (&[(3, 64, b"\0\x01")], "10||unbuilt\n"),
+    (&[(3, 64, b"\x01\0")], "10||unbuilt\n"),
+    (&[(3, 64, b"\0\x01"), (3, 38, b"\0\0")], "10||unbuilt\n"),
 ];
 
-/// Edits of the counts and the heap top of the root page.
-pub const PAGE_HEADER: [Edit; 20] = [
-    (&[(3, 38, &[0, 0])], "3||broken 33 page-header page 3\n"),
-    (&[(3, 38, &[0, 0x01])], "3||broken 33 page-header page 3\n"),
-    (&[(3, 38, &[0, 0x03])], ALL),
-    (
-        &[(3, 38, &[0x1F, 0xA0])],
-        "3||broken 33 page-header page 3\n",
-    ),
-    (&[(3, 40, &[0, 0x77])], "3||broken 33 page-header page 3\n"),
-    (&[(3, 40, &[0, 0x78])], "3||broken 35 record-chain page 3\n"),
-    (&[(3, 40, &[0, 0xB9])], "3||broken 41 record-room page 3\n"),
-    (&[(3, 40, &[0, 0xBB])], ALL),
-    (&[(3, 40, &[0x3F, 0xF4])], ALL),
-    (
-        &[(3, 40, &[0x3F, 0xF5])],
-        "3||broken 33 page-header page 3\n",
-    ),
-    (&[(3, 42, &[0, 0x05])], "3||broken 33 page-header page 3\n"),
-    (
-        &[(3, 42, &[0x80, 0x04])],
-        "3||broken 33 page-header page 3\n",
-    ),
-    (&[(3, 42, &[0x80, 0x06])], ALL),
-    (&[(3, 42, &[0xFF, 0xFF])], ALL),
-    (&[(3, 42, &[0x80, 0])], "3||broken 33 page-header page 3\n"),
-    (&[(3, 54, &[0, 0])], "3||broken 35 record-chain page 3\n"),
-    (&[(3, 54, &[0, 0x02])], "3||broken 35 record-chain page 3\n"),
-    (&[(3, 54, &[0, 0x04])], "3||broken 33 page-header page 3\n"),
-    (
-        &[(3, 54, &[0xFF, 0xFF])],
-        "3||broken 33 page-header page 3\n",
-    ),
-    (
-        &[(3, 54, &[0, 0x02]), (3, 42, &[0x80, 0x04])],
-        "3||broken 35 record-chain page 3\n",
-    ),
-];
-
-/// Edits of the infimum and the supremum.
-pub const PAGE_ENDS: [Edit; 9] = [
-    (&[(3, 99, &[0x49])], "3||broken 34 page-ends page 3\n"),
-    (&[(3, 106, &[0x01])], "3||broken 34 page-ends page 3\n"),
-    (&[(3, 112, &[0x53])], "3||broken 34 page-ends page 3\n"),
-    (&[(3, 119, &[0x4E])], "3||broken 34 page-ends page 3\n"),
-    (&[(3, 95, &[0, 0x0A])], "3||broken 34 page-ends page 3\n"),
-    (&[(3, 95, &[0, 0x03])], "3||broken 34 page-ends page 3\n"),
-    (&[(3, 108, &[0, 0x13])], "3||broken 34 page-ends page 3\n"),
-    (&[(3, 108, &[0, 0x0A])], "3||broken 34 page-ends page 3\n"),
-    (&[(3, 110, &[0, 0x01])], "3||broken 34 page-ends page 3\n"),
-];
-
-/// Edits of the record chain, and of the room of its records.
-pub const RECORD_CHAIN: [Edit; 26] = [
-    (&[(3, 97, &[0, 0])], "3||broken 35 record-chain page 3\n"),
-    (&[(3, 97, &[0, 0x0D])], "3||broken 35 record-chain page 3\n"),
-    (&[(3, 97, &[0, 0x1B])], "3||broken 35 record-chain page 3\n"),
-    (&[(3, 97, &[0, 0x19])], "3||broken 35 record-chain page 3\n"),
-    (
-        &[(3, 97, &[0xFF, 0xFF])],
-        "3||broken 35 record-chain page 3\n",
-    ),
-    (&[(3, 97, &[0x40, 0])], "3||broken 35 record-chain page 3\n"),
-    (&[(3, 123, &[0, 0])], "3||broken 35 record-chain page 3\n"),
-    (
-        &[(3, 123, &[0x40, 0])],
-        "3||broken 35 record-chain page 3\n",
-    ),
-    (
-        &[(3, 123, &[0xFF, 0xEA])],
-        "3||broken 35 record-chain page 3\n",
-    ),
-    (
-        &[(3, 123, &[0, 0x2C])],
-        "3||broken 35 record-chain page 3\n",
-    ),
-    (
-        &[(3, 123, &[0xFF, 0xF3])],
-        "3||broken 35 record-chain page 3\n",
-    ),
-    (
-        &[(3, 123, &[0x3F, 0xFF])],
-        "3||broken 35 record-chain page 3\n",
-    ),
-    (
-        &[(3, 145, &[0xFF, 0xEA])],
-        "3||broken 35 record-chain page 3\n",
-    ),
-    (&[(3, 145, &[0, 0])], "3||broken 35 record-chain page 3\n"),
-    (
-        &[(3, 145, &[0, 0x27])],
-        "3||broken 35 record-chain page 3\n",
-    ),
-    (&[(3, 145, &[0x40, 0x16])], ALL),
-    (
-        &[(3, 167, &[0xFF, 0xD4])],
-        "3||broken 35 record-chain page 3\n",
-    ),
-    (&[(3, 167, &[0, 0])], "3||broken 35 record-chain page 3\n"),
-    (&[(3, 167, &[0x3F, 0xC7])], ALL),
-    (
-        &[(3, 167, &[0xFF, 0xC6])],
-        "3||broken 35 record-chain page 3\n",
-    ),
-    (
-        &[(3, 167, &[0, 0x11])],
-        "3||broken 35 record-chain page 3\n",
-    ),
-    (&[(3, 167, &[0x7F, 0xC7])], ALL),
-    (
-        &[(3, 54, &[0, 0x02]), (3, 145, &[0xFF, 0xDD])],
-        "0|INSERT INTO `t` VALUES (-1);\nINSERT INTO `t` VALUES (0);\n|",
-    ),
+/// Edits of the root page, by the rules of an index page and of its minimum mark.
+pub const PAGE: [Edit; 21] = [
     (
         &[
-            (3, 167, &[0, 0x11]),
-            (3, 54, &[0, 0x04]),
-            (3, 42, &[0x80, 0x06]),
-            (3, 184, &[0xFF, 0xB6]),
+            (3, 44, b"\0\x93"),
+            (3, 54, b"\0\x02"),
+            (3, 107, b"\x03"),
+            (3, 123, b"\0,"),
+            (3, 145, b"\0\0"),
         ],
-        "3||broken 41 record-room page 3\n",
+        "0|INSERT INTO `t` VALUES (-1);\nINSERT INTO `t` VALUES (2147483647);\n|",
     ),
+    (&[(3, 38, b"\0\x01")], "3||broken 33 page-header page 3\n"),
+    (&[(3, 40, b"\0w")], "3||broken 33 page-header page 3\n"),
+    (&[(3, 99, b"I")], "3||broken 34 page-ends page 3\n"),
+    (&[(3, 95, b"\0\n")], "3||broken 34 page-ends page 3\n"),
     (
-        &[
-            (3, 167, &[0, 0x12]),
-            (3, 54, &[0, 0x04]),
-            (3, 42, &[0x80, 0x06]),
-            (3, 185, &[0xFF, 0xB5]),
-        ],
+        &[(3, 167, b"\xFF\xD4")],
         "3||broken 35 record-chain page 3\n",
     ),
+    (&[(3, 54, b"\0\x02")], "3||broken 35 record-chain page 3\n"),
+    (&[(3, 97, b"\0\0")], "3||broken 35 record-chain page 3\n"),
+    (&[(3, 165, b"\0\x18")], "3||broken 36 heap-numbers page 3\n"),
+    (&[(3, 42, b"\x80\x06")], "3||broken 37 free-list page 3\n"),
+    (&[(3, 44, b"\0\x93")], "3||broken 37 free-list page 3\n"),
+    (&[(3, 107, b"\x03")], "3||broken 38 directory page 3\n"),
+    (&[(3, 38, b"\0\x03")], "3||broken 38 directory page 3\n"),
+    (&[(3, 166, b"!")], "3||broken 39 record-kind page 3\n"),
+    (&[(3, 40, b"\0\xB9")], "3||broken 41 record-room page 3\n"),
     (
-        &[
-            (3, 97, &[0, 0x0D]),
-            (3, 54, &[0, 0]),
-            (3, 42, &[0x80, 0x02]),
-        ],
-        "0||",
+        &[(3, 169, b"\x80\0\0\0")],
+        "3||broken 43 key-order page 3\n",
+    ),
+    (&[(3, 120, b"\x10")], "3||broken 45 minimum-mark page 3\n"),
+    (&[(3, 164, b"0")], "3||broken 45 minimum-mark page 3\n"),
+    (
+        &[(3, 42, b"\x80\x06"), (3, 165, b"\0\x18")],
+        "3||broken 36 heap-numbers page 3\n",
+    ),
+    (
+        &[(3, 107, b"\x03"), (3, 166, b"!")],
+        "3||broken 38 directory page 3\n",
+    ),
+    (
+        &[(3, 169, b"\x80\0\0\0"), (3, 120, b"\x10")],
+        "3||broken 43 key-order page 3\n",
     ),
 ];
 
 /// Edits of the records, and of what is not looked at.
-pub const ROWS: [Edit; 13] = [
+pub const ROWS: [Edit; 11] = [
     (
-        &[(3, 120, &[0x20])],
+        &[(3, 120, b" ")],
         "0|INSERT INTO `t` VALUES (0);\nINSERT INTO `t` VALUES (2147483647);\n|",
     ),
     (
-        &[(3, 142, &[0x20])],
+        &[(3, 142, b" ")],
         "0|INSERT INTO `t` VALUES (-1);\nINSERT INTO `t` VALUES (2147483647);\n|",
     ),
     (
-        &[(3, 164, &[0x20])],
+        &[(3, 164, b" ")],
         "0|INSERT INTO `t` VALUES (-1);\nINSERT INTO `t` VALUES (0);\n|",
     ),
+    (&[(3, 120, b" "), (3, 142, b" "), (3, 164, b" ")], "0||"),
     (
-        &[(3, 120, &[0x20]), (3, 142, &[0x20]), (3, 164, &[0x20])],
-        "0||",
-    ),
-    (&[(3, 120, &[0x10])], ALL),
-    (&[(3, 142, &[0xDF])], ALL),
-    (&[(3, 166, &[0x21])], ALL),
-    (
-        &[(3, 125, &[0, 0, 0, 0])],
+        &[(3, 125, b"\0\0\0\0")],
         "0|INSERT INTO `t` VALUES (-2147483648);\nINSERT INTO `t` VALUES (0);\nINSERT INTO `t` VALUES (2147483647);\n|",
     ),
     (
-        &[(3, 147, &[0x80, 0, 0, 0x01])],
+        &[(3, 147, b"\x80\0\0\x01")],
         "0|INSERT INTO `t` VALUES (-1);\nINSERT INTO `t` VALUES (1);\nINSERT INTO `t` VALUES (2147483647);\n|",
-    ),
-    (
-        &[(3, 169, &[0x80, 0, 0, 0])],
-        "0|INSERT INTO `t` VALUES (-1);\nINSERT INTO `t` VALUES (0);\nINSERT INTO `t` VALUES (0);\n|",
     ),
     (
         &[(
             3,
             129,
-            &[
-                0xAA, 0xBB, 0xCC, 0xDD, 0xEE, 0xFF, 0x01, 0x02, 0x03, 0x04, 0x05, 0x06, 0x07,
-            ],
+            b"\xAA\xBB\xCC\xDD\xEE\xFF\x01\x02\x03\x04\x05\x06\x07",
         )],
         ALL,
     ),
-    (&[(1, 24, &[0, 0])], ALL),
-    (&[(2, 110, &[0])], ALL),
+    (&[(3, 167, b"?\xC7")], ALL),
+    (&[(3, 142, b"\xC0")], ALL),
+    (&[(1, 24, b"\0\0")], ALL),
+    (&[(2, 110, b"\0")], ALL),
+];
+
+/// Schema texts that decide the answer alone, and that answer.
+pub const SCHEMAS: [(&str, &str); 15] = [
+    ("", "2||schema line 1 end\n"),
+    (
+        "table t dynamic\ncolumn id int notnull\nclustered root 3 id",
+        "2||schema line 3 end\n",
+    ),
+    (
+        "table t dynamic\ncolumn id integer notnull\nclustered root 3 id\n",
+        "2||schema line 2 form\n",
+    ),
+    (
+        "table t dynamic\ncolumn id int notnull\nclustered root 2 id\n",
+        "2||schema line 3 number\n",
+    ),
+    (
+        "table t dynamic\ncolumn id! int notnull\nclustered root 3 id\n",
+        "2||schema line 2 name\n",
+    ),
+    (
+        "table t dynamic\ncolumn id int notnull\ncolumn id int notnull\nclustered root 3 id\n",
+        "2||schema line 3 twice\n",
+    ),
+    (
+        "table t dynamic\ncolumn id int notnull\nclustered root 3 k\n",
+        "2||schema line 3 unknown\n",
+    ),
+    (
+        "table t dynamic\ncolumn id int null\nclustered root 3 id\n",
+        "2||schema line 3 key\n",
+    ),
+    (
+        "table t dynamic\ncolumn id int notnull\nclustered root 3 id\nindex i root 3 id\n",
+        "2||schema line 4 root\n",
+    ),
+    (
+        "table t dynamic\ncolumn id int notnull\nclustered root 3 id\nindex i root 4 id\n",
+        "10||unbuilt\n",
+    ),
+    (
+        "table t dynamic\ncolumn id int notnull\nclustered root 3\n",
+        "10||unbuilt\n",
+    ),
+    (
+        "table t dynamic\ncolumn a varchar 16384 utf8mb4 notnull\nclustered root 3 a\n",
+        "2||schema line 2 number\n",
+    ),
+    (
+        "table t dynamic\ncolumn a datetime 7 notnull\nclustered root 3 a\n",
+        "2||schema line 2 number\n",
+    ),
+    (
+        "table t dynamic\ncolumn a text notnull\nclustered root 3 a\n",
+        "2||schema line 3 key\n",
+    ),
+    ("x\n", "2||schema line 1 form\n"),
 ];

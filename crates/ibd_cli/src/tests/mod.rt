@@ -3,11 +3,15 @@
 ghost use Rattle.std.specs.Prelude.{◌≡◌, ◌<◌};
 
 mod edits;
+mod tables;
+mod values;
 mod worked;
 
 use self::edits::{ALL, Edit};
+use self::tables::Table;
+use self::values::Value;
 use self::worked::{
-    FULL, LEAF_KINDS, ONE_INT, Piece, THREE_ROWS, TWO_LEVELS, Worked, full_page, root_page,
+    FULL, LEAF_KINDS, ONE_INT, THREE_ROWS, TWO_LEVELS, Worked, full_page, one_record, root_page,
     with_root,
 };
 use crate::{Status, Words, run};
@@ -189,61 +193,162 @@ fn dumps_the_worked_files(rt: HostRuntime) -> Result<(), Fail> {
     )
 }
 
+/// The schema of a table with a key and a column of this type.
+fn schema_with(alloc: Global, kind: &str) -> Result<ByteList, NoMemory> {
+    let mut text = copy(alloc, b"table t dynamic\ncolumn id int notnull\ncolumn v ")?;
+    text.extend(kind.as_bytes())?;
+    text.extend(b"\nclustered root 3 id\n")?;
+    Ok(text)
+}
+
+/// The answer where the row 1 with this value is printed.
+fn printed(alloc: Global, value: &str) -> Result<ByteList, NoMemory> {
+    let mut text = copy(alloc, b"0|INSERT INTO `t` VALUES (1,")?;
+    text.extend(value.as_bytes())?;
+    text.extend(b");\n|")?;
+    Ok(text)
+}
+
+/// What a dump of a file whose one record has this value answers.
+fn answer_of(rt: &impl Abort, alloc: Global, value: &Value) -> Result<ByteList, NoMemory> {
+    let file = one_record(rt, alloc, value.1, value.2)?;
+    let schema = schema_with(alloc, value.0)?;
+    let command = Command {
+        schema: schema.bytes(),
+        ..Command::dump(file.bytes())
+    };
+    command.answer(alloc)
+}
+
+fn expect_values(rt: &impl Abort, alloc: Global, values: &[Value]) -> Result<(), Fail> {
+    for value in values {
+        let found = answer_of(rt, alloc, value)?;
+        let want = printed(alloc, value.3)?;
+        assert_eq!(rt; found.bytes(), want.bytes(), "{value:?}");
+    }
+    Ok(())
+}
+
+fn expect_broken(rt: &impl Abort, alloc: Global, values: &[Value]) -> Result<(), Fail> {
+    for value in values {
+        let found = answer_of(rt, alloc, value)?;
+        assert_eq!(rt; found.bytes(), value.3.as_bytes(), "{value:?}");
+    }
+    Ok(())
+}
+
 #[test]
-fn dumps_other_integers(rt: HostRuntime) -> Result<(), Fail> {
-    let tables: [(&str, &[Piece], &str); 3] = [
-        (
-            "table t dynamic\ncolumn id bigint notnull\nclustered root 3 id\n",
-            &[
-                (3, 41, &[146, 0x80, 3]),
-                (3, 55, &[1]),
-                (3, 98, &[26]),
-                (3, 107, &[2]),
-                (3, 120, &[0, 0, 0x10, 0xFF, 0xF3]),
-            ],
-            "0|INSERT INTO `t` VALUES (-9223372036854775808);\n|",
-        ),
-        (
-            "table t dynamic\ncolumn id mediumint notnull\ncolumn n smallint unsigned notnull\nclustered root 3 id\n",
-            &[
-                (3, 41, &[166, 0x80, 4]),
-                (3, 55, &[2]),
-                (3, 98, &[26]),
-                (3, 107, &[3]),
-                (3, 120, &[0, 0, 0x10, 0, 23]),
-                (
-                    3,
-                    141,
-                    &[0xFF, 0xFF, 0, 0, 0x18, 0xFF, 0xDC, 0xFF, 0xFF, 0xFF],
-                ),
-                (3, 164, &[1, 2]),
-            ],
-            "0|INSERT INTO `t` VALUES (-8388608,65535);\nINSERT INTO `t` VALUES (8388607,258);\n|",
-        ),
-        // The key column is the second one, so its bytes come first.
-        (
-            "table orders dynamic\ncolumn a tinyint unsigned notnull\ncolumn id int notnull\ncolumn b smallint notnull\nclustered root 3 id\n",
-            &[
-                (3, 41, &[145, 0x80, 3]),
-                (3, 55, &[1]),
-                (3, 98, &[26]),
-                (3, 107, &[2]),
-                (3, 120, &[0, 0, 0x10, 0xFF, 0xF3, 0x80, 0, 0, 1]),
-                (3, 129, &[0xEE; 13]),
-                (3, 142, &[7, 0x7F, 0xFE]),
-            ],
-            "0|INSERT INTO `orders` VALUES (7,1,-2);\n|",
-        ),
-    ];
+fn dumps_integers(rt: HostRuntime) -> Result<(), Fail> {
+    expect_values(&rt, rt.alloc(), &values::INTEGERS)
+}
+
+#[test]
+fn dumps_moments(rt: HostRuntime) -> Result<(), Fail> {
+    expect_values(&rt, rt.alloc(), &values::MOMENTS)?;
+    expect_broken(&rt, rt.alloc(), &values::MOMENTS_BROKEN)
+}
+
+#[test]
+fn dumps_decimals(rt: HostRuntime) -> Result<(), Fail> {
+    expect_values(&rt, rt.alloc(), &values::DECIMALS)?;
+    expect_broken(&rt, rt.alloc(), &values::DECIMALS_BROKEN)
+}
+
+#[test]
+fn dumps_bytes(rt: HostRuntime) -> Result<(), Fail> {
+    expect_values(&rt, rt.alloc(), &values::BYTES)?;
+    expect_values(&rt, rt.alloc(), &values::ALL_BYTES)?;
+    expect_broken(&rt, rt.alloc(), &values::BYTES_BROKEN)
+}
+
+#[test]
+fn dumps_texts(rt: HostRuntime) -> Result<(), Fail> {
+    expect_values(&rt, rt.alloc(), &values::TEXTS)?;
+    expect_broken(&rt, rt.alloc(), &values::TEXTS_BROKEN)
+}
+
+#[test]
+fn reads_lengths(rt: HostRuntime) -> Result<(), Fail> {
+    expect_values(&rt, rt.alloc(), &values::LENGTHS)?;
+    expect_broken(&rt, rt.alloc(), &values::LENGTHS_BROKEN)
+}
+
+/// Fails the test where a dump of one of these tables answers something else.
+fn expect_tables(rt: &impl Abort, alloc: Global, tables: &[Table]) -> Result<(), Fail> {
     for (schema, rows, want) in tables {
-        let file = Worked::of(rows).bytes(&rt, rt.alloc())?;
+        let file = Worked::of(rows).bytes(rt, alloc)?;
         let command = Command {
             schema: schema.as_bytes(),
             ..Command::dump(file.bytes())
         };
-        expect(&rt, rt.alloc(), command, want)?;
+        expect(rt, alloc, command, want)?;
     }
     Ok(())
+}
+
+#[test]
+fn prints_columns_in_table_order(rt: HostRuntime) -> Result<(), Fail> {
+    expect_tables(&rt, rt.alloc(), &tables::ORDERS)
+}
+
+#[test]
+fn reads_keys_in_order(rt: HostRuntime) -> Result<(), Fail> {
+    expect_tables(&rt, rt.alloc(), &tables::KEYS)
+}
+
+#[test]
+fn looks_at_no_deleted_value(rt: HostRuntime) -> Result<(), Fail> {
+    expect_tables(&rt, rt.alloc(), &tables::DELETED)
+}
+
+/// The schema of a table of so many columns: the key, and then small numbers.
+fn wide_schema(alloc: Global, columns: u8) -> Result<ByteList, NoMemory> {
+    let mut text = copy(alloc, b"table t dynamic\ncolumn id int notnull\n")?;
+    for i in 1..columns {
+        text.extend(b"column c")?;
+        text.extend(Buffer::new().format(i).as_bytes())?;
+        text.extend(b" tinyint notnull\n")?;
+    }
+    text.extend(b"clustered root 3 id\n")?;
+    Ok(text)
+}
+
+/// The bytes of the small numbers 1 to 63, and the answer that prints them behind the key.
+fn wide_row(alloc: Global) -> Result<(ByteList, ByteList), NoMemory> {
+    let mut bytes = ByteList::new(alloc);
+    let mut want = copy(alloc, b"0|INSERT INTO `t` VALUES (1")?;
+    for i in 1..64u8 {
+        bytes.push(0x80 + i)?;
+        want.extend(b",")?;
+        want.extend(Buffer::new().format(i).as_bytes())?;
+    }
+    want.extend(b");\n|")?;
+    Ok((bytes, want))
+}
+
+#[test]
+fn dumps_64_columns(rt: HostRuntime) -> Result<(), Fail> {
+    let (bytes, want) = wide_row(rt.alloc())?;
+    let file = one_record(&rt, rt.alloc(), b"", bytes.bytes())?;
+    let schema = wide_schema(rt.alloc(), 64)?;
+    let command = Command {
+        schema: schema.bytes(),
+        ..Command::dump(file.bytes())
+    };
+    let found = command.answer(rt.alloc())?;
+    assert_eq!(rt; found.bytes(), want.bytes());
+    Ok(())
+}
+
+#[test]
+fn refuses_65_columns(rt: HostRuntime) -> Result<(), Fail> {
+    let schema = wide_schema(rt.alloc(), 65)?;
+    let command = Command {
+        schema: schema.bytes(),
+        file_fails: &[1],
+        ..Command::dump(b"")
+    };
+    expect(&rt, rt.alloc(), command, "2||schema line 66 count\n")
 }
 
 #[test]
@@ -297,18 +402,8 @@ fn checks_the_place_of_the_root(rt: HostRuntime) -> Result<(), Fail> {
 }
 
 #[test]
-fn checks_the_page_header(rt: HostRuntime) -> Result<(), Fail> {
-    expect_edits(&rt, rt.alloc(), &edits::PAGE_HEADER)
-}
-
-#[test]
-fn checks_the_page_ends(rt: HostRuntime) -> Result<(), Fail> {
-    expect_edits(&rt, rt.alloc(), &edits::PAGE_ENDS)
-}
-
-#[test]
-fn checks_the_record_chain(rt: HostRuntime) -> Result<(), Fail> {
-    expect_edits(&rt, rt.alloc(), &edits::RECORD_CHAIN)
+fn checks_the_page(rt: HostRuntime) -> Result<(), Fail> {
+    expect_edits(&rt, rt.alloc(), &edits::PAGE)
 }
 
 #[test]
@@ -434,26 +529,29 @@ fn serves_no_other_words(rt: HostRuntime) -> Result<(), Fail> {
     Ok(())
 }
 
+/// The file's first call fails, so that none may be made.
 #[test]
-fn serves_no_other_schema(rt: HostRuntime) -> Result<(), Fail> {
-    let file = Worked::of(&THREE_ROWS).bytes(&rt, rt.alloc())?;
-    let long = Vec::from_elem(rt.alloc(), b'x', 70_000)?;
-    let schemas: [&[u8]; 5] = [
-        b"",
-        b"table t dynamic\ncolumn id int notnull\nclustered root 3 id",
-        b"table t compact\ncolumn id int notnull\nclustered root 3 id\n",
-        b"table t dynamic\ncolumn id int null\nclustered root 3 id\n",
-        &long,
-    ];
-    for schema in schemas {
+fn reads_the_schema_first(rt: HostRuntime) -> Result<(), Fail> {
+    for (schema, want) in edits::SCHEMAS {
         let command = Command {
-            schema,
+            schema: schema.as_bytes(),
             file_fails: &[1],
-            ..Command::dump(file.bytes())
+            ..Command::dump(b"")
         };
-        expect(&rt, rt.alloc(), command, "10||unbuilt\n")?;
+        expect(&rt, rt.alloc(), command, want)?;
     }
     Ok(())
+}
+
+#[test]
+fn refuses_a_long_schema(rt: HostRuntime) -> Result<(), Fail> {
+    let long = Vec::from_elem(rt.alloc(), b'x', 70_000)?;
+    let command = Command {
+        schema: &long,
+        file_fails: &[1],
+        ..Command::dump(b"")
+    };
+    expect(&rt, rt.alloc(), command, "2||schema line 1 size\n")
 }
 
 #[test]

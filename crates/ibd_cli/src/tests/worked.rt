@@ -1,6 +1,6 @@
 //! The worked files: six pages of the tablespace 23, piece by piece.
 
-ghost use Rattle.std.specs.Prelude.{◌<◌};
+ghost use Rattle.std.specs.Prelude.{◌≡◌, ◌+◌, ◌*◌, ◌<◌};
 
 use fil_frame::{page_sum, seal};
 use page_source::{ByteList, NoMemory, PAGE_SIZE, Page, write_be};
@@ -203,29 +203,74 @@ pub fn with_root(alloc: Global, file: &[u8], root: &Page) -> Result<ByteList, No
     Ok(whole)
 }
 
-/// So many records of 22 bytes fill a page with two directory slots.
-pub const FULL: u16 = 738;
+/// The file with one record on its root page, whose key is 1: the null bits and lengths from the lower address on,
+/// and the column behind the key and the hidden fields.
+pub fn one_record(
+    rt: &impl Abort,
+    alloc: Global,
+    front: &[u8],
+    column: &[u8],
+) -> Result<ByteList, NoMemory> {
+    let file = Worked::of(&[]).bytes(rt, alloc)?;
+    let mut page = root_page(rt, alloc, file.bytes())?;
+    assert!(rt; front.len() <= 100 && column.len() <= 1000);
+    let origin = 125 + front.len();
+    let top = origin + 17 + column.len();
+    write_be::<2>(&mut page, 40, top as u64);
+    write_be::<2>(&mut page, 42, 0x8003);
+    write_be::<2>(&mut page, 54, 1);
+    write_be::<2>(&mut page, 97, origin as u64 - 99);
+    page.put_bytes(107, &[2]);
+    page.put_bytes(120, front);
+    write_be::<2>(&mut page, origin - 4, 16);
+    write_be::<2>(&mut page, origin - 2, 65536 + 112 - origin as u64);
+    write_be::<4>(&mut page, origin, 0x8000_0001);
+    page.put_bytes(origin + 17, column);
+    put_checksums(&mut page);
+    with_root(alloc, file.bytes(), &page)
+}
+
+/// So many records of 22 bytes fill a page with the slots that they need.
+pub const FULL: u16 = 730;
+
+/// The records that a slot owns.
+const GROUP: u16 = 8;
 
 /// A file whose root has as many records as fit, with the keys 1, 2 and so on.
 pub fn full_page(rt: &impl Abort, alloc: Global) -> Result<ByteList, NoMemory> {
     let file = Worked::of(&[]).bytes(rt, alloc)?;
     let mut page = root_page(rt, alloc, file.bytes())?;
+    let groups = FULL / GROUP;
+    write_be::<2>(&mut page, 38, 2 + u64::from(groups));
     write_be::<2>(&mut page, 40, 120 + 22 * u64::from(FULL));
     write_be::<2>(&mut page, 42, 0x8002 + u64::from(FULL));
     write_be::<2>(&mut page, 54, u64::from(FULL));
     write_be::<2>(&mut page, 97, 26);
+    page.put_bytes(107, &[(FULL % GROUP) as u8 + 1]);
     for i in 0..FULL {
         put_record(&mut page, i);
     }
+    for group in 0..groups {
+        put_slot(&mut page, group);
+    }
+    write_be::<2>(&mut page, 16372 - 2 * usize::from(groups), 112);
     put_checksums(&mut page);
     with_root(alloc, file.bytes(), &page)
 }
 
+/// Where record `i` of a full page begins.
+fn place_of(i: u16) -> usize
+    requires { i < 730 }
+    ensures { result ≡ 120 + 22 * i }
+{
+    120 + 22 * usize::from(i)
+}
+
 /// Record `i` of a full page; the last one leads to the supremum.
 fn put_record(page: &mut Page, i: u16)
-    requires { i < 738 }
+    requires { i < 730 }
 {
-    let at = 120 + 22 * usize::from(i);
+    let at = place_of(i);
     let next = if i + 1 < FULL {
         22
     } else {
@@ -234,4 +279,13 @@ fn put_record(page: &mut Page, i: u16)
     write_be::<2>(page, at + 1, (u64::from(i) + 2) * 8);
     write_be::<2>(page, at + 3, next);
     write_be::<4>(page, at + 5, 0x8000_0001 + u64::from(i));
+}
+
+/// The slot of a group, which its last record owns.
+fn put_slot(page: &mut Page, group: u16)
+    requires { group < 91 }
+{
+    let at = place_of(8 * group + 7);
+    page.put_bytes(at, &[8]);
+    write_be::<2>(page, 16372 - 2 * usize::from(group), at as u64 + 5);
 }

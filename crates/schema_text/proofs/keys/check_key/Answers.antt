@@ -8,7 +8,7 @@ use Rattle.schema_text.proofs.CheckLemmas.{key_number, key_count, key_twice, key
 use Rattle.schema_text.proofs.keys.check_key.Goals as goal
 
 pub returns-in_default : goal.returns-in_default
-returns-in_default c = key_number _ _ (λ h. none-some _ (c.in_default.ensures.only h.0 h.2 h.1))
+returns-in_default c = key_number _ _ (λ h. none-some _ (c.in_default.ensures.only h.0 (h.2, h.1)))
 
 pub returns-then-not-has_counts : goal.returns-then-not-has_counts
 returns-then-not-has_counts c =

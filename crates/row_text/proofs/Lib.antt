@@ -1,0 +1,7 @@
+mod Chars
+mod Dates
+mod Escapes
+mod Hex
+mod Numbers
+mod Lines
+mod LongValues

@@ -1,0 +1,6 @@
+pub mod Digits
+pub mod Calendar
+pub mod Values
+pub mod Line
+pub mod Writer
+pub mod Laws
