@@ -4,3 +4,4 @@ pub mod Uses
 pub mod Readers
 pub mod Stages
 pub mod Sound
+pub mod Writing

@@ -1,10 +1,12 @@
 //! The descriptor of an extent of 64 pages (xdes_t, fsp0fsp). It takes 40 bytes.
 
-ghost use Rattle.std.specs.Prelude.{◌≡◌, ◌+◌, ◌≤◌};
+ghost use Rattle.std.specs.Prelude.{◌≡◌, ◌+◌, ◌<◌, ◌≤◌};
+ghost use Rattle.page_source.specs.Pages.{with_bytes};
 ghost use Rattle.extent_map.specs.Extents.{extent_at, used_mask};
+ghost use Rattle.extent_map.specs.Writing.{bitmap_byte, bitmap_bytes, extent_bytes};
 
-use page_source::{Page, read_be};
-use space_header::{Node, read_node};
+use page_source::{PAGE_SIZE, Page, read_be, write_be};
+use space_header::{Node, read_node, write_node};
 
 // The places of the fields, with their names in fsp0fsp.h.
 
@@ -58,4 +60,38 @@ fn read_used(page: &Page, at: usize) -> u64
         }
     }
     used
+}
+
+/// Makes this the descriptor at byte `at`. The second bits of its pages are made 1.
+pub fn write_extent(page: &mut Page, at: usize, extent: &Extent)
+    requires { at + 40 ≤ 16384 }
+    ensures exact { page.new ≡ with_bytes page.old at (extent_bytes extent.now) }
+    ensures read { extent_at page.new at ≡ extent.now }
+{
+    prove!(page.bytes().len() == PAGE_SIZE);
+    write_be::<8>(page, at, extent.id);
+    write_node(page, at + NODE, &extent.node);
+    write_be::<4>(page, at + STATE, u64::from(extent.state));
+    page.put_bytes(at + BITMAP, &bitmap(extent.used));
+}
+
+/// The bitmap of these used pages.
+fn bitmap(used: u64) -> [u8; 16]
+    ensures { result ≡ bitmap_bytes used }
+{
+    let mut bytes = [0; 16];
+    for i in 0..16usize {
+        bytes[i] = four_pages(used, i);
+    }
+    bytes
+}
+
+/// Byte `i` of the bitmap, which is for four pages.
+fn four_pages(used: u64, i: usize) -> u8
+    requires { i < 16 }
+    ensures { result ≡ bitmap_byte used i }
+{
+    let four = (used >> (4 * i)) % 16;
+    let set = four % 2 + four / 2 % 2 * 4 + four / 4 % 2 * 16 + four / 8 * 64;
+    (255 - set) as u8
 }

@@ -11,7 +11,7 @@ mod head;
 mod tests;
 
 pub use descriptors::read_extents;
-pub use extent::{Extent, read_extent};
+pub use extent::{Extent, read_extent, write_extent};
 pub use extents::Extents;
 pub use flags::FlagList;
 pub use head::check_head;

@@ -2,12 +2,11 @@
 
 ghost use Rattle.std.specs.Prelude.{◌≡◌, ◌<◌, ◌≤◌, length};
 
-use crate::{Extents, check_head, read_extents};
+use crate::{Extent, Extents, check_head, read_extent, read_extents, write_extent};
 use fil_frame::seal;
-use page_source::{Fails, NoMemory, Page, PageMap, Rule, SparsePages, Steps, Stop, write_be};
+use page_source::{Fails, NoMemory, Page, PageMap, Rule, SparsePages, Steps, Stop};
 use space_header::{
     Address, Base, ExtentList, FollowError, Node, SpaceHeader, descriptor_address, follow,
-    write_node,
 };
 use std::alloc::Global;
 use std::marker::Brand;
@@ -17,6 +16,11 @@ use std::test::Fail;
 const NULL: Address = Address {
     page: 0xFFFF_FFFF,
     offset: 0,
+};
+
+const ALONE: Node = Node {
+    prev: NULL,
+    next: NULL,
 };
 
 const EMPTY: Base = Base {
@@ -42,27 +46,24 @@ fn header(size: u32, limit: u32) -> SpaceHeader {
     }
 }
 
-/// Writes the descriptor at place `i` of its page: its node, its state and the first byte of its
-/// bitmap, whose other pages are free.
-fn put_descriptor(page: &mut Page, i: usize, node: &Node, state: u32, first: u8)
+/// Writes the descriptor at place `i` of its page.
+fn put_descriptor(page: &mut Page, i: usize, node: Node, state: u32, used: u64)
     requires { i < 256 }
 {
-    let at = 150 + 40 * i;
-    write_node(page, at + 8, node);
-    write_be::<4>(page, at + 20, u64::from(state));
-    page.put_bytes(at + 24, &[0xFF; 16]);
-    page.put_bytes(at + 24, &[first]);
+    let extent = Extent {
+        id: 0,
+        node,
+        state,
+        used,
+    };
+    write_extent(page, 150 + 40 * i, &extent);
 }
 
 /// Page 0, whose first four pages are used.
 fn first_page(alloc: Global, size: u32, limit: u32) -> Result<Page, NoMemory> {
     let mut page = Page::zeroed(alloc)?;
     header(size, limit).write(&mut page);
-    let alone = Node {
-        prev: NULL,
-        next: NULL,
-    };
-    put_descriptor(&mut page, 0, &alone, 2, 0xAA);
+    put_descriptor(&mut page, 0, ALONE, 2, 0xF);
     Ok(page)
 }
 
@@ -78,12 +79,22 @@ fn read<L: Ledger>(alloc: Global, file: &mut SparsePages, blank: Blank) -> Resul
     read_extents(alloc, file, &header, &mut steps)
 }
 
-/// A file of so many pages with this page 0, sealed.
-fn file_of(alloc: Global, pages: u32, mut page: Page) -> Result<SparsePages, NoMemory> {
-    seal(&mut page, 0, 23, 1, 8);
+/// A file of so many pages, of which this is page 0 and the others are zeros.
+fn file_from(
+    alloc: Global,
+    pages: u32,
+    page: Page,
+    fails: &[u64],
+) -> Result<SparsePages, NoMemory> {
     let mut held = PageMap::new(alloc);
     held.put(0, page)?;
-    Ok(SparsePages::new(pages, held, Fails::of(alloc, &[])?))
+    Ok(SparsePages::new(pages, held, Fails::of(alloc, fails)?))
+}
+
+/// The same, with the page sealed.
+fn file_of(alloc: Global, pages: u32, mut page: Page) -> Result<SparsePages, NoMemory> {
+    seal(&mut page, 0, 23, 1, 8);
+    file_from(alloc, pages, page, &[])
 }
 
 #[test]
@@ -131,8 +142,87 @@ fn names_the_first_broken_rule(rt: HostRuntime) -> Result<(), Fail> {
     Ok(())
 }
 
+/// Page 0 of six, which some byte, its type or the number of pages makes no head.
+#[test]
+fn names_the_first_broken_rule_of_the_frame(rt: HostRuntime) -> Result<(), Fail> {
+    let alloc = rt.alloc();
+    for (pages, kind, byte, rule) in [
+        (3, 8, 0, Rule::FileSize),
+        (3, 9, 1, Rule::FileSize),
+        (5, 8, 0, Rule::HeadSize),
+        (6, 9, 0, Rule::HeadType),
+        (6, 8, 1, Rule::HeadFrame),
+        (6, 9, 1, Rule::HeadFrame),
+    ] {
+        let mut page = first_page(alloc, 6, 64)?;
+        seal(&mut page, 0, 23, 1, kind);
+        if byte != 0 {
+            page.put_bytes(16375, &[byte]);
+        }
+        let mut file = file_from(alloc, pages, page, &[])?;
+        let answer = read::<Brand>(alloc, &mut file, Blank::new(1));
+        let wanted = Stop::Broken(rule.at(0));
+        assert!(rt;
+            matches!(answer, Err(stop) if stop == wanted),
+            "{pages} pages of type {kind}"
+        );
+    }
+    Ok(())
+}
+
+#[test]
+fn reads_a_free_extent(rt: HostRuntime) -> Result<(), Fail> {
+    let alloc = rt.alloc();
+    let mut page = first_page(alloc, 128, 128)?;
+    put_descriptor(&mut page, 1, ALONE, 1, 0);
+    let mut file = file_of(alloc, 128, page)?;
+    let extents = read::<Brand>(alloc, &mut file, Blank::new(1))?;
+    assert_eq!(rt; extents.count(), 2);
+    assert_eq!(rt; extents.extent(1).state, 1);
+    assert_eq!(rt; extents.nodes(), [ALONE, ALONE].as_slice());
+    Ok(())
+}
+
+/// The calls are those for the number of pages, for page 0 twice, and for page 16384.
+#[test]
+fn says_which_call_of_the_source_failed(rt: HostRuntime) -> Result<(), Fail> {
+    let alloc = rt.alloc();
+    for call in 1..6u64 {
+        let mut file = large(alloc, 9, 23, &[call])?;
+        let answer = read::<Brand>(alloc, &mut file, Blank::new(1));
+        let failed = matches!(answer, Err(Stop::Source));
+        assert_eq!(rt; failed, call < 5, "call {call}");
+    }
+    Ok(())
+}
+
+#[test]
+fn writes_what_it_reads(rt: HostRuntime) -> Result<(), Fail> {
+    let mut page = Page::zeroed(rt.alloc())?;
+    let extent = Extent {
+        id: 0x0102_0304_0506_0708,
+        node: Node {
+            prev: descriptor_address(0),
+            next: NULL,
+        },
+        state: 4,
+        used: 0x8000_0000_0000_000F,
+    };
+    write_extent(&mut page, 16344, &extent);
+    assert_eq!(rt; read_extent(&page, 16344), extent);
+    assert_eq!(rt;
+        &page.bytes()[16344..],
+        [
+            1, 2, 3, 4, 5, 6, 7, 8, 0, 0, 0, 0, 0, 158, 255, 255, 255, 255, 0, 0, 0, 0, 0, 4, 0xAA,
+            255, 255, 255, 255, 255, 255, 255, 255, 255, 255, 255, 255, 255, 255, 0xBF
+        ]
+        .as_slice()
+    );
+    Ok(())
+}
+
 /// A tablespace of 16,448 pages: page 0, and page 16384 of a type with a descriptor of its own.
-fn large(alloc: Global, kind: u16, space: u32) -> Result<SparsePages, NoMemory> {
+fn large(alloc: Global, kind: u16, space: u32, fails: &[u64]) -> Result<SparsePages, NoMemory> {
     let mut page = first_page(alloc, 16448, 16448)?;
     for i in 1..256usize {
         let node = Node {
@@ -147,20 +237,16 @@ fn large(alloc: Global, kind: u16, space: u32) -> Result<SparsePages, NoMemory> 
                 descriptor_address(i as u32 + 1)
             },
         };
-        put_descriptor(&mut page, i, &node, 1, 0xFF);
+        put_descriptor(&mut page, i, node, 1, 0);
     }
     seal(&mut page, 0, 23, 1, 8);
     let mut second = Page::zeroed(alloc)?;
-    let alone = Node {
-        prev: NULL,
-        next: NULL,
-    };
-    put_descriptor(&mut second, 0, &alone, 2, 0xFA);
+    put_descriptor(&mut second, 0, ALONE, 2, 3);
     seal(&mut second, 16384, space, 1, kind);
     let mut held = PageMap::new(alloc);
     held.put(0, page)?;
     held.put(16384, second)?;
-    Ok(SparsePages::new(16448, held, Fails::of(alloc, &[])?))
+    Ok(SparsePages::new(16448, held, Fails::of(alloc, fails)?))
 }
 
 fn followed<L: Ledger>(
@@ -181,7 +267,7 @@ fn followed<L: Ledger>(
 #[test]
 fn reads_two_descriptor_pages(rt: HostRuntime) -> Result<(), Fail> {
     let alloc = rt.alloc();
-    let mut file = large(alloc, 9, 23)?;
+    let mut file = large(alloc, 9, 23, &[])?;
     let extents = read::<Brand>(alloc, &mut file, Blank::new(1))?;
     assert_eq!(rt; extents.count(), 257);
     assert_eq!(rt; extents.extent(256).state, 2);
@@ -209,7 +295,7 @@ fn reads_two_descriptor_pages(rt: HostRuntime) -> Result<(), Fail> {
 fn checks_later_descriptor_pages(rt: HostRuntime) -> Result<(), Fail> {
     let alloc = rt.alloc();
     for (kind, space, rule) in [(9, 24, Rule::XdesFrame), (5, 23, Rule::XdesType)] {
-        let mut file = large(alloc, kind, space)?;
+        let mut file = large(alloc, kind, space, &[])?;
         let answer = read::<Brand>(alloc, &mut file, Blank::new(1));
         let wanted = Stop::Broken(rule.at(16384));
         assert!(rt;

@@ -1,0 +1,9 @@
+pub mod Writing
+pub mod Used
+pub mod Checked
+pub mod Alongs
+pub mod Kept
+pub mod Ids
+pub mod Steps
+pub mod Sound
+pub mod Both

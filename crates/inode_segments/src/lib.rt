@@ -1,0 +1,15 @@
+//! The inodes of a tablespace, one for each segment.
+#![tactic(auto)]
+
+mod inode;
+mod inodes;
+pub mod laws;
+mod read;
+mod segments;
+#[cfg(test)]
+mod tests;
+mod walk;
+
+pub use inode::{Inode, read_inode, write_inode};
+pub use inodes::Inodes;
+pub use read::read_inodes;
