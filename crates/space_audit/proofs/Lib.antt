@@ -1,0 +1,17 @@
+pub mod AtHome
+pub mod Claims
+pub mod OwnerFacts
+pub mod Sound
+pub mod HomeNumbers
+pub mod ListSteps
+pub mod Held
+pub mod HeldOwners
+pub mod ReadExtents
+pub mod ClaimSteps
+pub mod Addresses
+pub mod HomeSums
+pub mod Marking
+pub mod Audited
+pub mod FindOwner
+pub mod PageFrames
+pub mod AuditStages

@@ -1,0 +1,9 @@
+pub mod Lists
+pub mod Owners
+pub mod Audit
+pub mod Space
+pub mod Marks
+pub mod Laws
+pub mod Holders
+pub mod Numbering
+pub mod Read
