@@ -1,0 +1,7 @@
+mod References
+mod Rests
+mod Alongs
+mod Feeds
+mod Stages
+mod Links
+mod Whole

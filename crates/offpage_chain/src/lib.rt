@@ -1,0 +1,14 @@
+//! Values that are too long for their record and go on in pages of their own.
+#![tactic(auto)]
+
+mod check;
+pub mod laws;
+mod part;
+mod reader;
+mod reference;
+#[cfg(test)]
+mod tests;
+
+pub use check::check_chain;
+pub use reader::ChainReader;
+pub use reference::{Reference, read_reference, write_reference};
