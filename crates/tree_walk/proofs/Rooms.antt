@@ -1,0 +1,34 @@
+-- the room stays
+use Rattle.std.proofs.Common.{◌∙◌, ℕ, length, refl}
+use Rattle.column_values.specs.Types.{Fields}
+use Rattle.tree_walk.specs.declared.walk.Walk.{Walk}
+use Rattle.tree_walk.specs.Room.{HasRoom, HasSameRoom, CanWalk}
+
+pub same_room : (walk : Walk) → HasSameRoom walk walk
+same_room walk = record { scratch = refl; low = refl; high = refl; first = refl; last = refl }
+
+pub room_join : (a b c : Walk) → HasSameRoom a b → HasSameRoom b c → HasSameRoom a c
+room_join a b c x y = record {
+  scratch = y.scratch ∙ x.scratch;
+  low = y.low ∙ x.low;
+  high = y.high ∙ x.high;
+  first = y.first ∙ x.first;
+  last = y.last ∙ x.last;
+}
+
+pub has_room : (old new : Walk) (n : ℕ) → HasSameRoom old new → HasRoom old n → HasRoom new n
+has_room old new n s r = record {
+  scratch = rw s.scratch r.scratch;
+  low = rw s.low r.low;
+  high = rw s.high r.high;
+  first = rw s.first r.first;
+  last = rw s.last r.last;
+}
+
+pub can_walk : (old new : Walk) (leaf node : Fields) → HasSameRoom old new → CanWalk old leaf node → CanWalk new
+    leaf node
+can_walk old new leaf node s c = record {
+  lists = c.lists;
+  leaf_room = has_room old new (length leaf.fields) s c.leaf_room;
+  node_room = has_room old new (length node.fields) s c.node_room;
+}

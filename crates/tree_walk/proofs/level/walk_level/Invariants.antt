@@ -1,0 +1,26 @@
+use Rattle.std.proofs.Common.{◌≡◌, ◌+◌, ◌*◌, ◌≤◌, length, IfSome}
+use Rattle.page_source.specs.Lists.{unmarked}
+use Rattle.tree_walk.specs.Index.{index_of}
+use Rattle.tree_walk.specs.Room.{HasSameRoom}
+use Rattle.tree_walk.specs.Walk.{LevelState}
+use Rattle.tree_walk.proofs.level.walk_level.Given as goal
+
+abbrev pub invariant-places : goal.invariant-places
+invariant-places g l =
+    let content = g.S.PageSource.content in
+    record {
+      same : content l.source ≡ content l.fn.source;
+      members : length l.marks ≡ length l.fn.marks;
+      later : g.S.PageSource.faults l.fn.source ≤ g.S.PageSource.faults l.source;
+      spent : l.steps + 2 * unmarked l.marks + l.place.j + l.place.cursor.more ≤ l.fn.steps + 2 * unmarked
+          l.fn.marks + l.fn.upper.pages;
+      told : IfSome (content l.fn.source) (λ file. LevelState (index_of file l.aim.root l.leaf l.node) l.aim
+          l.fn.marks l.marks l.place l.walk.parent l.tally);
+      room : HasSameRoom l.fn.walk l.walk;
+      few : l.place.j + unmarked l.marks ≤ length l.marks;
+      live : l.tally.live ≤ 65536 * l.place.j;
+      deleted : l.tally.deleted ≤ 65536 * l.place.j;
+    }
+
+abbrev pub decreases-places : goal.decreases-places
+decreases-places g l = unmarked l.marks

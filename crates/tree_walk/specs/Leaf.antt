@@ -1,0 +1,112 @@
+-- A cursor over the rows of a tree, leaf by leaf (btr0cur).
+use Rattle.std.specs.Prelude.{◌≡◌, ◌≢◌, ℕ, ◌+◌, ◌<◌, ◌≤◌, ◌⊎◌, ⊤, Bool, true, false, List, ◌∷◌, length, take}
+use Rattle.std.specs.Prelude.{slice_index_or}
+use Rattle.std.specs.Prelude.{Option, Some, None, Result, Ok, Err}
+use Rattle.page_source.specs.declared.rule.Rule.TheVariants.{RecordChain, Sibling}
+use Rattle.page_source.specs.declared.rule.Fault.{Fault}
+use Rattle.page_source.specs.declared.checks.Halt.{Halt}
+use Rattle.page_source.specs.declared.checks.Halt.TheVariants.{Broken, Source}
+use Rattle.page_source.specs.Pages.{fil_null}
+use Rattle.fil_frame.specs.Frame.{next_page}
+use Rattle.column_values.specs.Types.{Fields}
+use Rattle.index_page.specs.Header.{infimum, records_of}
+use Rattle.index_page.specs.Page.{IsChain}
+use Rattle.space_audit.specs.Marks.{is_in}
+use Rattle.space_audit.specs.Space.{SpaceView, IsAuditOf}
+use Rattle.tree_walk.specs.declared.leaves.leaf.Leaf.{Leaf}
+use Rattle.tree_walk.specs.Index.{Index, index_of, page_in, rows_of, row_at, leaf_pages, leaf_rows}
+use Rattle.tree_walk.specs.TreeChecks.{TreeChecks}
+
+-- a tree of an audited space whose checks hold, whatever was taken before
+pub record IsWalked (index : Index) : Type 0 where
+  pub space : SpaceView
+  pub audit : IsAuditOf index.file space
+  pub taken : ℕ → Bool
+  pub named : ℕ → Bool
+  pub holds : TreeChecks index taken named None
+
+-- a cursor: its leaf, the origin last given, 0 before the first, and whether it has ended
+pub record CursorView : Type 0 where
+  pub leaf : Leaf
+  pub last : ℕ
+  pub ended : Bool
+
+-- where the leaf's chain is whole, this is the infimum or one of its records
+abbrev pub IsAlong : List ℕ → ℕ → Type 0
+IsAlong page at = IsChain page (records_of page) → is_in (infimum ∷ records_of page) at ≡ true
+
+-- the leftmost leaf is to be fetched
+pub record IsAtStart (index : Index) (leaf : Leaf) : Type 0 where
+  pub first : leaf.number ≡ slice_index_or (leaf_pages index) 0 0
+  pub fetches : leaf.may_fetch ≡ length (leaf_pages index)
+
+-- row j is the next one: record k of leaf i, whose record before it, or infimum, is this one
+pub record IsBefore (index : Index) (leaf : Leaf) (at j : ℕ) : Type 0 where
+  pub i : ℕ
+  pub k : ℕ
+  pub within : i < length (leaf_pages index)
+  pub number : leaf.number ≡ slice_index_or (leaf_pages index) i 0
+  pub held : leaf.page ≡ page_in index leaf.number
+  pub few : k ≤ length (records_of leaf.page)
+  pub passed : at ≡ slice_index_or (infimum ∷ records_of leaf.page) k 0
+  pub place : j ≡ length (rows_of index (take i (leaf_pages index))) + k
+  pub fetches : leaf.may_fetch + (i + 1) ≡ length (leaf_pages index)
+
+-- j rows were given, the last of them at this origin
+abbrev pub HasGiven : Index → Leaf → ℕ → ℕ → Type 0
+HasGiven index leaf last j = ((j ≡ 0) × (last ≡ 0) × IsAtStart index leaf) ⊎ ((125 ≤ last) × IsBefore index leaf last j)
+
+-- the rows are those of a walked tree of this file
+pub record CanGive (file : List ℕ) (leaf : Leaf) (last : ℕ) : Type 0 where
+  pub root : ℕ
+  pub fields : Fields
+  pub node : Fields
+  pub given : ℕ
+  pub walked : IsWalked (index_of file root fields node)
+  pub has : HasGiven (index_of file root fields node) leaf last given
+
+-- the same where the record before the next row is known
+pub record CanSearch (file : List ℕ) (leaf : Leaf) (at : ℕ) : Type 0 where
+  pub root : ℕ
+  pub fields : Fields
+  pub node : Fields
+  pub given : ℕ
+  pub walked : IsWalked (index_of file root fields node)
+  pub before : IsBefore (index_of file root fields node) leaf at given
+
+-- row j is found, or none behind the last; the search never breaks off
+abbrev pub FindsRow : Index → ℕ → Result (Option ℕ) Halt → Leaf → Type 0
+FindsRow index j (Ok None) leaf = length (leaf_rows index) ≤ j
+FindsRow index j (Ok (Some origin)) leaf =
+    (j < length (leaf_rows index)) × (row_at (leaf_rows index) j ≡ record { page = leaf.number; origin = origin })
+    × HasGiven index leaf origin (j + 1)
+FindsRow index j (Err (Broken fault)) leaf = ⊥
+FindsRow index j (Err Source) leaf = ⊤
+
+-- a search breaks off at a leaf whose record chain isn't whole, or whose next field is FIL_NULL while further leaves
+-- are due, or isn't where none are
+pub record BreaksOff (leaf : Leaf) (fault : Fault) : Type 0 where
+  pub page : fault.page ≡ leaf.number
+  pub cause : ((fault.rule ≡ RecordChain) × ¬ (IsChain leaf.page (records_of leaf.page)))
+      ⊎ ((fault.rule ≡ Sibling) × (((next_page leaf.page ≡ fil_null) × (0 < leaf.may_fetch))
+      ⊎ ((next_page leaf.page ≢ fil_null) × (leaf.may_fetch ≡ 0))))
+
+-- it stays on its leaf, or went to the next one by the leaf's next field
+pub record HasMoved (old new : Leaf) : Type 0 where
+  pub fewer : new.may_fetch ≤ old.may_fetch
+  pub stays : new.may_fetch ≡ old.may_fetch → (new.number ≡ old.number) × (new.page ≡ old.page)
+  pub goes : new.may_fetch + 1 ≡ old.may_fetch → new.number ≡ next_page old.page
+
+-- the leaf is the one that it was, or the one that this one's next field leads to
+abbrev pub IsSameOrNext : Leaf → Leaf → Type 0
+IsSameOrNext old new = (new.number ≡ old.number) ⊎ (new.number ≡ next_page old.page)
+
+-- it went on from a record, not from the infimum, and at most to the next leaf
+abbrev pub HasHopped : Leaf → Leaf → ℕ → Type 0
+HasHopped old new from = (new.number ≡ old.number) ⊎ ((from ≢ infimum) × (new.number ≡ next_page old.page))
+
+-- a cursor goes on where it gave a row, and has ended otherwise
+abbrev pub Ends : Result (Option ℕ) Halt → Bool → Type 0
+Ends (Ok (Some origin)) ended = ended ≡ false
+Ends (Ok None) ended = ended ≡ true
+Ends (Err halt) ended = ended ≡ true

@@ -1,0 +1,12 @@
+pub mod Index
+pub mod OneIndex
+pub mod Records
+pub mod Room
+pub mod Place
+pub mod Segments
+pub mod TreeChecks
+pub mod Facts
+pub mod Walk
+pub mod Leaf
+pub mod Descent
+pub mod Laws

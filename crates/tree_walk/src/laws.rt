@@ -1,0 +1,32 @@
+//! What the definitions of a tree say together, each the contract of a function that does nothing.
+
+ghost use Rattle.tree_walk.specs.Laws.{LinksAreDescent, KeysRiseOverLeaves, ChecksGiveTree, ChecksAreWholeness};
+
+use index_page::laws::{checks_are_an_index_page, page_has_one_chain};
+
+/// Where the checks of a tree hold, its levels by next fields and its rows by leaves are those of the descent, and no
+/// page comes twice in it.
+pub fn links_are_the_descent()
+    ensures { LinksAreDescent }
+{}
+
+/// The keys of its rows rise over all leaves, and not only on each.
+pub fn keys_rise_over_leaves()
+    ensures { KeysRiseOverLeaves }
+{}
+
+/// It is a tree by descent: each page is an index page whose keys lie between the separators of its parent.
+pub fn checks_give_a_tree()
+    ensures { ChecksGiveTree }
+{
+    checks_are_an_index_page();
+    page_has_one_chain();
+}
+
+/// No check of a tree is broken exactly where it is a whole tree by descent.
+pub fn checks_are_wholeness()
+    ensures { ChecksAreWholeness }
+{
+    checks_are_an_index_page();
+    page_has_one_chain();
+}

@@ -1,0 +1,135 @@
+//! The leaf in hand, and the search for its next row.
+
+ghost use Rattle.std.specs.Prelude.{◌≡◌, ℕ, ◌+◌, ◌<◌, ◌≤◌, IfOk, IfSome, OnOk, Err};
+ghost use Rattle.page_source.specs.Pages.{page_of, page_count};
+ghost use Rattle.page_source.specs.Faults.{HasCause};
+ghost use Rattle.page_source.specs.Calls.{OfFile, HaltsOver};
+ghost use Rattle.page_source.specs.declared.rule.Fault.{Fault};
+ghost use Rattle.column_values.specs.Types.{Fields};
+ghost use Rattle.compact_record.specs.Header.{HasHeaderBytes};
+ghost use Rattle.tree_walk.specs.Index.{index_of};
+ghost use Rattle.tree_walk.specs.Leaf.{IsWalked, IsAlong, IsBefore, HasGiven, CanGive, CanSearch, FindsRow};
+ghost use Rattle.tree_walk.specs.Leaf.{BreaksOff, HasMoved};
+ghost use Rattle.tree_walk.specs.Leaf.{HasHopped, IsSameOrNext};
+
+use crate::cursor::FIL_NULL;
+use crate::place::{FIRST_ORIGIN, INFIMUM, NEXT};
+use compact_record::next_origin;
+use page_source::{Failed, Halt, Page, PageSource, Rule, Steps, read_be};
+use std::sync::ledger::Ledger;
+
+/// PAGE_NEW_SUPREMUM, the origin of the record behind the last one.
+const SUPREMUM: usize = 112;
+
+/// A leaf, its number, and how many further leaves may be fetched.
+#[derive(Debug, Drop)]
+pub(crate) struct Leaf {
+    pub page: Page,
+    pub number: u32,
+    pub may_fetch: u32,
+}
+
+/// Fetches a leaf.
+fn open<S: PageSource, L: Ledger>(
+    leaf: &mut Leaf,
+    source: &mut S,
+    n: u32,
+    steps: &mut Steps<L>,
+) -> Result<(), Failed>
+    requires some { 0 < leaf.old.may_fetch }
+    requires within { OfFile S.PageSource source.old (λ file. n < page_count file) }
+    ensures same { S.content source.new ≡ S.content source.old }
+    ensures page { OnOk result (OfFile S.PageSource source.old (λ file. leaf.new.page ≡ page_of file n)) }
+    ensures number { OnOk result (leaf.new.number ≡ n) }
+    ensures fetches { leaf.new.may_fetch + 1 ≡ leaf.old.may_fetch }
+    ensures cause { HasCause (S.faults source.old) (S.faults source.new) result }
+    ensures steps { steps.new ≡ steps.old + 1 }
+{
+    leaf.may_fetch -= 1;
+    source.fetch(n, &mut leaf.page, steps)?;
+    leaf.number = n;
+    Ok(())
+}
+
+/// The record behind this one, on this leaf or on a later one, none behind the last. It goes to another leaf by the
+/// next field of the one in hand alone.
+#[tactic(auto, using(crate::proofs::Alongs::along_more, crate::proofs::Alongs::along_broken))]
+fn search<S: PageSource, L: Ledger>(
+    leaf: &mut Leaf,
+    source: &mut S,
+    from: usize,
+    steps: &mut Steps<L>,
+) -> Result<Option<usize>, Halt>
+    requires header { HasHeaderBytes from }
+    requires along { IsAlong leaf.old.page from }
+    requires reads { OfFile S.PageSource source.old (λ file. CanSearch file leaf.old from) }
+    ensures exact { OfFile S.PageSource source.old (λ file. (root : ℕ) (fields node : Fields) (j : ℕ)
+        → IsWalked (index_of file root fields node) → IsBefore (index_of file root fields node) leaf.old from j
+        → FindsRow (index_of file root fields node) j result leaf.new) }
+    ensures along { IfOk result (λ found. IfSome found (λ origin. IsAlong leaf.new.page origin)) }
+    ensures origin { IfOk result (λ found. IfSome found (λ origin. (125 ≤ origin) × (origin < 16384))) }
+    ensures broken { (fault : Fault) → result ≡ Err (Halt.Broken fault) → BreaksOff leaf.new fault }
+    ensures moves { IfOk result (λ found. HasMoved leaf.old leaf.new) }
+    ensures near { OfFile S.PageSource source.old (λ file. (root : ℕ) (fields node : Fields) (j : ℕ)
+        → IsWalked (index_of file root fields node) → IsBefore (index_of file root fields node) leaf.old from j
+        → IfOk result (λ found. HasHopped leaf.old leaf.new from)) }
+    ensures keeps { HaltsOver S.PageSource source.old source.new result }
+    ensures steps { steps.new + leaf.new.may_fetch ≡ steps.old + leaf.old.may_fetch }
+{
+    let mut at = from;
+    'leaves: loop {
+        let next = next_origin(&leaf.page, at);
+        if next >= FIRST_ORIGIN {
+            return Ok(Some(next));
+        }
+        if next != SUPREMUM {
+            return Err(Halt::Broken(Rule::RecordChain.at(leaf.number)));
+        }
+        let number = read_be::<4>(&leaf.page, NEXT) as u32;
+        if number == FIL_NULL {
+            if leaf.may_fetch > 0 {
+                return Err(Halt::Broken(Rule::Sibling.at(leaf.number)));
+            }
+            return Ok(None);
+        }
+        if leaf.may_fetch == 0 {
+            return Err(Halt::Broken(Rule::Sibling.at(leaf.number)));
+        }
+        open(leaf, source, number, steps)?;
+        at = INFIMUM;
+    }
+}
+
+/// The row behind the one last given, the first row where none was given.
+pub(crate) fn seek<S: PageSource, L: Ledger>(
+    leaf: &mut Leaf,
+    source: &mut S,
+    last: usize,
+    steps: &mut Steps<L>,
+) -> Result<Option<usize>, Halt>
+    requires most { last < 16384 }
+    requires along { 125 ≤ last → IsAlong leaf.old.page last }
+    requires reads { OfFile S.PageSource source.old (λ file. CanGive file leaf.old last) }
+    ensures exact { OfFile S.PageSource source.old (λ file. (root : ℕ) (fields node : Fields) (j : ℕ)
+        → IsWalked (index_of file root fields node) → HasGiven (index_of file root fields node) leaf.old last j
+        → FindsRow (index_of file root fields node) j result leaf.new) }
+    ensures along { IfOk result (λ found. IfSome found (λ origin. IsAlong leaf.new.page origin)) }
+    ensures origin { IfOk result (λ found. IfSome found (λ origin. (125 ≤ origin) × (origin < 16384))) }
+    ensures broken { (fault : Fault) → result ≡ Err (Halt.Broken fault) → BreaksOff leaf.new fault }
+    ensures moves { IfOk result (λ found. 125 ≤ last → HasMoved leaf.old leaf.new) }
+    ensures near { OfFile S.PageSource source.old (λ file. (root : ℕ) (fields node : Fields) (j : ℕ)
+        → IsWalked (index_of file root fields node) → HasGiven (index_of file root fields node) leaf.old last j
+        → IfOk result (λ found. IsSameOrNext leaf.old leaf.new)) }
+    ensures keeps { HaltsOver S.PageSource source.old source.new result }
+    ensures steps { steps.new + leaf.new.may_fetch ≡ steps.old + leaf.old.may_fetch }
+{
+    if last >= FIRST_ORIGIN {
+        return search(leaf, source, last, steps);
+    }
+    if leaf.may_fetch == 0 {
+        return Ok(None);
+    }
+    let n = leaf.number;
+    open(leaf, source, n, steps)?;
+    search(leaf, source, INFIMUM, steps)
+}

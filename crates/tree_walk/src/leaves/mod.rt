@@ -1,0 +1,108 @@
+//! The rows of a tree that was walked, leaf by leaf by next fields.
+
+ghost use Rattle.std.specs.Prelude.{◌≡◌, ℕ, ◌+◌, ◌<◌, ◌≤◌, IfOk, IfSome, IsSome, IsOk, Some, None, Err, true, false};
+ghost use Rattle.page_source.specs.Calls.{OfFile, HaltsOver};
+ghost use Rattle.page_source.specs.declared.rule.Fault.{Fault};
+ghost use Rattle.column_values.specs.Types.{Fields};
+ghost use Rattle.tree_walk.specs.Index.{Index, index_of};
+ghost use Rattle.tree_walk.specs.Walk.{IsEndsOf};
+ghost use Rattle.tree_walk.specs.Leaf.{CursorView, IsAlong, IsWalked, HasGiven, CanGive, FindsRow, BreaksOff};
+ghost use Rattle.tree_walk.specs.Leaf.{HasMoved, IsSameOrNext, Ends};
+
+mod leaf;
+
+use crate::ends::TreeEnds;
+use leaf::{Leaf, seek};
+use page_source::{Halt, NoMemory, Page, PageSource, Steps};
+use std::alloc::Global;
+use std::marker::Model;
+use std::sync::ledger::Ledger;
+
+/// A cursor over the rows of a tree: its leaf, the origin last given, and whether it has ended.
+#[derive(Debug, Drop)]
+pub struct LeafCursor {
+    leaf: Leaf,
+    last: usize,
+    ended: bool,
+}
+
+impl Model for LeafCursor {
+    ghost Value = { CursorView };
+
+    ghost view = { λ c. record { leaf = c.leaf; last = c.last; ended = c.ended } };
+
+    ghost invariant = { λ c. (c.last < 16384) × (c.ended ≡ false → 125 ≤ c.last → IsAlong c.leaf.page c.last) };
+}
+
+impl LeafCursor {
+    /// A cursor before the first row of a tree.
+    pub fn start(alloc: Global, ends: &TreeEnds) -> Result<LeafCursor, NoMemory>
+        ensures number { IfOk result (λ cursor. cursor.leaf.number ≡ ends.now.first_leaf) }
+        ensures fetches { IfOk result (λ cursor. cursor.leaf.may_fetch ≡ ends.now.leaves) }
+        ensures last { IfOk result (λ cursor. cursor.last ≡ 0) }
+        ensures ended { IfOk result (λ cursor. cursor.ended ≡ false) }
+        ensures told { IfOk result (λ cursor. (index : Index) → IsEndsOf index ends.now
+            → HasGiven index cursor.leaf cursor.last 0) }
+    {
+        let leaf = Leaf {
+            page: Page::zeroed(alloc)?,
+            number: ends.first_leaf,
+            may_fetch: ends.leaves,
+        };
+        Ok(LeafCursor {
+            leaf,
+            last: 0,
+            ended: false,
+        })
+    }
+
+    /// The origin of the next row on the page in hand, delete-marked or not; none behind the last. `Source` comes where
+    /// the file's count of faults rose. `Broken` never comes over a source that tells its content; over another it
+    /// names the leaf in hand, whose record chain isn't whole (rule 35), or whose next field doesn't fit the number of
+    /// leaves (rule 31). After none or an error it has ended.
+    pub fn next<S: PageSource, L: Ledger>(
+        &mut self,
+        source: &mut S,
+        steps: &mut Steps<L>,
+    ) -> Result<Option<usize>, Halt>
+        requires goes_on { self.old.ended ≡ false }
+        requires reads { OfFile S.PageSource source.old (λ file. CanGive file self.old.leaf self.old.last) }
+        ensures exact { OfFile S.PageSource source.old (λ file. (root : ℕ) (fields node : Fields) (j : ℕ)
+            → IsWalked (index_of file root fields node)
+            → HasGiven (index_of file root fields node) self.old.leaf self.old.last j
+            → FindsRow (index_of file root fields node) j result self.new.leaf) }
+        ensures last { IfOk result (λ found. IfSome found (λ origin. self.new.last ≡ origin)) }
+        ensures ended { Ends result self.new.ended }
+        ensures origin { IfOk result (λ found. IfSome found (λ origin. (125 ≤ origin) × (origin < 16384))) }
+        ensures broken { (fault : Fault) → result ≡ Err (Halt.Broken fault) → BreaksOff self.new.leaf fault }
+        ensures moves { IfOk result (λ found. 125 ≤ self.old.last → HasMoved self.old.leaf self.new.leaf) }
+        ensures near { OfFile S.PageSource source.old (λ file. (root : ℕ) (fields node : Fields) (j : ℕ)
+            → IsWalked (index_of file root fields node)
+            → HasGiven (index_of file root fields node) self.old.leaf self.old.last j
+            → IfOk result (λ found. IsSameOrNext self.old.leaf self.new.leaf)) }
+        ensures keeps { HaltsOver S.PageSource source.old source.new result }
+        ensures steps { steps.new + self.new.leaf.may_fetch ≡ steps.old + self.old.leaf.may_fetch }
+    {
+        self.ended = true;
+        let found = seek(&mut self.leaf, source, self.last, steps)?;
+        if let Some(origin) = found {
+            self.last = origin;
+            self.ended = false;
+        }
+        Ok(found)
+    }
+
+    /// The leaf in hand, from the first row on.
+    pub fn page(&self) -> &Page
+        ensures { result.now ≡ self.now.leaf.page }
+    {
+        &self.leaf.page
+    }
+
+    /// Its number; before the first row that of the leftmost leaf.
+    pub fn number(&self) -> u32
+        ensures { result ≡ self.now.leaf.number }
+    {
+        self.leaf.number
+    }
+}

@@ -1,0 +1,18 @@
+//! One tree of an index: the rules of its pages, level by level, and its rows, leaf by leaf (btr0btr, btr0cur).
+#![tactic(auto)]
+
+mod cursor;
+mod ends;
+pub mod laws;
+mod leaves;
+mod level;
+mod place;
+#[cfg(test)]
+mod tests;
+mod tree;
+mod walk;
+
+pub use ends::TreeEnds;
+pub use leaves::LeafCursor;
+pub use tree::walk_tree;
+pub use walk::Walk;

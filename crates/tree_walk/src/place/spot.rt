@@ -1,0 +1,145 @@
+//! The checks of a page in hand.
+
+ghost use Rattle.std.specs.Prelude.{◌≡◌, ◌<◌, ◌≤◌, ◌↔◌, IsTrue, IfSome, OnOk, None, true, false, length};
+ghost use Rattle.page_source.specs.Checks.{Finds, AtPage};
+ghost use Rattle.index_page.specs.Header.{record_count};
+ghost use Rattle.index_page.specs.PageChecks.{PageChecks};
+ghost use Rattle.tree_walk.specs.OneIndex.{HaveOneKey};
+ghost use Rattle.tree_walk.specs.Place.{is_leaf_level, IsBeside, NodeAt, SpotAt, spot_between};
+ghost use Rattle.tree_walk.specs.Records.{IsHeld, PageFacts, held_key};
+ghost use Rattle.tree_walk.specs.Room.{HasRoom, HasSameRoom};
+ghost use Rattle.tree_walk.specs.Walk.{page_after, origin_after};
+
+use crate::cursor::Next;
+use crate::place::Stand;
+use crate::place::keys::is_between;
+use crate::walk::Walk;
+use column_values::FieldList;
+use index_page::{mark_fault, page_fault};
+use page_source::{Fault, Page, Rule, read_be};
+
+/// FIL_PAGE_PREV and FIL_PAGE_NEXT, the neighbours of a page on its level.
+pub(crate) const PREVIOUS: usize = 8;
+
+pub(crate) const NEXT: usize = 12;
+
+/// PAGE_LEVEL, the level of an index page.
+pub(crate) const LEVEL: usize = 64;
+
+/// PAGE_INDEX_ID, its index.
+pub(crate) const INDEX_ID: usize = 66;
+
+/// The greatest level of a root.
+const GREATEST_LEVEL: u16 = 50;
+
+/// Whether a page has these neighbours.
+fn is_beside(page: &Page, previous: u32, next: u32) -> bool
+    ensures { IsTrue result ↔ IsBeside page.now previous next }
+{
+    read_be::<4>(page, PREVIOUS) as u32 == previous && read_be::<4>(page, NEXT) as u32 == next
+}
+
+/// The checks of the records of the page in hand.
+#[tactic(auto, using(crate::proofs::Records::page_facts, crate::proofs::Records::some_record))]
+fn check_records(walk: &mut Walk, fields: &FieldList, stand: Stand) -> Result<(), Fault>
+    requires few { fields.now.keys ≤ length fields.now.fields }
+    requires room { length fields.now.fields ≤ walk.old.scratch }
+    ensures exact { Finds result (AtPage stand.page (PageChecks walk.old.child fields.now
+        (is_leaf_level stand.level) stand.root stand.leftmost)) }
+    ensures facts { OnOk result (PageFacts walk.old.child fields.now) }
+    ensures some { OnOk result (stand.root ≡ false → 0 < record_count walk.old.child) }
+    ensures same { walk.new ≡ record walk.old { scratch = walk.new.scratch } }
+    ensures room { walk.new.scratch ≡ walk.old.scratch }
+{
+    let leaf = stand.level == 0;
+    match page_fault(
+        &mut walk.scratch,
+        &walk.child,
+        fields,
+        leaf,
+        stand.root,
+        stand.leftmost,
+    ) {
+        Some(rule) => Err(rule.at(stand.page)),
+        None => Ok(()),
+    }
+}
+
+/// The checks of the page in hand at its level: of its records, and of their keys between the separators.
+fn check_node(
+    walk: &mut Walk,
+    fields: &FieldList,
+    node: &FieldList,
+    stand: Stand,
+    low: Option<usize>,
+    next: Next,
+) -> Result<(), Fault>
+    requires room { HasRoom walk.old (length fields.now.fields) }
+    requires lists { HaveOneKey fields.now node.now }
+    requires low { IfSome low (λ origin. IsHeld walk.old.parent node.now origin walk.old.low) }
+    requires high { IfSome (origin_after next) (λ origin.
+        IsHeld (page_after next walk.old.parent walk.old.after) node.now origin walk.old.high) }
+    requires root_low { stand.root ≡ true → low ≡ None }
+    requires root_high { stand.root ≡ true → origin_after next ≡ None }
+    ensures exact { Finds result (NodeAt walk.old.child fields.now
+        (spot_between stand (held_key walk.old.parent node.now low)
+        (held_key (page_after next walk.old.parent walk.old.after) node.now (origin_after next)))) }
+    ensures facts { OnOk result (PageFacts walk.old.child fields.now) }
+    ensures same { walk.new ≡ record walk.old {
+      scratch = walk.new.scratch;
+      first = walk.new.first;
+      last = walk.new.last;
+    } }
+    ensures room { HasSameRoom walk.old walk.new }
+{
+    let n = stand.page;
+    if read_be::<2>(&walk.child, LEVEL) as u16 != stand.level || stand.level > GREATEST_LEVEL {
+        return Err(Rule::Level.at(n));
+    }
+    check_records(walk, fields, stand)?;
+    if !is_between(walk, fields, node, stand, low, next) {
+        return Err(Rule::Separator.at(n));
+    }
+    if mark_fault(&walk.child, stand.level == 0, stand.leftmost) {
+        return Err(Rule::MinimumMark.at(n));
+    }
+    Ok(())
+}
+
+/// The checks of the page in hand where it stands: the low separator is the key of the node pointer in hand, where
+/// there is one, and the high separator that of the next node pointer.
+pub(crate) fn check_spot(
+    walk: &mut Walk,
+    fields: &FieldList,
+    node: &FieldList,
+    stand: Stand,
+    low: Option<usize>,
+    next: Next,
+) -> Result<(), Fault>
+    requires room { HasRoom walk.old (length fields.now.fields) }
+    requires lists { HaveOneKey fields.now node.now }
+    requires low { IfSome low (λ origin. IsHeld walk.old.parent node.now origin walk.old.low) }
+    requires high { IfSome (origin_after next) (λ origin.
+        IsHeld (page_after next walk.old.parent walk.old.after) node.now origin walk.old.high) }
+    requires root_low { stand.root ≡ true → low ≡ None }
+    requires root_high { stand.root ≡ true → origin_after next ≡ None }
+    ensures exact { Finds result (SpotAt walk.old.child fields.now stand.index_id
+        (spot_between stand (held_key walk.old.parent node.now low)
+        (held_key (page_after next walk.old.parent walk.old.after) node.now (origin_after next)))
+        stand.previous stand.next) }
+    ensures facts { OnOk result (PageFacts walk.old.child fields.now) }
+    ensures same { walk.new ≡ record walk.old {
+      scratch = walk.new.scratch;
+      first = walk.new.first;
+      last = walk.new.last;
+    } }
+    ensures room { HasSameRoom walk.old walk.new }
+{
+    if read_be::<8>(&walk.child, INDEX_ID) != stand.index_id {
+        return Err(Rule::IndexId.at(stand.page));
+    }
+    if !is_beside(&walk.child, stand.previous, stand.next) {
+        return Err(Rule::Sibling.at(stand.page));
+    }
+    check_node(walk, fields, node, stand, low, next)
+}

@@ -1,0 +1,4 @@
+//! Walks over a small tree, and a cursor over leaves, of files that tell nothing.
+
+mod leaves;
+mod trees;
