@@ -8,8 +8,8 @@ use Rattle.std.proofs.lemmas.List.Elements.{All-nil, All-push}
 use Rattle.column_values.specs.declared.utf8.Joined.{Joined}
 use Rattle.column_values.specs.declared.utf8.Progress.{Progress}
 use Rattle.column_values.specs.declared.utf8.Joined.TheVariants.{Whole, Front, Neither}
-use Rattle.column_values.specs.Characters.{IsCharacter, HasCharacters, IsTextUpTo}
-use Rattle.column_values.specs.Utf8Reader.{State, Bad, Good, Reader, Any, Limited, IsPending, IsCut, StandsFor, WasFed, Feeds, CountsUpTo, CanFeed, IsAtEnd, TakesText}
+use Rattle.column_values.specs.Characters.{IsCharacter, HasCharacters}
+use Rattle.column_values.specs.Utf8Reader.{State, Bad, Good, Reader, Any, Limited, IsPending, IsCut, StandsFor, WasFed, CountsUpTo, CanFeed, IsAtEnd, TakesText}
 use Rattle.column_values.specs.Utf8View.{pending_bytes, state_of, reader_of, IsFront, Joins, state_after, StepsTo, CanStep}
 use Rattle.column_values.proofs.Utf8Texts.{before, same_cut, front_pending}
 
@@ -164,15 +164,7 @@ pub up_to_counts : (most limit : ℕ) (state : State) → UpTo most state → Co
 up_to_counts most limit Bad low = tt
 up_to_counts most limit (Good count pending) low = low
 
--- what a new reader was fed
-pub fed_new : (n : ℕ) (reader : Reader) (bytes : List ℕ) → Feeds (Limited n (Good 0 [])) reader bytes
-    → WasFed reader bytes
-fed_new n reader bytes feeds = subst (λ (r : Reader). WasFed r bytes) (sym feeds.1) (feeds.2 [] nothing_read)
-
-pub fed_takes : (n : ℕ) (reader : Reader) (bytes : List ℕ) → Feeds (Limited n (Good 0 [])) reader bytes
-    → TakesText reader bytes ≡ IsTextUpTo n bytes
-fed_takes n reader bytes feeds = ap (λ (r : Reader). TakesText r bytes) feeds.1
-
+-- the characters of a piece are counted
 pub counts_view : (most n : ℕ) (limit : Option ℕ) (old new : Progress)
     → ((m : ℕ) → UpTo m (state_of old) → UpTo (m + n) (state_of new))
     → CountsUpTo most (reader_of limit old) → CountsUpTo (most + n) (reader_of limit new)

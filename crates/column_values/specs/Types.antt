@@ -1,5 +1,5 @@
 -- Column types (data0type, row0mysql), and the fields of an index (rem0rec).
-use Rattle.std.specs.Prelude.{◌≡◌, ℕ, ◌+◌, ◌*◌, ◌<◌, ◌≤◌, min, ◌⊎◌, ⊤, Bool, true, false, ◌||◌, nat_lt, List, [], ◌∷◌, ◌++◌, slice_index_or, length, filter, All}
+use Rattle.std.specs.Prelude.{◌≡◌, ℕ, ◌+◌, ◌*◌, ◌<◌, ◌≤◌, min, ◌⊎◌, ⊤, Bool, true, false, ◌||◌, nat_lt, List, [], ◌∷◌, ◌++◌, slice_index_or, length, take, filter, All}
 use Rattle.column_values.specs.declared.kind.ColumnType.{ColumnType}
 use Rattle.column_values.specs.declared.kind.ColumnType.TheVariants.{Int, Date, Char, Varchar, Binary, Varbinary, Text, Blob, Utf8Varchar, Utf8Text, DateTime, Timestamp, Year, Decimal}
 use Rattle.column_values.specs.declared.field.FieldType.{FieldType}
@@ -110,9 +110,21 @@ pub record Fields : Type 0 where
   pub nullable : ℕ
   pub keys : ℕ
 
+-- the number of the child page, the last field of a node pointer
+abbrev pub child_field : Field
+child_field = record { kind = Child; nullable = false; may_leave = false }
+
 -- field i; past the end a child page
 abbrev pub field_at : Fields → ℕ → Field
-field_at fields i = slice_index_or fields.fields i (record { kind = Child; nullable = false; may_leave = false })
+field_at fields i = slice_index_or fields.fields i child_field
+
+-- the fields of an index's leaf records and those of its node pointers: these have the fields of the key, with null
+-- bits for as many fields, and then the child page
+pub record AreOfOneIndex (leaf node : Fields) : Type 0 where
+  pub few : leaf.keys ≤ length leaf.fields
+  pub keys : node.keys ≡ leaf.keys
+  pub nullable : node.nullable ≡ leaf.nullable
+  pub pointers : node.fields ≡ take leaf.keys leaf.fields ++ child_field ∷ []
 
 -- the field's type is one of a column, where it is a column
 abbrev pub IsFieldKind : FieldType → Type 0

@@ -2,7 +2,7 @@
 
 ghost use Rattle.std.specs.Prelude.{◌≡◌, ℕ, ◌+◌, ◌<◌, ◌≤◌, ◌↔◌, ◌++◌, ◌∷◌, [], List, length, IsTrue};
 ghost use Rattle.column_values.specs.Characters.{IsFurther, IsStartOfThree, IsStartOfFour, IsCharacter, IsTextUpTo};
-ghost use Rattle.column_values.specs.Utf8Reader.{Any, Feeds, CanFeed, IsAtEnd, CountsUpTo, WasFed, TakesText, new_reader};
+ghost use Rattle.column_values.specs.Utf8Reader.{Any, IsFed, CanFeed, IsAtEnd, CountsUpTo, WasFed, TakesText, new_reader};
 ghost use Rattle.column_values.specs.Utf8View.{pending_bytes, state_of, Joins, StepsTo, CanStep};
 
 use std::marker::Model;
@@ -171,7 +171,9 @@ impl Progress {
 impl Utf8 {
     /// Takes any bytes.
     pub fn any() -> Utf8
-        ensures { result ≡ Any }
+        ensures is { result ≡ Any }
+        ensures fresh { WasFed result [] }
+        ensures takes { (text : List ℕ) → TakesText result text }
     {
         Utf8 {
             limit: None,
@@ -181,7 +183,9 @@ impl Utf8 {
 
     /// Takes texts of at most so many characters; nothing was read yet.
     pub fn limit(characters: u32) -> Utf8
-        ensures { result ≡ new_reader characters }
+        ensures is { result ≡ new_reader characters }
+        ensures fresh { WasFed result [] }
+        ensures takes { (text : List ℕ) → TakesText result text ↔ IsTextUpTo characters text }
     {
         Utf8 {
             limit: Some(characters),
@@ -195,7 +199,7 @@ impl Utf8 {
     /// Reads the next piece of the text.
     pub fn feed(&mut self, bytes: &[u8])
         requires { CanFeed self.old (length bytes.now) }
-        ensures feeds { Feeds self.old self.new bytes.now }
+        ensures feeds { IsFed self.old self.new bytes.now }
         ensures counts { (most : ℕ) → CountsUpTo most self.old → CountsUpTo (most + length bytes.now) self.new }
     {
         let Some(_) = self.limit else {

@@ -18,8 +18,8 @@ use Rattle.column_values.specs.Types.{Fields, field_at}
 use Rattle.column_values.specs.Order.{cell_cmp, key_cmp, Key}
 use Rattle.compact_record.specs.declared.places.Place.{Place}
 use Rattle.compact_record.specs.Reading.{cell_at, key_kinds, key_of, places_of, place_of, field_count, local_before}
-use Rattle.compact_record.specs.Reading.{local_length, record_end, is_null}
-use Rattle.compact_record.specs.Keys.{key_at, IsOnPage, HaveChild}
+use Rattle.compact_record.specs.Reading.{local_length, record_end, is_null, Reading, IsReading}
+use Rattle.compact_record.specs.Keys.{key_at, IsOnPage, LiesBelow, HaveChild}
 use Rattle.compact_record.proofs.Steps.{local_more}
 
 -- what is left of two keys from field i on, in their order
@@ -110,6 +110,22 @@ on_page page origin fields ends k d below =
     let more = local_more page origin fields k in
     let most = local_rises page origin fields n (k + 1) (omega arith) in
     subst IsOnPage (sym here) (record { rising = omega arith; inside = omega (arith, more, most, ends) })
+
+-- where each field lies in a record that was read
+pub lie_below : (page : List ℕ) (origin : ℕ) (fields : Fields) (reading : Reading) → IsReading page origin fields reading
+    → All (LiesBelow reading.end) reading.places
+unfolding places_of place_of record_end
+lie_below page origin fields reading read = rw (read.holds, read.ends) (λ k d below.
+    let n = field_count fields in
+    let in' : k < n = omega (arith, length-map-range_with_len (place_of page origin fields) 0 n) in
+    let here = get_or-map-range_with_len (place_of page origin fields) 0 n k k d in' (omega arith) in
+    let more = local_more page origin fields k in
+    let most = local_rises page origin fields n (k + 1) (omega arith) in
+    subst (LiesBelow (record_end page origin fields)) (sym here) (record {
+      rising = omega arith;
+      below = omega (arith, more, most);
+      refers = λ external. omega (arith, (read.spelled.each k in').refers external);
+    }))
 
 pub count_of_places : (page : List ℕ) (origin : ℕ) (fields : Fields)
     → length (places_of page origin fields) ≡ field_count fields

@@ -1,5 +1,5 @@
 -- Records that were read: their keys from the places in memory, and the child page of a node pointer.
-use Rattle.std.specs.Prelude.{◌≡◌, ℕ, ◌<◌, ◌≤◌, false, List, length, map, take}
+use Rattle.std.specs.Prelude.{◌≡◌, ℕ, ◌+◌, ◌<◌, ◌≤◌, true, false, List, length, map, take}
 use Rattle.page_source.specs.Pages.{num}
 use Rattle.column_values.specs.declared.field.FieldType.TheVariants.{Child}
 use Rattle.column_values.specs.Types.{Fields, field_at}
@@ -15,6 +15,12 @@ key_at page fields places = map (cell_at page) (take fields.keys places)
 pub record IsOnPage (place : Place) : Type 0 where
   pub rising : place.from ≤ place.until
   pub inside : place.until ≤ 16384
+
+-- a place in a record that ends here; an external one has room for a reference
+pub record LiesBelow (end : ℕ) (place : Place) : Type 0 where
+  pub rising : place.from ≤ place.until
+  pub below : place.until ≤ end
+  pub refers : place.external ≡ true → place.from + 20 ≤ place.until
 
 -- a record of the page was read, which ends on the page
 pub record IsWholeReading (page : List ℕ) (fields : Fields) (reading : Reading) : Type 0 where

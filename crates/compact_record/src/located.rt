@@ -1,9 +1,9 @@
 //! A record that was read, in memory that is used again and again.
 
-ghost use Rattle.std.specs.Prelude.{◌≡◌, ◌≤◌, ◌↔◌, IsTrue, IfOk, IsErrOf, length};
+ghost use Rattle.std.specs.Prelude.{◌≡◌, ◌≤◌, ◌↔◌, All, IsTrue, IfOk, IsErrOf, length};
 ghost use Rattle.column_values.specs.Order.{key_cmp};
 ghost use Rattle.compact_record.specs.Reading.{IsHeapOrigin, IsSpelled, IsReading, key_of, key_kinds};
-ghost use Rattle.compact_record.specs.Keys.{IsWholeReading, HaveChild, child_at};
+ghost use Rattle.compact_record.specs.Keys.{IsWholeReading, HaveChild, LiesBelow, child_at};
 
 use crate::errors::LocateError;
 use crate::keys::compare_keys;
@@ -74,6 +74,7 @@ impl Located {
         requires room { length fields.now.fields ≤ self.old.members }
         ensures exact { IsTrue result ↔ IsSpelled page.now origin fields.now }
         ensures read { IsTrue result → IsReading page.now origin fields.now self.new }
+        ensures lies { IsTrue result → All (LiesBelow self.new.end) self.new.places }
         ensures members { self.new.members ≡ self.old.members }
     {
         let sizes = read_places(&mut self.places, page, origin, fields);

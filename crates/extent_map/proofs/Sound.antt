@@ -2,7 +2,8 @@
 use Rattle.std.proofs.Common.{◌≡◌, ℕ, ◌+◌, ◌*◌, ◌/◌, ◌%◌, ◌<◌, List, None, subst, arith}
 use Rattle.extent_map.specs.Head.{HeaderChecks, HeadChecks, IsHead}
 use Rattle.extent_map.specs.Extents.{extent_count}
-use Rattle.extent_map.specs.Descriptors.{ExtentChecks, IsExtent, IsDescriptorPage, DescriptorChecks, AllDescriptorChecks, descriptor_pages, extents_on}
+use Rattle.extent_map.specs.Descriptors.{ExtentChecks, IsExtent, DescriptorChecks, AllDescriptorChecks, descriptor_pages, extents_on}
+use Rattle.extent_map.specs.Laws.{HasDescriptors}
 
 pub head_sound : (file : List ℕ) (flags : ℕ) → HeadChecks file flags None → IsHead file flags
 unfolding HeaderChecks
@@ -29,12 +30,7 @@ extent_checks : (file : List ℕ) (e : ℕ) → IsExtent file e → ExtentChecks
 unfolding ExtentChecks
 extent_checks file e h = (h.state, (h.fits, (h.within, h.system)))
 
-pub descriptors_sound : (file : List ℕ) → AllDescriptorChecks file None → (k : ℕ) → 0 < k
-    → k < descriptor_pages file → IsDescriptorPage file (16384 * k)
-unfolding DescriptorChecks
-descriptors_sound file h k p l = let r = (h k l).0 p in (r.0, r.1)
-
-pub extents_sound : (file : List ℕ) → AllDescriptorChecks file None → (e : ℕ) → e < extent_count file → IsExtent file e
+extents_sound : (file : List ℕ) → AllDescriptorChecks file None → (e : ℕ) → e < extent_count file → IsExtent file e
 unfolding DescriptorChecks
 extents_sound file h e l =
     let page : e / 256 < descriptor_pages file = omega arith in
@@ -43,12 +39,17 @@ extents_sound file h e l =
     subst (λ x. IsExtent file x) there (extent_sound file (256 * (e / 256) + e % 256) ((h (e / 256) page).1
     (e % 256) place))
 
-pub descriptor_checks : (file : List ℕ) → ((k : ℕ) → 0 < k → k < descriptor_pages file
-    → IsDescriptorPage file (16384 * k)) → ((e : ℕ) → e < extent_count file → IsExtent file e)
-    → AllDescriptorChecks file None
+pub descriptors_sound : (file : List ℕ) → AllDescriptorChecks file None → HasDescriptors file
 unfolding DescriptorChecks
-descriptor_checks file d h = λ k l. (
-  λ p. let r = d k p l in (r.0, r.1),
-  λ i m. extent_checks file (256 * k + i) (h
+descriptors_sound file h = record {
+  pages = λ k p l. let r = (h k l).0 p in (r.0, r.1);
+  extents = extents_sound file h;
+}
+
+pub descriptor_checks : (file : List ℕ) → HasDescriptors file → AllDescriptorChecks file None
+unfolding DescriptorChecks
+descriptor_checks file h = λ k l. (
+  λ p. let r = h.pages k p l in (r.0, r.1),
+  λ i m. extent_checks file (256 * k + i) (h.extents
       (256 * k + i) (omega arith)),
 )

@@ -7,6 +7,7 @@ mod extent;
 mod extents;
 mod flags;
 mod head;
+pub mod laws;
 #[cfg(test)]
 mod tests;
 

@@ -14,12 +14,11 @@ use Rattle.page_source.specs.Checks.{HaltsAt}
 use Rattle.page_source.specs.Pages.{page_of}
 use Rattle.page_source.specs.Lists.{before_place}
 use Rattle.page_source.specs.Verdict.{AllBefore, EachOf}
-use Rattle.column_values.specs.Utf8Reader.{Reader}
+use Rattle.column_values.specs.Utf8Reader.{Reader, IsFed}
 use Rattle.space_audit.specs.Marks.{is_set, seen, Marked}
 use Rattle.offpage_chain.specs.declared.reference.Reference.{Reference}
 use Rattle.offpage_chain.specs.Chain.{part_length, next_part, part_bytes, pages_from, chain_pages, bytes_on, total_on}
 use Rattle.offpage_chain.specs.ChainChecks.{IsChainPart, PageCheck, PartCheck}
-use Rattle.offpage_chain.specs.Feeding.{IsFed}
 
 -- the checks of the pages of a chain
 pub record Walk : Type 0 where

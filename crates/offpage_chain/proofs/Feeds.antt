@@ -1,8 +1,7 @@
 -- A text that is fed piece by piece.
 use Rattle.std.proofs.Common.{ℕ, ◌+◌, ◌-◌, ◌≤◌, arith, List, [], ◌++◌, sym, subst, append_assoc}
 use Rattle.std.proofs.lemmas.List.{append-nil}
-use Rattle.column_values.specs.Utf8Reader.{Reader, Any, Limited, WasFed, Feeds, CountsUpTo}
-use Rattle.offpage_chain.specs.Feeding.{IsFed}
+use Rattle.column_values.specs.Utf8Reader.{Reader, WasFed, IsFed, CountsUpTo}
 
 pub fed_none : (text : Reader) → IsFed text text []
 fed_none text = record {
@@ -10,22 +9,13 @@ fed_none text = record {
   same = λ bytes. ((λ t. t), (λ t. t));
 }
 
-fed_by : (old new : Reader) (bytes : List ℕ) → Feeds old new bytes → IsFed old new bytes
-fed_by Any new bytes same = subst (λ (r : Reader). IsFed Any r bytes) (sym same)
-    (record { fed = λ text was. tt; same = λ text. ((λ t. t), (λ t. t)) })
-fed_by (Limited limit state) new bytes feeds =
-    subst (λ (r : Reader). IsFed (Limited limit state) r bytes) (sym feeds.1)
-    (record { fed = feeds.2; same = λ text. ((λ t. t), (λ t. t)) })
-
-pub fed_more : (old text next : Reader) (bytes more : List ℕ) → IsFed old text bytes → Feeds text next more
+pub fed_more : (old text next : Reader) (bytes more : List ℕ) → IsFed old text bytes → IsFed text next more
     → IsFed old next (bytes ++ more)
-fed_more old text next bytes more a feeds =
-    let b = fed_by text next more feeds in
-    record {
-      fed = λ front was. subst (λ (t : List ℕ). WasFed next t) (append_assoc front bytes more)
-          (b.fed (front ++ bytes) (a.fed front was));
-      same = λ t. ((λ x. (a.same t).0 ((b.same t).0 x)), (λ x. (b.same t).1 ((a.same t).1 x)));
-    }
+fed_more old text next bytes more a b = record {
+  fed = λ front was. subst (λ (t : List ℕ). WasFed next t) (append_assoc front bytes more)
+      (b.fed (front ++ bytes) (a.fed front was));
+  same = λ t. ((λ x. (a.same t).0 ((b.same t).0 x)), (λ x. (b.same t).1 ((a.same t).1 x)));
+}
 
 pub counts_more : (text : Reader) (whole left size : ℕ) → left ≤ whole → size ≤ left
     → CountsUpTo (16384 + (whole - left) + size) text

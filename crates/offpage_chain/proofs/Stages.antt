@@ -5,11 +5,10 @@ use Rattle.page_source.specs.declared.checks.Halt.{Halt}
 use Rattle.page_source.specs.declared.checks.Halt.TheVariants.{Broken, Source}
 use Rattle.page_source.specs.Checks.{HaltsAt}
 use Rattle.page_source.specs.Verdict.{EachOf}
-use Rattle.column_values.specs.Utf8Reader.{Reader, WasFed, TakesText}
+use Rattle.column_values.specs.Utf8Reader.{Reader, WasFed, TakesText, IsFed}
 use Rattle.offpage_chain.specs.declared.reference.Reference.{Reference}
 use Rattle.offpage_chain.specs.Chain.{chain_pages, bytes_on, RefersHere}
 use Rattle.offpage_chain.specs.ChainChecks.{ChainChecks, ChainChecksBy, PartCheck}
-use Rattle.offpage_chain.specs.Feeding.{IsFed}
 
 -- no byte is stated
 pub chain_empty : (file : List ℕ) (segment holder : ℕ) (reference : Reference) (taken : ℕ → Bool) (IsText : List ℕ

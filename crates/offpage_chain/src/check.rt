@@ -6,12 +6,11 @@ ghost use Rattle.page_source.specs.Lists.{unmarked};
 ghost use Rattle.page_source.specs.Checks.{Halts};
 ghost use Rattle.page_source.specs.Calls.{OfFile, HaltsOver};
 ghost use Rattle.page_source.specs.Verdict.{EachOf};
-ghost use Rattle.column_values.specs.Utf8Reader.{CountsUpTo, WasFed, TakesText};
+ghost use Rattle.column_values.specs.Utf8Reader.{CountsUpTo, WasFed, TakesText, IsFed};
 ghost use Rattle.space_audit.specs.Space.{IsAuditOf};
 ghost use Rattle.space_audit.specs.Marks.{is_set, Marked};
 ghost use Rattle.offpage_chain.specs.Chain.{chain_pages, part_length, bytes_on, RefersHere};
 ghost use Rattle.offpage_chain.specs.ChainChecks.{ChainChecks, IsChainPlace, IsChainPart, PageCheck, PartCheck};
-ghost use Rattle.offpage_chain.specs.Feeding.{IsFed};
 
 use crate::part::{is_part, next_part, part_bytes, part_length};
 use crate::reference::Reference;
@@ -106,6 +105,7 @@ fn check_pages<S: PageSource, L: Ledger>(
         IsFed text.old text.new (bytes_on file (chain_pages file reference.now)))) }
     ensures members { length marks.new ≡ length marks.old }
     ensures cost { steps.new + unmarked marks.new ≤ steps.old + unmarked marks.old + 1 }
+    ensures fewer { IfOk result (λ count. count + unmarked marks.new ≤ unmarked marks.old) }
     ensures spent { OnOk result (steps.new + unmarked marks.new ≤ steps.old + unmarked marks.old) }
     ensures over { HaltsOver S.PageSource source.old source.new result }
 {
@@ -152,6 +152,7 @@ pub fn check_chain<S: PageSource, L: Ledger>(
         Marked (is_set marks.old) marks.new (chain_pages file reference.now))) }
     ensures members { length marks.new ≡ length marks.old }
     ensures cost { steps.new + unmarked marks.new ≤ steps.old + unmarked marks.old + 1 }
+    ensures fewer { IfOk result (λ count. count + unmarked marks.new ≤ unmarked marks.old) }
     ensures spent { OnOk result (steps.new + unmarked marks.new ≤ steps.old + unmarked marks.old) }
     ensures over { HaltsOver S.PageSource source.old source.new result }
 {

@@ -9,11 +9,11 @@ use Rattle.std.proofs.lemmas.Option.{slice_get-get_or}
 use Rattle.std.proofs.lemmas.Bool.Decides.{nat_tests}
 use Rattle.column_values.specs.declared.field.Field.{Field}
 use Rattle.column_values.specs.declared.field.FieldType.TheVariants.{Child}
-use Rattle.column_values.specs.Types.{IsColumnType, AreListed, AreFields, CanFollow, IsFieldKind, is_big, nullable_count}
+use Rattle.column_values.specs.Types.{IsColumnType, AreListed, AreFields, CanFollow, IsFieldKind, is_big, nullable_count, child_field}
 use Rattle.schema_text.specs.declared.table.Column.{Column}
 use Rattle.schema_text.specs.TableDef.{TableDef, index_at}
 use Rattle.schema_text.specs.Grammar.{IsTable, IsKeyOf}
-use Rattle.schema_text.specs.IndexFields.{kept_field, leaving_field, row_id_field, trx_id_field, roll_pointer_field, child_field, columns_at, positions_without, clustered_positions, other_positions, kept_at, kept_fields, leaving_at, row_key, clustered_key, row_reference, clustered_rest, secondary_fields, key_fields, rest_fields, leaf_fields, node_fields}
+use Rattle.schema_text.specs.IndexFields.{kept_field, leaving_field, row_id_field, trx_id_field, roll_pointer_field, columns_at, positions_without, clustered_positions, other_positions, kept_at, kept_fields, leaving_at, row_key, clustered_key, row_reference, clustered_rest, secondary_fields, key_fields, rest_fields, leaf_fields, node_fields}
 
 abbrev among : List ℕ → ℕ → Bool
 among others i = list_any (λ j. j == i) others

@@ -3,7 +3,7 @@ use Rattle.std.specs.Prelude.{ℕ, ◌+◌, Bool, true, false, not, ◌==◌, if
 use Rattle.std.specs.List.{range_with_len, list_any, position_or_len}
 use Rattle.column_values.specs.declared.field.FieldType.TheVariants as fields
 use Rattle.column_values.specs.declared.field.Field.{Field}
-use Rattle.column_values.specs.Types.{Fields, is_big_kind, nullable_count}
+use Rattle.column_values.specs.Types.{Fields, is_big_kind, nullable_count, child_field}
 use Rattle.schema_text.specs.declared.table.Column.{Column}
 use Rattle.schema_text.specs.TableDef.{TableDef, index_at, clustered}
 
@@ -27,9 +27,6 @@ trx_id_field = record { kind = fields.TrxId; nullable = false; may_leave = false
 
 abbrev pub roll_pointer_field : Field
 roll_pointer_field = record { kind = fields.RollPointer; nullable = false; may_leave = false }
-
-abbrev pub child_field : Field
-child_field = record { kind = fields.Child; nullable = false; may_leave = false }
 
 -- the columns at these positions, as fields that stay, and as fields that may leave the page
 abbrev pub columns_at : List Column → List ℕ → List Column

@@ -147,9 +147,15 @@ fn reads_64_columns_16_indexes_and_16_keys_at_most(rt: HostRuntime) -> Result<()
 #[test]
 fn reads_65536_bytes_at_most(rt: HostRuntime) -> Result<(), Fail> {
     let alloc = rt.alloc();
-    for (size, why) in [(65_536, SchemaWhy::End), (65_537, SchemaWhy::Size)] {
-        let text = vec![in alloc; b'x'; size]?;
-        assert_eq!(rt; refusal(alloc, &text)?, Some((1, why)), "{size}");
+    let table = [
+        (b'x', 65_536, SchemaWhy::End),
+        (b'x', 65_537, SchemaWhy::Size),
+        (b'\n', 65_536, SchemaWhy::Form),
+        (b'\n', 65_537, SchemaWhy::Size),
+    ];
+    for (byte, size, why) in table {
+        let text = vec![in alloc; byte; size]?;
+        assert_eq!(rt; refusal(alloc, &text)?, Some((1, why)), "{byte} {size}");
     }
     Ok(())
 }
@@ -181,7 +187,8 @@ fn lists_the_fields_of_each_index(rt: HostRuntime) -> Result<(), Fail> {
     let alloc = rt.alloc();
     let schema = Schema::read(
         alloc,
-        b"table orders dynamic\ncolumn id int unsigned notnull\ncolumn day date null\ncolumn who varchar 40 null\ncolumn note text null\nclustered root 3 id\nindex by_who root 4 who id\n",
+        b"table orders dynamic\ncolumn id int unsigned notnull\ncolumn day date null\ncolumn who varchar 40 null\n\
+            column note text null\nclustered root 3 id\nindex by_who root 4 who id\n",
     )?;
     let hidden = Schema::read(
         alloc,
@@ -215,11 +222,20 @@ fn names_the_first_bad_line_4(rt: HostRuntime) -> Result<(), Fail> {
             None,
         ),
         (
-            b"table t dynamic\ncolumn a int notnull\nclustered root 3 a\nindex i0 root 4 a\nindex i1 root 5 a\nindex i2 root 6 a\nindex i3 root 7 a\nindex i4 root 8 a\nindex i5 root 9 a\nindex i6 root 10 a\nindex i7 root 11 a\nindex i8 root 12 a\nindex i9 root 13 a\nindex i10 root 14 a\nindex i11 root 15 a\nindex i12 root 16 a\nindex i13 root 17 a\nindex i14 root 18 a\nindex i15 root 19 a\n",
+            b"table t dynamic\ncolumn a int notnull\nclustered root 3 a\nindex i0 root 4 a\nindex i1 root 5 a\n\
+                index i2 root 6 a\nindex i3 root 7 a\nindex i4 root 8 a\nindex i5 root 9 a\nindex i6 root 10 a\n\
+                index i7 root 11 a\nindex i8 root 12 a\nindex i9 root 13 a\nindex i10 root 14 a\n\
+                index i11 root 15 a\nindex i12 root 16 a\nindex i13 root 17 a\nindex i14 root 18 a\n\
+                index i15 root 19 a\n",
             Some((19, SchemaWhy::Count)),
         ),
         (
-            b"table t dynamic\ncolumn c0 int notnull\ncolumn c1 int notnull\ncolumn c2 int notnull\ncolumn c3 int notnull\ncolumn c4 int notnull\ncolumn c5 int notnull\ncolumn c6 int notnull\ncolumn c7 int notnull\ncolumn c8 int notnull\ncolumn c9 int notnull\ncolumn c10 int notnull\ncolumn c11 int notnull\ncolumn c12 int notnull\ncolumn c13 int notnull\ncolumn c14 int notnull\ncolumn c15 int notnull\ncolumn c16 int notnull\nclustered root 3 c0 c1 c2 c3 c4 c5 c6 c7 c8 c9 c10 c11 c12 c13 c14 c15 c16\n",
+            b"table t dynamic\ncolumn c0 int notnull\ncolumn c1 int notnull\ncolumn c2 int notnull\n\
+                column c3 int notnull\ncolumn c4 int notnull\ncolumn c5 int notnull\ncolumn c6 int notnull\n\
+                column c7 int notnull\ncolumn c8 int notnull\ncolumn c9 int notnull\ncolumn c10 int notnull\n\
+                column c11 int notnull\ncolumn c12 int notnull\ncolumn c13 int notnull\ncolumn c14 int notnull\n\
+                column c15 int notnull\ncolumn c16 int notnull\n\
+                clustered root 3 c0 c1 c2 c3 c4 c5 c6 c7 c8 c9 c10 c11 c12 c13 c14 c15 c16\n",
             Some((19, SchemaWhy::Count)),
         ),
         (

@@ -1,12 +1,15 @@
 //! The fields of an index's records (rem0rec, dict0dict).
 
-ghost use Rattle.std.specs.Prelude.{◌≡◌, ◌<◌, ◌≤◌, ◌∷◌, ◌++◌, [], ℕ, List, length, map, take, All, IfOk, OnOk, IsTrue, ◌==◌};
+ghost use Rattle.std.specs.Prelude.{◌≡◌, ◌<◌, ◌≤◌, ◌∷◌, ◌++◌, [], ℕ, List, length, map, take, All, IfOk};
+ghost use Rattle.std.specs.Prelude.{OnOk, IsTrue, ◌==◌};
 ghost use Rattle.std.specs.List.{list_any, range_with_len};
 ghost use Rattle.column_values.specs.Types.{AreFields, AreListed, nullable_count, is_big_kind};
 ghost use Rattle.schema_text.specs.declared.table.Column.{Column};
 ghost use Rattle.schema_text.specs.TableDef.{index_at};
 ghost use Rattle.schema_text.specs.Grammar.{IsTable};
-ghost use Rattle.schema_text.specs.IndexFields.{kept_at, leaving_at, positions_without, row_key, clustered_key, secondary_fields, key_fields, rest_fields, index_fields};
+ghost use Rattle.schema_text.specs.IndexFields.{kept_at, leaving_at, positions_without, row_key};
+ghost use Rattle.schema_text.specs.IndexFields.{clustered_key, secondary_fields, key_fields, rest_fields};
+ghost use Rattle.schema_text.specs.IndexFields.{index_fields};
 
 use crate::table::{Column, IndexDef, Schema};
 use column_values::{Field, FieldList, FieldType};

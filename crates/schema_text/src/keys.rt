@@ -1,10 +1,12 @@
 //! The columns and the root of an index.
 
-ghost use Rattle.std.specs.Prelude.{◌≡◌, ◌≤◌, [], ℕ, List, length, drop, decimal, All, Any, IsTrue, IfOk, MatchResult, Some, None, ◌↔◌, Bool, true, false};
+ghost use Rattle.std.specs.Prelude.{◌≡◌, ◌≤◌, [], ℕ, List, length, drop, decimal, All, Any, IsTrue, IfOk};
+ghost use Rattle.std.specs.Prelude.{MatchResult, Some, None, ◌↔◌, Bool, true, false};
 ghost use Rattle.column_values.specs.Types.{is_long_kind};
 ghost use Rattle.schema_text.specs.declared.table.Column.{Column};
 ghost use Rattle.schema_text.specs.Grammar.{IsRoot};
-ghost use Rattle.schema_text.specs.Refusals.{KeyChecks, HasCounts, HasNewNames, HasKey, IsDeclared, IsNewRoot, columns_named, column_named};
+ghost use Rattle.schema_text.specs.Refusals.{KeyChecks, HasCounts, HasNewNames, HasKey, IsDeclared};
+ghost use Rattle.schema_text.specs.Refusals.{IsNewRoot, columns_named, column_named};
 ghost use Rattle.schema_text.specs.Cuts.{MayJoin, MakesKey, IsKeyStep, IsPlaceOf, ArePlacesOf, IsAmong};
 
 use crate::errors::SchemaWhy;

@@ -1,6 +1,7 @@
 //! Laws of the texts of schemas.
 
-ghost use Rattle.schema_text.specs.Laws.{ChecksHaveOneAnswer, GoodLinesSpell, HasOneSchema, HasOneText, LinesHaveOneTable, TextsPass, TextsReadBack};
+ghost use Rattle.schema_text.specs.Laws.{ChecksHaveOneAnswer, GoodLinesSpell, HasOneSchema, HasOneText};
+ghost use Rattle.schema_text.specs.Laws.{LinesHaveOneTable, ListsAreOfOneIndex, TextsPass, TextsReadBack};
 
 /// A schema has one text.
 pub fn has_one_text()
@@ -27,4 +28,9 @@ pub fn texts_pass()
 /// What is read of a schema's text is this schema, unless memory runs out.
 pub fn texts_read_back()
     ensures { TextsReadBack }
+{}
+
+/// The two field lists of an index belong together.
+pub fn lists_are_of_one_index()
+    ensures { ListsAreOfOneIndex }
 {}

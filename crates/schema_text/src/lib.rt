@@ -10,6 +10,8 @@ mod keys;
 pub mod laws;
 mod line;
 mod names;
+#[cfg(test)]
+mod orders;
 mod part;
 mod print;
 mod read;

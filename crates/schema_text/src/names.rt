@@ -1,6 +1,7 @@
 //! Names and roots that stand before a line or on it.
 
-ghost use Rattle.std.specs.Prelude.{◌≡◌, ◌≢◌, ◌≤◌, ◌<◌, ◌↔◌, [], ℕ, List, length, drop, slice_index_or, All, AllPairs, Any, IsTrue, position, bytes_eq, IfSome};
+ghost use Rattle.std.specs.Prelude.{◌≡◌, ◌≢◌, ◌≤◌, ◌<◌, ◌↔◌, [], ℕ, List, length, drop, slice_index_or};
+ghost use Rattle.std.specs.Prelude.{All, AllPairs, Any, IsTrue, position, bytes_eq, IfSome};
 ghost use Rattle.std.specs.Bool.{OnFalse};
 ghost use Rattle.std.specs.Option.{option_copied};
 ghost use Rattle.schema_text.specs.declared.table.Column.{Column};

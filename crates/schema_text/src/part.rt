@@ -27,9 +27,11 @@ impl Model for Part {
 
     ghost Value = { TableDef };
 
-    ghost view = { λ s. record { table = s.table; format = s.format; columns = s.columns.items; indexes = s.indexes.items } };
+    ghost view = { λ s.
+        record { table = s.table; format = s.format; columns = s.columns.items; indexes = s.indexes.items } };
 
-    ghost invariant = { λ s. IsPart (record { table = s.table; format = s.format; columns = s.columns.items; indexes = s.indexes.items }) };
+    ghost invariant = { λ s. IsPart
+        (record { table = s.table; format = s.format; columns = s.columns.items; indexes = s.indexes.items }) };
 }
 
 impl Part {

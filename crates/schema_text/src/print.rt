@@ -4,7 +4,8 @@ ghost use Rattle.std.specs.Prelude.{◌≡◌, ◌<◌, ◌∷◌, ◌++◌, [],
 ghost use Rattle.schema_text.specs.declared.table.Column.{Column};
 ghost use Rattle.schema_text.specs.declared.table.IndexDef.{IndexDef};
 ghost use Rattle.column_values.specs.declared.kind.ColumnType.TheVariants.{Int, Utf8Varchar, Utf8Text, Decimal};
-ghost use Rattle.schema_text.specs.Grammar.{space, line_of, int_word, long_prefix, type_words, column_words, table_words, schema_text};
+ghost use Rattle.schema_text.specs.Grammar.{space, line_of, int_word, long_prefix, type_words};
+ghost use Rattle.schema_text.specs.Grammar.{column_words, table_words, schema_text};
 ghost use Rattle.schema_text.specs.Printing.{spaced, names_at, clustered_by, index_by, HasKnownColumns};
 
 use crate::table::{Column, Format, IndexDef, Schema};

@@ -1,10 +1,15 @@
 //! Reading the text of a schema, line by line.
 
-ghost use Rattle.std.specs.Prelude.{◌≡◌, ◌+◌, ◌≤◌, ◌∷◌, ◌++◌, [], length, drop, OnOk, IfOk, IfErr, MatchResult, Some, None, codes, true, decimal, IsTrue, ◌↔◌, All, slice_index_or};
+ghost use Rattle.std.specs.Prelude.{◌≡◌, ◌+◌, ◌≤◌, ◌∷◌, ◌++◌, [], length, drop, OnOk, IfOk, IfErr};
+ghost use Rattle.std.specs.Prelude.{MatchResult, Some, None, codes, true, decimal, IsTrue, ◌↔◌, All};
+ghost use Rattle.std.specs.Prelude.{slice_index_or};
 ghost use Rattle.schema_text.specs.declared.errors.SchemaError.TheVariants.{Refused};
 ghost use Rattle.schema_text.specs.Grammar.{IsName, IsRoot, format_word, schema_words};
 ghost use Rattle.schema_text.specs.Parts.{IsPart};
-ghost use Rattle.schema_text.specs.Refusals.{words_of, is_column_line, is_clustered_line, is_index_line, FirstChecks, ColumnChecks, ClusteredLineChecks, IndexLineChecks, NextChecks, KeyChecks, IsClusteredForm, IsIndexForm, AreLinesOf, RefusedAt, ReadsAs};
+ghost use Rattle.schema_text.specs.Refusals.{words_of, is_column_line, is_clustered_line, is_index_line};
+ghost use Rattle.schema_text.specs.Refusals.{FirstChecks, ColumnChecks, ClusteredLineChecks};
+ghost use Rattle.schema_text.specs.Refusals.{IndexLineChecks, NextChecks, KeyChecks, IsClusteredForm};
+ghost use Rattle.schema_text.specs.Refusals.{IsIndexForm, AreLinesOf, RefusedAt, ReadsAs};
 ghost use Rattle.schema_text.specs.Cuts.{IsIndexRead, IsClusteredRead, IsIndexLineRead};
 
 use crate::checks::{check_column, format_of};

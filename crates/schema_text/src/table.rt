@@ -77,9 +77,11 @@ impl Model for Schema {
 
     ghost Value = { TableDef };
 
-    ghost view = { λ s. record { table = s.table; format = s.format; columns = s.columns.items; indexes = s.indexes.items } };
+    ghost view = { λ s.
+        record { table = s.table; format = s.format; columns = s.columns.items; indexes = s.indexes.items } };
 
-    ghost invariant = { λ s. IsTable (record { table = s.table; format = s.format; columns = s.columns.items; indexes = s.indexes.items }) };
+    ghost invariant = { λ s. IsTable
+        (record { table = s.table; format = s.format; columns = s.columns.items; indexes = s.indexes.items }) };
 }
 
 impl Schema {
@@ -92,7 +94,8 @@ impl Schema {
         columns: Vec<Column>,
         indexes: Vec<IndexDef>,
     ) -> Schema
-        requires { IsTable (record { table = table; format = format; columns = columns.items; indexes = indexes.items }) }
+        requires { IsTable
+            (record { table = table; format = format; columns = columns.items; indexes = indexes.items }) }
         ensures { result ≡ record { table = table; format = format; columns = columns.items; indexes = indexes.items } }
     {
         Schema {

@@ -1,6 +1,7 @@
 //! The words of a column's type.
 
-ghost use Rattle.std.specs.Prelude.{◌≡◌, ◌≤◌, [], ◌∷◌, ◌++◌, ◌⊎◌, List, ℕ, length, codes, IsTrue, IfOk, IfSome, Some, Err, ◌↔◌};
+ghost use Rattle.std.specs.Prelude.{◌≡◌, ◌≤◌, [], ◌∷◌, ◌++◌, ◌⊎◌, List, ℕ, length, codes, IsTrue, IfOk};
+ghost use Rattle.std.specs.Prelude.{IfSome, Some, Err, ◌↔◌};
 ghost use Rattle.column_values.specs.declared.kind.ColumnType.{ColumnType};
 ghost use Rattle.column_values.specs.Types.{IsWidth, IsLongLength, IsColumnType};
 ghost use Rattle.schema_text.specs.Grammar.{int_word, long_prefix, type_words};

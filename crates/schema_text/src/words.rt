@@ -1,6 +1,7 @@
 //! Words, names and numbers of a line.
 
-ghost use Rattle.std.specs.Prelude.{◌≡◌, ◌<◌, ◌^◌, ◌↔◌, ◌==◌, ◌∷◌, ◌++◌, List, ℕ, IsTrue, IfSome, IsSomeAnd, MatchOption, Some, decimal, position, bytes_eq};
+ghost use Rattle.std.specs.Prelude.{◌≡◌, ◌<◌, ◌^◌, ◌↔◌, ◌==◌, ◌∷◌, ◌++◌, List, ℕ, IsTrue, IfSome};
+ghost use Rattle.std.specs.Prelude.{IsSomeAnd, MatchOption, Some, decimal, position, bytes_eq};
 ghost use Rattle.schema_text.specs.Grammar.{IsName, IsNameByte, IsRoot};
 ghost use Rattle.schema_text.specs.Cuts.{Lacks, Parses, ParsesPart};
 

@@ -1,5 +1,5 @@
 -- The stages of the audit, in their order.
-use Rattle.std.proofs.Common.{◌≡◌, ℕ, ◌+◌, ◌*◌, ◌/◌, ◌<◌, ◌≤◌, List, [], ◌∷◌, ◌++◌, length, get_or, slice_get, map, filter, IfSome, take, take_all, Option, Some, None, Result, Ok, Err, IfOk, refl, sym, ◌∙◌, ap, subst, inl, inr, arith}
+use Rattle.std.proofs.Common.{◌≡◌, ℕ, ◌+◌, ◌<◌, ◌≤◌, List, [], ◌∷◌, ◌++◌, length, get_or, map, filter, IfSome, take, Option, Some, None, Result, Ok, Err, IfOk, refl, sym, ◌∙◌, ap, subst, inl, inr, arith}
 use Rattle.std.specs.List.{range_with_len}
 use Rattle.std.proofs.lemmas.List.{map-append, take_more, length-map}
 use Rattle.std.proofs.lemmas.List.FromFn.{fill_by_all}
@@ -19,10 +19,10 @@ use Rattle.extent_map.specs.declared.extent.Extent.{Extent}
 use Rattle.extent_map.specs.Head.{HeadChecks, HasHeader}
 use Rattle.extent_map.specs.Extents.{AreExtents, is_fragment_page, is_used}
 use Rattle.extent_map.specs.Descriptors.{AllDescriptorChecks}
-use Rattle.extent_map.proofs.Sound.{extents_sound}
+use Rattle.extent_map.specs.Laws.{DescriptorChecksAreSound, UsedPagesAreOfExtents}
 use Rattle.inode_segments.specs.declared.inode.Inode.{Inode}
 use Rattle.inode_segments.specs.Inodes.{segments, segment_id, inode_of, inodes_of}
-use Rattle.inode_segments.specs.InodeChecks.{AllInodeChecks, AreInodes}
+use Rattle.inode_segments.specs.InodeChecks.{AllInodeChecks}
 use Rattle.inode_segments.specs.Kept.{InodesView, AreKept}
 use Rattle.inode_segments.specs.Laws.{InodeChecksAreSound}
 use Rattle.space_audit.specs.Lists.{ListChecks}
@@ -169,15 +169,15 @@ audited file flags space head h is = record {
 }
 
 -- what is read is sound
-pub is_read : InodeChecksAreSound → (file : List ℕ) (header : SpaceHeader) (extents : List Extent)
-    (inodes : InodesView) → HasHeader file header → header.size ≤ 4194304
+pub is_read : DescriptorChecksAreSound → InodeChecksAreSound → (file : List ℕ) (header : SpaceHeader)
+    (extents : List Extent) (inodes : InodesView) → HasHeader file header → header.size ≤ 4194304
     → AreExtents file extents → AreKept file inodes → AllDescriptorChecks file None
     → AllInodeChecks file (is_fragment_page file) None
     → IsRead file extents inodes
-is_read law file header extents inodes has most are kept a b = record {
+is_read descriptors law file header extents inodes has most are kept a b = record {
   extents_are = are;
   inodes_are = kept;
-  extents_sound = extents_sound file a;
+  extents_sound = ((descriptors file).0 a).extents;
   inodes_sound = (law file (is_fragment_page file) (omega (arith, most, head_size file header has.same))).0 b;
 }
 
@@ -205,8 +205,8 @@ awaits_frames file header extents inodes owners slice has read same count are = 
   owners_are = subst (λ xs. AreOwners file xs) (sym same) are;
 }
 
-pub space_of_file : (file : List ℕ) (header : SpaceHeader) (extents : List Extent) (inodes : InodesView)
-    (owners kinds : List ℕ) (used : ℕ) (space : SpaceView)
+pub space_of_file : (file : List ℕ) → UsedPagesAreOfExtents → (header : SpaceHeader) (extents : List Extent)
+    (inodes : InodesView) (owners kinds : List ℕ) (used : ℕ) (space : SpaceView)
     → HasHeader file header → IsRead file extents inodes → length owners ≡ header.size → AreOwners file owners
     → (n : ℕ) → n ≡ length owners → AreKinds file n kinds used
     → space ≡ record {
@@ -219,7 +219,7 @@ pub space_of_file : (file : List ℕ) (header : SpaceHeader) (extents : List Ext
       segments = inodes.places;
     }
     → IsSpaceOf file space
-space_of_file file header extents inodes owners kinds used space has read count are n all found same =
+space_of_file file law header extents inodes owners kinds used space has read count are n all found same =
     let size : length owners ≡ size_of file = count ∙ head_size file header has.same in
     let pages : n ≡ size_of file = all ∙ size in
     record {
@@ -231,7 +231,7 @@ space_of_file file header extents inodes owners kinds used space has read count 
           (λ k l. let inside : k < length owners = omega (arith, l, size) in owner_kept owners k 0 Beyond inside
           ∙ are k inside);
       has_kinds = λ m u.
-          let below = used_in_size file read.extents_are.whole read.extents_sound m u in
+          let below = used_in_size file law read.extents_are.whole read.extents_sound m u in
           ap (λ (s : SpaceView). get_or s.kinds m 0) same ∙ found.kinds_are m (omega (arith, below, pages)) u;
       has_used = ap (λ (s : SpaceView). s.used) same
           ∙ (found.used_is ∙ ap (λ k. length (filter (is_used file) (range_with_len 0 k))) pages);

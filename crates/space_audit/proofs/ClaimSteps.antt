@@ -1,11 +1,8 @@
 -- The claims of slots, segment by segment, and the check of each page's holder.
-use Rattle.std.proofs.Common.{◌≡◌, ◌≢◌, ◌↔◌, ◌⊎◌, ℕ, zero, suc, ◌+◌, ◌*◌, ◌/◌, ◌%◌, ◌<◌, ◌≤◌, Bool, true, false, cond, ◌&&◌, ◌||◌, eqb, ◌==◌, List, [], ◌∷◌, ◌++◌, length, get_or, slice_get, map, take, take_all, All, Contains, Option, Some, None, refl, sym, ◌∙◌, ap, subst, inl, inr, arith, add-one, append-nil, append_assoc}
-use lib.ListN.{get_or-map}
+use Rattle.std.proofs.Common.{◌≡◌, ◌≢◌, ◌↔◌, ℕ, zero, suc, ◌+◌, ◌/◌, ◌%◌, ◌<◌, ◌≤◌, Bool, true, false, cond, ◌&&◌, ◌||◌, ◌==◌, List, [], ◌∷◌, ◌++◌, length, get_or, slice_get, map, take, take_all, Contains, Option, Some, None, refl, sym, ◌∙◌, ap, subst, inl, inr, arith, add-one, append-nil, append_assoc}
 use Rattle.std.specs.List.{range_with_len}
 use Rattle.std.proofs.lemmas.Bool.{cases_lt, false≢true}
-use Rattle.std.proofs.lemmas.Bool.Decides.{eqb_tells}
-use Rattle.std.proofs.lemmas.List.{length-map}
-use Rattle.std.proofs.lemmas.List.Elements.{All-contains, Contains-append_cases, Contains-append_left, Contains-append_right}
+use Rattle.std.proofs.lemmas.List.Elements.{All-contains, Contains-append_cases}
 use Rattle.std.proofs.lemmas.List.FromFn.{length-map-range_with_len, get_or-map-range_with_len}
 use Rattle.page_source.specs.declared.rule.Fault.{Fault}
 use Rattle.page_source.specs.Pages.{fil_null}
@@ -16,20 +13,21 @@ use Rattle.page_source.proofs.Times.{times_append, times_none, times_once}
 use Rattle.space_header.specs.declared.address.Address.{Address}
 use Rattle.space_header.specs.Header.{size_of, limit_of}
 use Rattle.extent_map.specs.declared.extent.Extent.{Extent}
-use Rattle.extent_map.specs.Extents.{AreExtents, extent_of, extent_count, is_used, IsUsed, used_in, is_fragment_extent, is_fragment_page, is_system_page}
+use Rattle.extent_map.specs.Extents.{extent_of, extent_count, is_used, IsUsed, used_in, is_fragment_extent, is_fragment_page, is_system_page}
 use Rattle.extent_map.specs.Descriptors.{IsExtent}
-use Rattle.extent_map.proofs.Used.{and_left, and_right, both_true, used_below, used_extent, used_in_has}
+use Rattle.extent_map.specs.Laws.{UsedPagesAreOfExtents}
 use Rattle.inode_segments.specs.declared.inode.Inode.{Inode}
-use Rattle.inode_segments.specs.Inodes.{inode_of, inodes_of, inode_pages, full_pages, free_pages, segments}
+use Rattle.inode_segments.specs.Inodes.{inode_of, inode_pages, full_pages, free_pages, segments}
 use Rattle.inode_segments.specs.InodeChecks.{AreInodes}
 use Rattle.inode_segments.specs.Kept.{InodesView, AreKept}
-use Rattle.space_audit.specs.Audit.{IsFragmentUse, IsSlot, SlotCheck, SlotsCheck, IsUsedFragment, fragment_claims}
+use Rattle.space_audit.specs.Audit.{IsFragmentUse, IsSlot, SlotCheck, SlotsCheck, fragment_claims}
 use Rattle.space_audit.specs.Holders.{Claim, inode_holder, no_holder, many_holders, held_after, AreHeld, claims_of, claims_from, claims_in, inode_claims, first_holder, IsOnce, IsHeld}
-use Rattle.space_audit.specs.Read.{IsRead}
 use Rattle.space_audit.proofs.ListSteps.{get_other, inode_there}
 use Rattle.space_audit.proofs.OwnerFacts.{get_at}
+use Rattle.space_audit.proofs.Fragments.{and_left, and_right, both_true, used_below, used_extent}
+use Rattle.space_audit.proofs.Claims.{used_in_has}
 use Rattle.space_audit.proofs.Held.{claimed_pages, Holders, held_one, held_none}
-use Rattle.space_audit.proofs.HeldOwners.{pages_claimed, mapped, whose, SlotClaim, once_is_claimed}
+use Rattle.space_audit.proofs.HeldOwners.{pages_claimed, mapped, whose, once_is_claimed}
 
 -- a used page of a fragment extent, by its extent's descriptor
 pub claimable : (file : List ℕ) (n : ℕ) (x : Extent) → extent_of file (n / 64) ≡ x → is_used file n ≡ true
@@ -192,12 +190,12 @@ holders_few file few = record {
 }
 
 -- a used page is below the size
-pub used_in_size : (file : List ℕ) → limit_of file % 64 ≡ 0
+pub used_in_size : (file : List ℕ) → UsedPagesAreOfExtents → limit_of file % 64 ≡ 0
     → ((e : ℕ) → e < extent_count file → IsExtent file e)
     → (n : ℕ) → IsUsed file n → n < size_of file
-used_in_size file whole sound n u =
+used_in_size file law whole sound n u =
     All-contains (λ m. m < size_of file) (used_in file (n / 64)) n
-    (sound (n / 64) (used_extent file n whole (used_below file n u))).within (used_in_has file n u)
+    (sound (n / 64) (used_extent file n whole (used_below file n u))).within (used_in_has file law n u)
 
 -- the holder of a page says whether it is claimed once
 pub holder_tells : (file : List ℕ) (extents : List Extent) (holders : List ℕ) (n : ℕ) → IsHeld file extents holders

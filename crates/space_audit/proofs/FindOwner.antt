@@ -1,8 +1,7 @@
 -- The owner of a page, as it is found.
-use Rattle.std.proofs.Common.{◌≡◌, ◌≢◌, ◌⊎◌, ℕ, suc, ◌+◌, ◌-◌, ◌*◌, ◌/◌, ◌%◌, ◌<◌, ◌≤◌, Bool, true, false, cond, nat_lt, eqb, ◌==◌, List, length, get_or, slice_get, map, Contains, Some, refl, sym, ◌∙◌, ap, subst, inl, inr, arith, lt-ltb}
-use Rattle.std.specs.List.{list_any, position_or_len}
+use Rattle.std.proofs.Common.{◌≡◌, ◌≢◌, ℕ, suc, ◌+◌, ◌-◌, ◌*◌, ◌/◌, ◌%◌, ◌<◌, ◌≤◌, Bool, true, false, cond, nat_lt, ◌==◌, List, length, get_or, slice_get, map, Contains, Some, refl, sym, ◌∙◌, ap, subst, inl, inr, arith, lt-ltb}
+use Rattle.std.specs.List.{list_any}
 use lib.ListN.{get_or-map}
-use Rattle.std.proofs.lemmas.Bool.{cases_lt}
 use Rattle.std.proofs.lemmas.Bool.Decides.{Decides-eqb, eqb_tells, leb_tells}
 use Rattle.std.proofs.lemmas.List.{length-map}
 use Rattle.std.proofs.lemmas.List.Sums.{prefix_len-le-length}
@@ -12,22 +11,22 @@ use Rattle.page_source.proofs.Times.{one_if}
 use Rattle.space_header.specs.declared.address.Address.{Address}
 use Rattle.space_header.specs.Header.{limit_of}
 use Rattle.extent_map.specs.declared.extent.Extent.{Extent}
-use Rattle.extent_map.specs.Extents.{extent_of, extent_count, extent_state, used_count, is_used, IsUsed, is_fragment_extent, is_system_page}
-use Rattle.extent_map.proofs.Used.{used_extent, used_below, state_fragment}
-use Rattle.inode_segments.specs.Inodes.{inode_pages, segments, segment_id, slot_pages}
+use Rattle.extent_map.specs.Extents.{extent_of, extent_count, extent_state, used_count, is_used, is_system_page}
+use Rattle.space_audit.proofs.Fragments.{state_fragment}
+use Rattle.inode_segments.specs.Inodes.{inode_pages, segments, slot_pages}
 use Rattle.inode_segments.specs.Kept.{InodesView}
 use Rattle.space_audit.specs.declared.owner.Owner.{Owner}
 use Rattle.space_audit.specs.declared.owner.Owner.TheVariants.{System, InodePage, Used, Spare, FragmentFree, FreeExtent, Beyond}
 use Rattle.space_audit.specs.Owners.{system_pages, owner_of, owner_in_segment, owner_in_fragment, segment_with_id, segment_with_slot, owner_by, owner_by_holder, owner_at_home, IsSmall}
-use Rattle.space_audit.specs.Audit.{IsUsedFragment, fragment_claims}
-use Rattle.space_audit.specs.Lists.{homes_of, home_part}
-use Rattle.space_audit.specs.Holders.{Claim, inode_holder, no_holder, many_holders, held_after, claims_in}
+use Rattle.space_audit.specs.Audit.{fragment_claims}
+use Rattle.space_audit.specs.Lists.{home_part}
+use Rattle.space_audit.specs.Holders.{inode_holder, no_holder, many_holders, held_after, claims_in}
 use Rattle.space_audit.specs.Read.{IsOwned}
 use Rattle.space_audit.proofs.OwnerFacts.{get_at, by_slot, no_other, not_any, contains_any}
 use Rattle.space_audit.proofs.HomeNumbers.{home_at, number_own, part_small}
 use Rattle.space_audit.proofs.ListSteps.{get_other}
-use Rattle.space_audit.proofs.Held.{claimed_pages, Holder, held_one}
-use Rattle.space_audit.proofs.HeldOwners.{fragment_times, whose, SlotClaim}
+use Rattle.space_audit.proofs.Held.{claimed_pages, held_one}
+use Rattle.space_audit.proofs.HeldOwners.{fragment_times, whose}
 use Rattle.space_audit.proofs.ReadExtents.{extent_is, extents_length}
 use Rattle.space_audit.proofs.Sound.{claims_sound}
 

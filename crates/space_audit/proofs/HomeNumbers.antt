@@ -1,5 +1,5 @@
 -- The extents with the number of a list are those whose home it is.
-use Rattle.std.proofs.Common.{◌≡◌, ◌≢◌, ◌↔◌, ℕ, zero, suc, [], ◌∷◌, ◌+◌, ◌-◌, ◌*◌, ◌/◌, ◌<◌, ◌≤◌, Bool, true, false, cond, ◌==◌, ◌&&◌, nat_lt, eqb, List, length, get_or, slice_get, map, filter, Contains, Option, Some, None, refl, sym, ◌∙◌, ap, subst, inl, inr, arith, lt-ltb, ltb-true, Result, Ok, Err}
+use Rattle.std.proofs.Common.{◌≡◌, ℕ, zero, suc, [], ◌∷◌, ◌+◌, ◌-◌, ◌*◌, ◌<◌, ◌≤◌, Bool, true, ◌==◌, ◌&&◌, nat_lt, List, length, get_or, slice_get, map, filter, Contains, Option, Some, None, refl, sym, ◌∙◌, ap, subst, inl, inr, arith, lt-ltb, ltb-true}
 use Rattle.std.specs.List.{range_with_len, position_or_len}
 use Rattle.std.proofs.lemmas.List.FromFn.{length-map-range_with_len, get_or-map-range_with_len}
 use Rattle.std.proofs.lemmas.List.{length-map}
@@ -7,9 +7,6 @@ use Rattle.std.proofs.lemmas.List.Sums.{passes_at_first, fails_before_first}
 use Rattle.std.proofs.lemmas.Bool.{cases_lt, false≢true}
 use Rattle.std.proofs.lemmas.Bool.Decides.{Decides-eqb, eqb_tells}
 use Rattle.page_source.specs.declared.rule.Fault.{Fault}
-use Rattle.page_source.specs.declared.checks.Stop.{Stop}
-use Rattle.page_source.specs.declared.checks.Stop.TheVariants as stops
-use Rattle.page_source.specs.Checks.{Answers}
 use Rattle.page_source.specs.Lists.{AreDistinct, HaveSameMembers}
 use Rattle.page_source.proofs.Members.{contains_filter, filter_contains, contains_range, range_contains, contains_there}
 use Rattle.space_header.specs.declared.address.Address.{Address}
@@ -17,11 +14,11 @@ use Rattle.space_header.specs.declared.address.Base.{Base}
 use Rattle.space_header.specs.declared.address.Node.{Node}
 use Rattle.extent_map.specs.Extents.{extent_of, extent_count, extent_state, used_count}
 use Rattle.extent_map.specs.Descriptors.{IsExtent}
-use Rattle.extent_map.proofs.Used.{and_left, and_right, both_true}
-use Rattle.inode_segments.specs.Inodes.{segments, segment_id, inode_of}
-use Rattle.space_audit.specs.Lists.{HomeList, HomeListChecks, ThreeChecks, at_home, extents_in_state, is_extent_of, segment_extents, free_extents, not_full_extents, full_extents, home_part, home_number, homes_of, numbered_list}
+use Rattle.space_audit.proofs.Fragments.{and_left, and_right, both_true}
+use Rattle.inode_segments.specs.Inodes.{segments, segment_id}
+use Rattle.space_audit.specs.Lists.{HomeListChecks, at_home, extents_in_state, is_extent_of, segment_extents, home_part, home_number, homes_of}
 use Rattle.space_audit.proofs.AtHome.{has_home, home_of_member}
-use Rattle.space_audit.proofs.OwnerFacts.{by_id, passes_there, get_at}
+use Rattle.space_audit.proofs.OwnerFacts.{by_id, passes_there}
 
 pub homes_length : (file : List ℕ) → length (homes_of file) ≡ extent_count file
 unfolding homes_of

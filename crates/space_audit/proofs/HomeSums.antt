@@ -1,20 +1,19 @@
 -- The used pages of the extents with a home.
-use Rattle.std.proofs.Common.{◌≡◌, ℕ, ◌+◌, ◌-◌, ◌*◌, ◌<◌, ◌≤◌, Bool, true, false, cond, ◌&&◌, nat_lt, ◌==◌, List, [], ◌∷◌, ◌++◌, length, get_or, slice_get, map, filter, sum_by, take, Contains, Option, Some, None, refl, sym, ◌∙◌, ap, subst, inl, inr, arith}
+use Rattle.std.proofs.Common.{◌≡◌, ℕ, ◌+◌, ◌*◌, ◌<◌, Bool, true, false, cond, ◌&&◌, nat_lt, ◌==◌, List, [], ◌∷◌, get_or, slice_get, filter, sum_by, take, Contains, Some, None, refl, sym, ◌∙◌, ap, subst, inl, inr, arith}
 use Rattle.std.specs.List.{range_with_len}
 use Rattle.std.proofs.lemmas.Bool.{cases_lt}
 use Rattle.std.proofs.lemmas.List.Sums.{sum_by-cons}
-use Rattle.page_source.specs.declared.rule.Fault.{Fault}
-use Rattle.page_source.specs.Lists.{AreDistinct, HaveSameMembers}
+use Rattle.page_source.specs.Lists.{HaveSameMembers}
 use Rattle.page_source.proofs.Members.{contains_here, contains_there, contains_filter, filter_contains, range_contains}
 use Rattle.space_header.specs.declared.address.Address.{Address}
 use Rattle.extent_map.specs.declared.extent.Extent.{Extent}
 use Rattle.extent_map.specs.Extents.{extent_count, used_count}
-use Rattle.extent_map.proofs.Used.{used_few}
+use Rattle.extent_map.specs.Laws.{UsedPagesAreOfExtents}
 use Rattle.inode_segments.specs.declared.inode.Inode.{Inode}
 use Rattle.inode_segments.specs.Inodes.{segments, segment_id}
 use Rattle.inode_segments.specs.Kept.{InodesView}
 use Rattle.space_audit.specs.Lists.{HomesView, AreHomes, at_home, homes_of, uses_of, used_at_home, extents_in_state, is_extent_of, segment_extents, not_full_extents}
-use Rattle.space_audit.specs.Audit.{HasFragmentCount, HasNotFullCount, CountCheck}
+use Rattle.space_audit.specs.Audit.{HasNotFullCount, CountCheck}
 use Rattle.space_audit.specs.Read.{IsRead}
 use Rattle.space_audit.proofs.HomeNumbers.{space_home, own_home, homes_length, part_of_some, some_of_part}
 use Rattle.space_audit.proofs.ListSteps.{get_some}
@@ -82,17 +81,18 @@ unfolding extents_in_state
 fragment_sum file extents inodes homes h are =
     home_sum file homes 1 _ are (space_home file h.extents_sound 2 (omega arith) (omega arith))
 
-pub not_full_sum : (file : List ℕ) (extents : List Extent) (inodes : InodesView) (homes : HomesView) (s : ℕ)
+pub not_full_sum : (file : List ℕ) → UsedPagesAreOfExtents → (extents : List Extent) (inodes : InodesView)
+    (homes : HomesView) (s : ℕ)
     (place : Address)
     → IsRead file extents inodes → AreHomes file homes → slice_get (segments file) s ≡ Some place
     → used_at_home homes (3 + 3 * s + 1) ≡ sum_by (used_count file) (not_full_extents file place)
 unfolding segment_extents
-not_full_sum file extents inodes homes s place h are g =
+not_full_sum file law extents inodes homes s place h are g =
     let test = λ (k : ℕ). nat_lt 0 k && nat_lt k 64 in
     let all = range_with_len 0 (extent_count file) in
     let own = is_extent_of file (segment_id file place) in
     let members = own_home file h.extents_sound h.inodes_sound.distinct s place g 1 test (omega arith) part_of_some
-    some_of_part (used_few file) in
+    some_of_part (λ e. (law file e).few) in
     let list : filter (λ e. test (used_count file e)) (filter own all) ≡ filter
     (λ e. own e && test (used_count file e)) all =
     filter_twice (λ e. test (used_count file e)) own all in
@@ -104,16 +104,17 @@ not_full_sum file extents inodes homes s place h are g =
     ∙ ap (λ xs. sum_by (used_count file) xs) (sym list)
 
 -- the stated count of a segment
-pub segment_sum : (file : List ℕ) (extents : List Extent) (inodes : InodesView) (homes : HomesView) (s : ℕ)
+pub segment_sum : (file : List ℕ) → UsedPagesAreOfExtents → (extents : List Extent) (inodes : InodesView)
+    (homes : HomesView) (s : ℕ)
     (place : Address) (inode : Inode)
     → IsRead file extents inodes → AreHomes file homes → IsSegment file s place inode
     → (stated : ℕ) → stated ≡ used_at_home homes (3 + 3 * s + 1)
     → (HasNotFullCount file place → inode.not_full_used ≡ stated)
     × (inode.not_full_used ≡ stated → HasNotFullCount file place)
-segment_sum file extents inodes homes s place inode h are is stated e =
+segment_sum file law extents inodes homes s place inode h are is stated e =
     let g : slice_get (segments file) s ≡ Some place =
     get_some (segments file) s place is.inside ∙ ap (λ p. Some p) (is.place_is place) in
-    let sum = e ∙ not_full_sum file extents inodes homes s place h are g in
+    let sum = e ∙ not_full_sum file law extents inodes homes s place h are g in
     let number = ap (λ (i : Inode). i.not_full_used) is.inode_is in
     ((λ has. number ∙ (has ∙ sym sum)), (λ same. sym number ∙ (same ∙ sum)))
 

@@ -1,3 +1,4 @@
+pub mod Fragments
 pub mod AtHome
 pub mod Claims
 pub mod OwnerFacts

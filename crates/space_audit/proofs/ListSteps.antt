@@ -1,27 +1,26 @@
 -- The checks of lists by numbers are those of the file's lists.
-use Rattle.std.proofs.Common.{◌≡◌, ◌↔◌, ℕ, zero, suc, [], ◌∷◌, ◌+◌, ◌*◌, ◌<◌, ◌≤◌, ◌==◌, ◌&&◌, nat_lt, List, length, get_or, slice_get, map, take, Contains, Option, Some, None, refl, sym, ◌∙◌, ap, subst, inl, inr, arith, Result, Ok, Err}
+use Rattle.std.proofs.Common.{◌≡◌, ℕ, zero, suc, [], ◌∷◌, ◌+◌, ◌*◌, ◌<◌, ◌≤◌, ◌==◌, ◌&&◌, nat_lt, List, length, get_or, slice_get, map, take, Option, Some, None, refl, sym, ◌∙◌, ap, subst, inl, inr, arith, Result, Ok, Err}
 use Rattle.std.proofs.lemmas.Bool.Decides.{Decides-eqb}
 use Rattle.std.proofs.lemmas.Bool.{cases_lt}
 use Rattle.page_source.specs.declared.rule.Fault.{Fault}
 use Rattle.page_source.specs.declared.checks.Stop.{Stop}
 use Rattle.page_source.specs.declared.checks.Stop.TheVariants as stops
 use Rattle.page_source.specs.Checks.{Answers, Stops}
-use Rattle.page_source.specs.Verdict.{Then, Each, EachOf, AllBefore, AllBelow}
+use Rattle.page_source.specs.Verdict.{Then, Each, AllBefore}
 use Rattle.page_source.specs.Lists.{AreDistinct, HaveSameMembers}
 use Rattle.space_header.specs.declared.address.Address.{Address}
-use Rattle.space_header.specs.declared.address.Base.{Base}
 use Rattle.space_header.specs.declared.address.Node.{Node}
 use Rattle.space_header.specs.declared.header.SpaceHeader.{SpaceHeader}
 use Rattle.space_header.specs.Header.{head_of}
 use Rattle.inode_segments.specs.declared.inode.Inode.{Inode}
 use Rattle.extent_map.specs.Extents.{extent_count, used_count}
 use Rattle.extent_map.specs.Descriptors.{IsExtent}
-use Rattle.extent_map.proofs.Used.{used_few}
+use Rattle.extent_map.specs.Laws.{UsedPagesAreOfExtents}
 use Rattle.inode_segments.specs.Inodes.{segments, segment_id, inode_of, inodes_of}
-use Rattle.inode_segments.specs.Kept.{InodesView, AreKept}
+use Rattle.inode_segments.specs.Kept.{InodesView}
 use lib.ListN.{get_or-map}
 use Rattle.std.proofs.lemmas.List.{length-map}
-use Rattle.space_audit.specs.Lists.{HomeList, HomeListChecks, ThreeChecks, SegmentListsCheck, HomeCheck, HasHome, NumberCheck, ListChecks, IsListed, at_home, free_list, free_frag_list, full_frag_list, free_extents, not_full_extents, full_extents, segment_extents, homes_of, numbered_list}
+use Rattle.space_audit.specs.Lists.{HomeList, HomeListChecks, ThreeChecks, SegmentListsCheck, HomeCheck, NumberCheck, ListChecks, IsListed, at_home, free_list, free_frag_list, full_frag_list, free_extents, not_full_extents, full_extents, homes_of, numbered_list}
 use Rattle.extent_map.specs.Extents.{extent_nodes}
 use Rattle.space_audit.proofs.OwnerFacts.{get_at}
 use Rattle.space_audit.proofs.HomeNumbers.{space_home, own_home, same_home_checks, homes_length, home_at, home_from_number, number_from_home, part_free, part_full, part_of_free, part_of_full, part_of_some, some_of_part}
@@ -74,7 +73,7 @@ space_same file x =
     (space_home file x 3 (omega arith) (omega arith)))
 
 -- those of a segment
-segment_same : (file : List ℕ) → ((e : ℕ) → e < extent_count file → IsExtent file e)
+segment_same : (file : List ℕ) → UsedPagesAreOfExtents → ((e : ℕ) → e < extent_count file → IsExtent file e)
     → AreDistinct (map (segment_id file) (segments file)) → (s : ℕ) (place : Address)
     → slice_get (segments file) s ≡ Some place
     → (before : List Address) (v : Option Fault)
@@ -82,13 +81,14 @@ segment_same : (file : List ℕ) → ((e : ℕ) → e < extent_count file → Is
     (3 + 3 * s)) (numbered_list (homes_of file) (inode_of file place).not_full place.page (3 + 3 * s + 1))
     (numbered_list (homes_of file) (inode_of file place).full place.page (3 + 3 * s + 2)) v
     → SegmentListsCheck file before place v
-segment_same file x d s place g before =
+segment_same file law x d s place g before =
+    let used_few : (e : ℕ) → used_count file e ≤ 64 = λ e. (law file e).few in
     let free = own_home file x d s place g 0 (λ k. k == 0) (omega arith) part_of_free
-    (λ k h _. (Decides-eqb k 0).1 (part_free k h)) (used_few file) in
+    (λ k h _. (Decides-eqb k 0).1 (part_free k h)) used_few in
     let some = own_home file x d s place g 1 (λ k. nat_lt 0 k && nat_lt k 64) (omega arith) part_of_some
-    some_of_part (used_few file) in
+    some_of_part used_few in
     let full = own_home file x d s place g 2 (λ k. k == 64) (omega arith) part_of_full
-    (λ k h _. (Decides-eqb k 64).1 (part_full k h)) (used_few file) in
+    (λ k h _. (Decides-eqb k 64).1 (part_full k h)) used_few in
     let at0 : 3 + (3 * s + 0) ≡ 3 + 3 * s = omega arith in
     let at1 : 3 + (3 * s + 1) ≡ 3 + 3 * s + 1 = omega arith in
     let at2 : 3 + (3 * s + 2) ≡ 3 + 3 * s + 2 = omega arith in
@@ -130,14 +130,15 @@ inode_there file s e f h =
     (subst (λ n. s < n) (sym (length-map (segments file) (inode_of file))) h)
     ∙ get_or-map (inode_of file) (segments file) s f
 
-pub listed_segment : (file : List ℕ) (header : SpaceHeader) (inodes : InodesView) (nodes : List Node) (homes : List ℕ)
+pub listed_segment : (file : List ℕ) → UsedPagesAreOfExtents → (header : SpaceHeader) (inodes : InodesView)
+    (nodes : List Node) (homes : List ℕ)
     → IsListed file header inodes nodes homes → (s : ℕ) (place : Address) (inode : Inode) (before : List Address)
     → slice_get inodes.places s ≡ Some place → slice_get inodes.inodes s ≡ Some inode → (v : Option Fault)
     → ThreeChecks nodes (numbered_list homes inode.free place.page (3 + 3 * s))
     (numbered_list homes inode.not_full place.page (3 + 3 * s + 1))
     (numbered_list homes inode.full place.page (3 + 3 * s + 2)) v
     → (f : Address) → SegmentListsCheck file before (get_or (segments file) s f) v
-listed_segment file header inodes nodes homes h s place inode before p i v x f =
+listed_segment file law header inodes nodes homes h s place inode before p i v x f =
     let at_place = get_at inodes.places s place p in
     let at_inode = get_at inodes.inodes s inode i in
     let inside : s < length (segments file) = subst (λ xs. s < length xs) h.inodes_are.places at_place.0 in
@@ -146,7 +147,7 @@ listed_segment file header inodes nodes homes h s place inode before p i v x f =
     let i2 : inode ≡ inode_of file (get_or (segments file) s f) =
     sym (at_inode.1 inode) ∙ (ap (λ xs. get_or xs s inode) h.inodes_are.inodes
     ∙ inode_there file s inode f inside) in
-    segment_same file h.extents h.distinct s (get_or (segments file) s f) g before v
+    segment_same file law h.extents h.distinct s (get_or (segments file) s f) g before v
     (rw (i2, p2, h.nodes_are, h.homes_are) at x)
 
 -- where the lists of the space or those of a segment break, the checks do

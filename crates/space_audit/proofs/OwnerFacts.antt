@@ -1,5 +1,5 @@
 -- A segment uses exactly the used pages that it claims.
-use Rattle.std.proofs.Common.{◌≡◌, ◌≢◌, ◌⊎◌, ◌↔◌, ℕ, zero, suc, ◌+◌, ◌*◌, ◌/◌, ◌%◌, ◌<◌, ◌≤◌, Bool, true, false, cond, not, ◌&&◌, ◌||◌, nat_lt, ◌==◌, eqb, List, [], ◌∷◌, ◌++◌, length, get_or, slice_get, map, flat_map, filter, sum_by, All, Contains, Option, Some, None, refl, sym, ◌∙◌, ap, subst, inl, inr, arith, lt-ltb}
+use Rattle.std.proofs.Common.{◌≡◌, ◌⊎◌, ℕ, zero, suc, ◌+◌, ◌/◌, ◌<◌, ◌≤◌, Bool, true, false, cond, ◌||◌, nat_lt, ◌==◌, List, [], ◌∷◌, ◌++◌, length, get_or, slice_get, map, flat_map, sum_by, Contains, Some, refl, sym, ◌∙◌, ap, subst, inl, inr, arith, lt-ltb}
 use Rattle.std.specs.List.{range_with_len, list_any, position_or_len}
 use lib.ListN.{get_or-map}
 use Rattle.std.proofs.lemmas.List.{length-map}
@@ -11,16 +11,16 @@ use Rattle.page_source.specs.Lists.{AreDistinct, times_in}
 use Rattle.page_source.proofs.Members.{contains_none, contains_here, contains_there, contains_cases, contains_filter, filter_contains, contains_range, contains_flat_map, flat_map_contains}
 use Rattle.page_source.proofs.Times.{times_append, times_flat_map, times_some}
 use Rattle.space_header.specs.declared.address.Address.{Address}
-use Rattle.space_header.specs.Header.{limit_of, size_of}
+use Rattle.space_header.specs.Header.{limit_of}
 use Rattle.extent_map.specs.Extents.{extent_of, extent_count, extent_state, is_used, IsUsed, used_in, is_fragment_extent, is_system_page}
-use Rattle.extent_map.proofs.Used.{and_left, and_right, both_true, used_below, used_extent, used_in_has, used_in_only, fragment_not_own}
+use Rattle.space_audit.proofs.Fragments.{and_left, and_right, both_true, used_below, used_extent, fragment_not_own}
 use Rattle.inode_segments.specs.Inodes.{inode_pages, segments, segment_id, slot_pages}
 use Rattle.space_audit.specs.declared.owner.Owner.{Owner}
 use Rattle.space_audit.specs.declared.owner.Owner.TheVariants.{System, InodePage, Used, Spare, FragmentFree, FreeExtent, Beyond}
 use Rattle.space_audit.specs.Lists.{is_extent_of, segment_extents}
 use Rattle.space_audit.specs.Owners.{system_pages, claim_of, owner_of, owner_in_segment, owner_in_fragment, segment_with_id, segment_with_slot, IsUsedBy}
 use Rattle.space_audit.specs.Audit.{IsFragmentUse, IsUsedFragment, fragment_claims}
-use Rattle.space_audit.proofs.Claims.{HasClaims, fragment_use}
+use Rattle.space_audit.proofs.Claims.{HasClaims, fragment_use, used_in_has, used_in_only}
 
 -- the member at a place
 pub get_at : {X : Type 0} (xs : List X) (s : ℕ) (x : X) → slice_get xs s ≡ Some x
@@ -97,7 +97,7 @@ own_claim file h n place u t =
     (flat_map_contains (used_in file) (segment_extents file place) (n / 64) n
     (contains_filter (is_extent_of file (segment_id file place)) (range_with_len 0 (extent_count file)) (n / 64)
     (contains_range (extent_count file) (n / 64) e) t)
-    (used_in_has file n u))
+    (used_in_has file h.used_pages n u))
 
 slot_claim : (file : List ℕ) (n : ℕ) (place : Address) → Contains (slot_pages file place) n
     → Contains (claim_of file place) n
@@ -261,7 +261,7 @@ claimed_is_used file h c n s place g k u =
           slot
       | inr page ↦
           let q = contains_flat_map (used_in file) (segment_extents file place) n page in
-          let e = (used_in_only file q.piece n q.member).0 in
+          let e = (used_in_only file h.used_pages q.piece n q.member).0 in
           let t = (filter_contains (is_extent_of file (segment_id file place))
           (range_with_len 0 (extent_count file)) q.piece q.among).1 in
           extent_owner file h n s place g u (subst (λ x. is_extent_of file (segment_id file place) x ≡ true) (sym e)

@@ -1,14 +1,11 @@
 -- The frames and types of pages.
-use Rattle.std.proofs.Common.{◌≡◌, ℕ, ◌+◌, ◌/◌, ◌%◌, ◌<◌, ◌≤◌, Bool, true, false, cond, not, ◌&&◌, nat_lt, List, [], ◌∷◌, ◌++◌, length, get_or, take, drop, filter, count_by, is_some, Contains, Option, Some, None, refl, sym, ◌∙◌, ap, subst, inl, inr, arith, lt-ltb}
-use Rattle.std.specs.List.{range_with_len, list_any}
+use Rattle.std.proofs.Common.{◌≡◌, ℕ, ◌+◌, ◌/◌, ◌<◌, ◌≤◌, Bool, true, false, cond, not, ◌&&◌, List, [], ◌∷◌, ◌++◌, length, get_or, take, drop, count_by, is_some, Contains, Option, Some, None, refl, sym, ◌∙◌, ap, subst, inl, inr, arith, lt-ltb}
 use Rattle.std.specs.Option.{unwrap_or}
 use Rattle.std.proofs.lemmas.List.{get_or_append_left, take-append-drop}
 use Rattle.std.proofs.Math.Seq.{get_or-append_seam}
 use Rattle.std.proofs.lemmas.List.Sums.{sum_by-append, count_by_more_yes, count_by_more_no}
 use Rattle.std.proofs.lemmas.Bool.{cases_lt, false≢true}
-use Rattle.std.proofs.lemmas.Bool.Decides.{eqb_tells}
 use Rattle.std.proofs.lemmas.List.Elements.{All-contains, Contains-append_cases}
-use Rattle.page_source.specs.declared.rule.Fault.{Fault}
 use Rattle.page_source.specs.declared.checks.Stop.{Stop}
 use Rattle.page_source.specs.declared.checks.Stop.TheVariants as stops
 use Rattle.page_source.specs.Checks.{Stops}
@@ -17,18 +14,18 @@ use Rattle.page_source.proofs.Members.{count_more_yes, count_more_no}
 use Rattle.page_source.specs.Pages.{page_of}
 use Rattle.page_source.specs.Lists.{flag_in, unmarked}
 use Rattle.fil_frame.specs.Frame.{kind_of}
-use Rattle.fil_frame.specs.Kinds.{inode_kind}
 use Rattle.space_header.specs.Header.{limit_of}
 use Rattle.extent_map.specs.declared.extent.Extent.{Extent}
-use Rattle.extent_map.specs.Extents.{is_used, IsUsed, is_fragment_page, is_fragment_extent, is_system_page, extent_state}
-use Rattle.extent_map.proofs.Used.{fragment_used, fragment_extent, used_below, and_right}
+use Rattle.extent_map.specs.Extents.{is_used, IsUsed, is_fragment_page, is_fragment_extent, is_system_page}
+use Rattle.extent_map.specs.Laws.{UsedPagesAreOfExtents}
 use Rattle.inode_segments.specs.Inodes.{inode_pages, full_pages, free_pages}
 use Rattle.inode_segments.specs.InodeChecks.{AreInodes, IsInodePage}
 use Rattle.inode_segments.specs.Kept.{InodesView, AreKept}
 use Rattle.space_audit.specs.declared.owner.Owner.TheVariants.{InodePage}
 use Rattle.space_audit.specs.Owners.{owner_of}
-use Rattle.space_audit.specs.Audit.{PageChecks, FrameCheck, FrameChecks, IsKindFor}
+use Rattle.space_audit.specs.Audit.{FrameCheck, FrameChecks, IsKindFor}
 use Rattle.space_audit.specs.Read.{IsKind, AreKinds, AwaitsFrames, fetches_at}
+use Rattle.space_audit.proofs.Fragments.{fragment_used, fragment_extent, used_below, and_right}
 use Rattle.space_audit.proofs.ClaimSteps.{used_in_size}
 use Rattle.space_audit.proofs.OwnerFacts.{not_one, not_four, contains_any}
 
@@ -109,11 +106,12 @@ cost_all pages n =
     omega (arith, both, sum_by-append (λ b. cond (not b) 1 0) (take n pages) (drop n pages))
 
 -- all used pages are below the size
-pub frames_hold : (file : List ℕ) (space : ℕ) (extents : List Extent) (inodes : InodesView) (owners : List ℕ)
+pub frames_hold : (file : List ℕ) → UsedPagesAreOfExtents → (space : ℕ) (extents : List Extent)
+    (inodes : InodesView) (owners : List ℕ)
     → AwaitsFrames file space extents inodes owners → ((j : ℕ) → j < length owners → FrameCheck file j None)
     → FrameChecks file None
-frames_hold file space extents inodes owners h below j l u =
-    let inside = used_in_size file h.read.extents_are.whole h.read.extents_sound j u in
+frames_hold file law space extents inodes owners h below j l u =
+    let inside = used_in_size file law h.read.extents_are.whole h.read.extents_sound j u in
     below j (omega (arith, inside, h.size_is)) u
 
 -- the type of one more page

@@ -1,21 +1,19 @@
 -- The audit finds nothing exactly in a sound space.
-use Rattle.std.proofs.Common.{◌≡◌, ◌↔◌, ℕ, ◌+◌, ◌/◌, ◌%◌, ◌<◌, ◌≤◌, true, List, length, map, slice_get, All, Contains, Some, None, refl, sym, ◌∙◌, ap, subst, arith}
-use Rattle.page_source.specs.Lists.{AreDistinct, times_in}
-use Rattle.fil_frame.specs.Frame.{Framed}
+use Rattle.std.proofs.Common.{◌≡◌, ◌↔◌, ℕ, ◌<◌, List, slice_get, All, Contains, Some, None}
+use Rattle.page_source.specs.Lists.{times_in}
 use Rattle.space_header.specs.declared.address.Address.{Address}
 use Rattle.space_header.specs.Header.{size_of, limit_of}
-use Rattle.extent_map.specs.Head.{IsHead, IsSize, IsLimit}
 use Rattle.extent_map.specs.Extents.{IsUsed, extent_count, is_fragment_page}
-use Rattle.extent_map.proofs.Used.{used_below}
-use Rattle.extent_map.proofs.Sound.{head_sound, head_checks, descriptors_sound, extents_sound, descriptor_checks}
-use Rattle.inode_segments.specs.Inodes.{segments, segment_id, inode_of}
+use Rattle.extent_map.specs.Laws.{HeadChecksAreSound, DescriptorChecksAreSound, UsedPagesAreOfExtents}
+use Rattle.inode_segments.specs.Inodes.{segments, inode_of}
 use Rattle.inode_segments.specs.InodeChecks.{AreInodes}
 use Rattle.inode_segments.specs.Laws.{InodeChecksAreSound}
 use Rattle.space_header.specs.declared.address.Node.{Node}
 use Rattle.space_audit.specs.Lists.{HomeList, ListChecks, HomeListChecks, ThreeChecks, HoldThree, HasHome, free_list, free_frag_list, full_frag_list, segment_free_list, segment_not_full_list, segment_full_list}
 use Rattle.extent_map.specs.Extents.{extent_nodes}
-use Rattle.space_audit.specs.Owners.{claim_of, claims, IsPartition, IsUsedBy}
-use Rattle.space_audit.specs.Audit.{UseChecks, OwnerChecks, AuditChecks, FrameChecks, HasExtents, HasOwners, HasFrames, HasAllowedKind, IsSlot, IsUsedFragment, HasFragmentCount, HasNotFullCount, fragment_claims, IsSoundSpace}
+use Rattle.space_audit.specs.Owners.{claim_of, IsPartition, IsUsedBy}
+use Rattle.space_audit.specs.Audit.{UseChecks, OwnerChecks, AuditChecks, HasExtents, IsSlot, IsUsedFragment, HasFragmentCount, HasNotFullCount, fragment_claims, IsSoundSpace}
+use Rattle.space_audit.proofs.Fragments.{used_below}
 use Rattle.space_audit.proofs.Claims.{HasClaims, partition, fragment_once, used_within}
 use Rattle.space_audit.proofs.OwnerFacts.{used_is_claimed, claimed_is_used}
 
@@ -81,6 +79,13 @@ use_checks : (file : List ℕ) → All (λ place. All (IsSlot file) (inode_of fi
 unfolding UseChecks
 use_checks file a b c d = (a, ((b, c), d))
 
+-- the laws of the crates below
+pub record HasLaws : Type 0 where
+  pub head : HeadChecksAreSound
+  pub descriptors : DescriptorChecksAreSound
+  pub inodes : InodeChecksAreSound
+  pub used_pages : UsedPagesAreOfExtents
+
 -- what the checks of ownership leave known
 pub record Owned (file : List ℕ) (flags : ℕ) : Type 0 where
   pub extents : HasExtents file flags
@@ -88,35 +93,33 @@ pub record Owned (file : List ℕ) (flags : ℕ) : Type 0 where
   pub lists : ListChecks file None
   pub uses : UseChecks file None
 
-pub owned : InodeChecksAreSound → (file : List ℕ) (flags : ℕ) → OwnerChecks file flags None → Owned file flags
+pub owned : HasLaws → (file : List ℕ) (flags : ℕ) → OwnerChecks file flags None → Owned file flags
 unfolding OwnerChecks
-owned law file flags h =
-    let head = head_sound file flags h.0 in
+owned laws file flags h =
+    let head = (laws.head file flags).0 h.0 in
+    let described = (laws.descriptors file).0 h.1.0 in
     record {
-      extents = record {
-        head = head;
-        descriptors = descriptors_sound file h.1.0;
-        extents = extents_sound file h.1.0;
-      };
-      inodes = (law file (is_fragment_page file) head.size.most).0 h.1.1.0;
+      extents = record { head = head; descriptors = described.pages; extents = described.extents };
+      inodes = (laws.inodes file (is_fragment_page file) head.size.most).0 h.1.1.0;
       lists = h.1.1.1.0;
       uses = h.1.1.1.1;
     }
 
-owner_checks : InodeChecksAreSound → (file : List ℕ) (flags : ℕ) → HasExtents file flags
+owner_checks : HasLaws → (file : List ℕ) (flags : ℕ) → HasExtents file flags
     → AreInodes file (is_fragment_page file) → ListChecks file None → UseChecks file None
     → OwnerChecks file flags None
 unfolding OwnerChecks
-owner_checks law file flags e i l u = (
-  head_checks file flags e.head,
+owner_checks laws file flags e i l u = (
+  (laws.head file flags).1 e.head,
   (
-    descriptor_checks file e.descriptors e.extents,
-    ((law file (is_fragment_page file) e.head.size.most).1 i, (l, u)),
+    (laws.descriptors file).1 (record { pages = e.descriptors; extents = e.extents }),
+    ((laws.inodes file (is_fragment_page file) e.head.size.most).1 i, (l, u)),
   ),
 )
 
-pub has_claims : (file : List ℕ) (flags : ℕ) → Owned file flags → HasClaims file
-has_claims file flags h = record {
+pub has_claims : HasLaws → (file : List ℕ) (flags : ℕ) → Owned file flags → HasClaims file
+has_claims laws file flags h = record {
+  used_pages = laws.used_pages;
   whole = h.extents.head.limit.whole;
   extents = h.extents.extents;
   full = h.inodes.full.members;
@@ -126,23 +129,24 @@ has_claims file flags h = record {
   slots = slots_sound file h.uses;
 }
 
-pub claims_are_partition : InodeChecksAreSound → (file : List ℕ) (flags : ℕ) → OwnerChecks file flags None
+pub claims_are_partition : HasLaws → (file : List ℕ) (flags : ℕ) → OwnerChecks file flags None
     → IsPartition file
-claims_are_partition law file flags h = let o = owned law file flags h in partition file (has_claims file flags o)
-    (claims_sound file o.uses)
+claims_are_partition laws file flags h =
+    let o = owned laws file flags h in
+    partition file (has_claims laws file flags o) (claims_sound file o.uses)
 
-pub owners_are_claims : InodeChecksAreSound → (file : List ℕ) (flags : ℕ) → OwnerChecks file flags None
+pub owners_are_claims : HasLaws → (file : List ℕ) (flags : ℕ) → OwnerChecks file flags None
     → (n s : ℕ) (place : Address) → n < size_of file → slice_get (segments file) s ≡ Some place
     → IsUsedBy file s n ↔ (Contains (claim_of file place) n × IsUsed file n)
-owners_are_claims law file flags h n s place l g =
-    let o = owned law file flags h in
-    let c = has_claims file flags o in
+owners_are_claims laws file flags h n s place l g =
+    let o = owned laws file flags h in
+    let c = has_claims laws file flags o in
     (used_is_claimed file c n s place g, λ w. claimed_is_used file c (claims_sound file o.uses) n s place g w.0 w.1)
 
-pub audit_sound : InodeChecksAreSound → (file : List ℕ) (flags : ℕ) → AuditChecks file flags None
+pub audit_sound : HasLaws → (file : List ℕ) (flags : ℕ) → AuditChecks file flags None
     → IsSoundSpace file flags
-audit_sound law file flags h =
-    let o = owned law file flags h.0 in
+audit_sound laws file flags h =
+    let o = owned laws file flags h.0 in
     record {
       extents = o.extents;
       inodes = o.inodes;
@@ -153,7 +157,7 @@ audit_sound law file flags h =
         fragment_count = fragment_count_sound file o.uses;
         not_full_counts = counts_sound file o.uses;
         slots = slots_sound file o.uses;
-        partition = claims_are_partition law file flags h.0;
+        partition = claims_are_partition laws file flags h.0;
       };
       frames = record {
         framed = λ n u. (h.1 n (used_below file n u) u).0;
@@ -161,10 +165,11 @@ audit_sound law file flags h =
       };
     }
 
-pub audit_checks : InodeChecksAreSound → (file : List ℕ) (flags : ℕ) → IsSoundSpace file flags
+pub audit_checks : HasLaws → (file : List ℕ) (flags : ℕ) → IsSoundSpace file flags
     → AuditChecks file flags None
-audit_checks law file flags h =
+audit_checks laws file flags h =
     let c : HasClaims file = record {
+      used_pages = laws.used_pages;
       whole = h.extents.head.limit.whole;
       extents = h.extents.extents;
       full = h.inodes.full.members;
@@ -174,7 +179,7 @@ audit_checks law file flags h =
       slots = h.owners.slots;
     } in
     let once = fragment_once file c (λ n u. h.owners.partition.once n (used_within file c n u) u) in (
-      owner_checks law file flags h.extents h.inodes (list_checks file h.owners.lists h.owners.segment_lists
+      owner_checks laws file flags h.extents h.inodes (list_checks file h.owners.lists h.owners.segment_lists
           h.owners.homes)
           (use_checks file h.owners.slots h.owners.fragment_count h.owners.not_full_counts (λ n l u. once n u)),
       λ n l u. (h.frames.framed n u, h.frames.kinds n u),

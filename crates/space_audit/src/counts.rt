@@ -9,6 +9,7 @@ ghost use Rattle.space_audit.specs.Audit.{CountChecks};
 ghost use Rattle.space_audit.specs.Read.{IsRead};
 
 use crate::homes::Homes;
+use extent_map::laws::used_pages_are_of_extents;
 use inode_segments::Inodes;
 use page_source::{Fault, Rule};
 use space_header::SpaceHeader;
@@ -23,6 +24,7 @@ pub(crate) fn check_counts(
     ensures { (file : List ℕ) (extents : List Extent) → IsRead file extents inodes.now → AreHomes file homes.now
         → header.now ≡ head_of file → Finds result (CountChecks file) }
 {
+    used_pages_are_of_extents();
     if header.frag_used != homes.used(1) {
         return Err(Rule::UseCounts.at(0));
     }

@@ -14,6 +14,7 @@ ghost use Rattle.space_audit.specs.Read.{AwaitsFrames, IsKind, AreKinds, fetches
 
 use crate::owner::{Owner, owner_by};
 use extent_map::Extents;
+use extent_map::laws::used_pages_are_of_extents;
 use fil_frame::{frame_fault, kind};
 use inode_segments::Inodes;
 use page_source::{Fault, NoMemory, Page, PageSource, Rule, Steps, Stop};
@@ -102,6 +103,7 @@ pub(crate) fn check_frames<S: PageSource, L: Ledger>(
     ensures cost { steps.new ≤ steps.old + unmarked inodes.now.pages }
     ensures over { StopsOver S.PageSource source.old source.new result }
 {
+    used_pages_are_of_extents();
     let mut kinds = Kinds::with_room(alloc, owners.len() as u32)?;
     for n in 0..owners.len() as u32 {
         let kind = find_kind(source, n, space, extents, inodes, owners, page, steps)?;

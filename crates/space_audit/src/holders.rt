@@ -14,6 +14,7 @@ ghost use Rattle.space_audit.specs.Audit.{SlotCheck, SlotsCheck, ClaimCheck};
 ghost use Rattle.space_audit.specs.Read.{IsRead};
 
 use extent_map::Extents;
+use extent_map::laws::used_pages_are_of_extents;
 use inode_segments::Inodes;
 use page_source::{Fault, NoMemory, Rule};
 use space_header::Address;
@@ -136,6 +137,7 @@ pub(crate) fn check_holders(extents: &Extents, holders: &[u32]) -> Result<(), Fa
     ensures { (file : List ℕ) → IsHeld file extents.now holders.now
         → Finds result (Each (limit_of file) (ClaimCheck file)) }
 {
+    used_pages_are_of_extents();
     for n in 0..holders.len() as u32 {
         if is_claimable(extents, n) && !is_once(n % 16384 < 2, holders[n as usize]) {
             return Err(Rule::PageOwner.at(n));

@@ -8,6 +8,7 @@ ghost use Rattle.space_audit.specs.Lists.{at_home, HomeListChecks, HomeList, Thr
 ghost use Rattle.space_audit.specs.Lists.{NumberCheck, IsListed, ListChecks};
 
 use crate::homes::Homes;
+use extent_map::laws::used_pages_are_of_extents;
 use inode_segments::Inodes;
 use page_source::{Fault, Rule, Steps, Stop};
 use space_header::laws::links_one_list;
@@ -32,6 +33,7 @@ pub(crate) fn check_lists<L: Ledger>(
     ensures bound { steps.new ≤ steps.old + 2 * length nodes.now }
     ensures source { result ≢ Err Stop.Source }
 {
+    used_pages_are_of_extents();
     check_three(
         alloc,
         0,

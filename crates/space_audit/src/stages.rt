@@ -25,6 +25,9 @@ use crate::lists::check_lists;
 use crate::numbering::Numbering;
 use crate::settle::settle_owners;
 use crate::space::Space;
+use extent_map::laws::{
+    descriptor_checks_are_sound, flags_are_fragment_pages, used_pages_are_of_extents,
+};
 use extent_map::{Extents, check_head, read_extents};
 use inode_segments::laws::inode_checks_are_sound;
 use inode_segments::{Inodes, read_inodes};
@@ -69,6 +72,8 @@ fn audit_space<S: PageSource, L: Ledger>(
     ensures cost { steps.new + 1 ≤ steps.old + audit_steps header.now.size }
     ensures over { StopsOver S.PageSource source.old source.new result }
 {
+    descriptor_checks_are_sound();
+    flags_are_fragment_pages();
     inode_checks_are_sound();
     let extents = read_extents(alloc, source, header, steps)?;
     let fragments = extents.fragment_pages(alloc)?;
@@ -96,6 +101,7 @@ fn audit_pages<S: PageSource, L: Ledger>(
     ensures cost { steps.new ≤ steps.old + 2 * length extents.now + unmarked inodes.pages }
     ensures over { StopsOver S.PageSource source.old source.new result }
 {
+    used_pages_are_of_extents();
     let owners = find_owners(alloc, header, extents, &inodes, steps)?;
     let found = check_frames(
         alloc,

@@ -121,13 +121,33 @@ impl Draft {
         write_be::<4>(page, usize::from(at).min(16380), u64::from(number));
     }
 
-    /// The pages, sealed.
-    fn pages(mut self, alloc: Global) -> Result<PageMap, NoMemory> {
+    fn seal(&mut self) {
         let kinds = self.kinds;
         seal(&mut self.head, 0, 23, 1, kinds[0]);
         seal(&mut self.bitmap, 1, 23, 1, kinds[1]);
         seal(&mut self.inodes, 2, 23, 1, kinds[2]);
         seal(&mut self.root, 3, 23, 1, kinds[3]);
+    }
+
+    /// Changes one bit of the second checksum of page 0, 1, 2 or 3.
+    fn flip(&mut self, page: u32) {
+        let page = match page {
+            0 => &mut self.head,
+            1 => &mut self.bitmap,
+            2 => &mut self.inodes,
+            _ => &mut self.root,
+        };
+        let byte = page.bytes()[16376];
+        page.put_bytes(16376, &[byte ^ 1]);
+    }
+
+    /// The pages, sealed.
+    fn pages(mut self, alloc: Global) -> Result<PageMap, NoMemory> {
+        self.seal();
+        self.as_they_are(alloc)
+    }
+
+    fn as_they_are(self, alloc: Global) -> Result<PageMap, NoMemory> {
         let mut held = PageMap::new(alloc);
         held.put(0, self.head)?;
         held.put(1, self.bitmap)?;
@@ -235,6 +255,52 @@ fn names_the_first_broken_rule(rt: HostRuntime) -> Result<(), Fail> {
     Ok(())
 }
 
+#[test]
+fn names_the_first_broken_rule_of_the_head(rt: HostRuntime) -> Result<(), Fail> {
+    for (at, number, rule) in [
+        (38, 24, Rule::HeadSpace),
+        (54, 0, Rule::HeadFlags),
+        (46, 3, Rule::HeadSize),
+        (46, 7, Rule::HeadSize),
+        (50, 128, Rule::HeadLimit),
+        (170, 5, Rule::ExtentState),
+        (170, 3, Rule::ExtentUse),
+        (170, 4, Rule::ExtentSystem),
+        (174, 0xAAEF_FFFF, Rule::ExtentPastEnd),
+        (174, 0xABFF_FFFF, Rule::ExtentSystem),
+        (134, 2, Rule::InodeList),
+        (118, 1, Rule::InodeList),
+        (78, 2, Rule::ExtentList),
+    ] {
+        let mut draft = Draft::new(rt.alloc(), &header(6, 64))?;
+        draft.put(0, at, number);
+        let broken = breaks::<Brand>(rt.alloc(), draft, 6, rule, 0, Blank::new(1))?;
+        assert!(rt; broken, "{number} at {at}");
+    }
+    Ok(())
+}
+
+#[test]
+fn names_the_first_broken_rule_of_the_inodes(rt: HostRuntime) -> Result<(), Fail> {
+    for (page, at, number, rule, named) in [
+        (0, 114, 2, Rule::SegmentId, 2),
+        (2, 38, 5, Rule::InodeList, 2),
+        (2, 44, 5, Rule::InodeList, 2),
+        (2, 62, 1, Rule::ExtentList, 2),
+        (2, 114, 4, Rule::FragmentSlot, 2),
+        (2, 246, 1, Rule::SegmentId, 2),
+        (2, 250, 1, Rule::UseCounts, 2),
+        (2, 302, 0, Rule::SegmentMagic, 2),
+        (2, 310, 3, Rule::PageOwner, 3),
+    ] {
+        let mut draft = Draft::new(rt.alloc(), &header(6, 64))?;
+        draft.put(page, at, number);
+        let broken = breaks::<Brand>(rt.alloc(), draft, 6, rule, named, Blank::new(1))?;
+        assert!(rt; broken, "{number} at {at} of page {page}");
+    }
+    Ok(())
+}
+
 /// The inode page leads to itself, and its list counts a million pages. It stands at a page that
 /// isn't there.
 #[test]
@@ -287,19 +353,25 @@ fn checks_the_types_of_pages(rt: HostRuntime) -> Result<(), Fail> {
     Ok(())
 }
 
-/// Page 3 has one bit of its second checksum changed.
+/// One bit of a page is changed behind its seal.
 #[test]
 fn checks_the_frames(rt: HostRuntime) -> Result<(), Fail> {
     let alloc = rt.alloc();
-    let mut root = Page::zeroed(alloc)?;
-    seal(&mut root, 3, 23, 1, 17855);
-    let byte = root.bytes()[16376];
-    root.put_bytes(16376, &[byte ^ 1]);
-    let mut held = Draft::new(alloc, &header(6, 64))?.pages(alloc)?;
-    held.put(3, root)?;
-    let mut file = SparsePages::new(6, held, Fails::of(alloc, &[])?);
-    let answer = run::<SparsePages, Brand>(alloc, &mut file, Blank::new(1));
-    assert!(rt; matches!(answer, Err(stop) if stop == Stop::Broken(Rule::Frame.at(3))));
+    for (page, rule) in [
+        (0, Rule::HeadFrame),
+        (1, Rule::Frame),
+        (2, Rule::InodeFrame),
+        (3, Rule::Frame),
+    ] {
+        let mut draft = Draft::new(alloc, &header(6, 64))?;
+        draft.seal();
+        draft.flip(page);
+        let held = draft.as_they_are(alloc)?;
+        let mut file = SparsePages::new(6, held, Fails::of(alloc, &[])?);
+        let answer = run::<SparsePages, Brand>(alloc, &mut file, Blank::new(1));
+        let broken = matches!(answer, Err(stop) if stop == Stop::Broken(rule.at(page)));
+        assert!(rt; broken, "page {page}");
+    }
     Ok(())
 }
 
@@ -351,6 +423,28 @@ fn compares_the_lists_with_the_extents(rt: HostRuntime) -> Result<(), Fail> {
     assert_eq!(rt; space.used_pages(), 4);
     for (n, wanted) in [(63, Owner::FragmentFree), (64, Owner::FreeExtent)] {
         assert_eq!(rt; owner(&space, n), Some(wanted), "page {n}");
+    }
+    Ok(())
+}
+
+#[test]
+fn checks_a_free_extent_and_its_list(rt: HostRuntime) -> Result<(), Fail> {
+    for (page, at, number, rule, named) in [
+        (0, 50, 64, Rule::ExtentList, 0),
+        (0, 58, 5, Rule::UseCounts, 0),
+        (0, 62, 2, Rule::ExtentList, 0),
+        (0, 72, 5, Rule::ExtentList, 0),
+        (0, 84, 0x00C6_0000, Rule::ExtentList, 0),
+        (0, 94, 1, Rule::ExtentList, 0),
+        (0, 210, 0, Rule::ExtentState, 0),
+        (0, 210, 2, Rule::ExtentUse, 0),
+        (0, 214, 0xFEFF_FFFF, Rule::ExtentUse, 0),
+        (2, 306, 64, Rule::FragmentSlot, 2),
+    ] {
+        let mut draft = two_extents(rt.alloc(), one(0, 198))?;
+        draft.put(page, at, number);
+        let broken = breaks::<Brand>(rt.alloc(), draft, 128, rule, named, Blank::new(1))?;
+        assert!(rt; broken, "{number} at {at} of page {page}");
     }
     Ok(())
 }
@@ -409,6 +503,117 @@ fn node_of(extent: u16) -> Address {
         page: 0,
         offset: extent.wrapping_mul(40).wrapping_add(158),
     }
+}
+
+/// A tablespace of 384 pages. Segment 2 has extent 1 on its list FULL, the extents 2 and 5, of which 1
+/// and 2 pages are used, on NOT_FULL, and extent 3 on FREE. Extent 4 is free.
+fn several_extents(alloc: Global) -> Result<Draft, NoMemory> {
+    let mut header = header(384, 384);
+    header.free = one(0, 318);
+    let mut draft = Draft::new(alloc, &header)?;
+    for (e, id, state, used, prev, next) in [
+        (1, 2, 4, u64::MAX, NULL, NULL),
+        (2, 2, 4, 1, NULL, node_of(5)),
+        (3, 2, 4, 0, NULL, NULL),
+        (4, 0, 1, 0, NULL, NULL),
+        (5, 2, 4, 3, node_of(2), NULL),
+    ] {
+        let node = Node { prev, next };
+        let own = Extent {
+            id,
+            node,
+            state,
+            used,
+        };
+        write_extent(&mut draft.head, 150 + 40 * e, &own);
+    }
+    let not_full = Base {
+        length: 2,
+        first: node_of(2),
+        last: node_of(5),
+    };
+    draft.put(2, 250, 3);
+    write_base(&mut draft.inodes, 254, &one(0, 278));
+    write_base(&mut draft.inodes, 270, &not_full);
+    write_base(&mut draft.inodes, 286, &one(0, 198));
+    Ok(draft)
+}
+
+/// The pages of such a draft, with the used pages of segment 2. They are index pages, but one of them is
+/// of this type.
+fn with_used_pages(
+    alloc: Global,
+    draft: Draft,
+    other: u32,
+    kind: u16,
+) -> Result<SparsePages, NoMemory> {
+    let mut held = draft.pages(alloc)?;
+    for n in 64..322 {
+        if n <= 128 || n >= 320 {
+            let mut page = Page::zeroed(alloc)?;
+            seal(&mut page, n, 23, 1, if n == other { kind } else { 17855 });
+            held.put(n, page)?;
+        }
+    }
+    Ok(SparsePages::new(384, held, Fails::of(alloc, &[])?))
+}
+
+#[test]
+fn audits_several_extents(rt: HostRuntime) -> Result<(), Fail> {
+    let alloc = rt.alloc();
+    let mut file = with_used_pages(alloc, several_extents(alloc)?, 100, 10)?;
+    let space = run::<SparsePages, Brand>(alloc, &mut file, Blank::new(1))?;
+    assert_eq!(rt; (space.size(), space.used_pages()), (384, 71));
+    for (n, wanted) in [
+        (64, Owner::Used(1)),
+        (127, Owner::Used(1)),
+        (128, Owner::Used(1)),
+        (129, Owner::Spare(1)),
+        (192, Owner::Spare(1)),
+        (256, Owner::FreeExtent),
+        (320, Owner::Used(1)),
+        (322, Owner::Spare(1)),
+        (383, Owner::Spare(1)),
+    ] {
+        assert_eq!(rt; owner(&space, n), Some(wanted), "page {n}");
+    }
+    for (page, kind) in [(100, 3), (321, 5)] {
+        let mut file = with_used_pages(alloc, several_extents(alloc)?, page, kind)?;
+        let answer = run::<SparsePages, Brand>(alloc, &mut file, Blank::new(1));
+        let broken = matches!(answer, Err(stop) if stop == Stop::Broken(Rule::PageKind.at(page)));
+        assert!(rt; broken, "page {page}");
+    }
+    Ok(())
+}
+
+#[test]
+fn compares_the_lists_of_a_segment_with_its_extents(rt: HostRuntime) -> Result<(), Fail> {
+    let alloc = rt.alloc();
+    for (page, at, number, rule, named) in [
+        (0, 46, 200, Rule::HeadLimit, 0),
+        (0, 50, 320, Rule::ExtentList, 2),
+        (0, 62, 0, Rule::ExtentList, 0),
+        (0, 214, 0xAAAA_AAAB, Rule::ExtentHome, 2),
+        (0, 234, 1, Rule::ExtentHome, 2),
+        (0, 234, 9, Rule::ExtentHome, 2),
+        (0, 244, 0xFFFF_FFFF, Rule::ExtentList, 2),
+        (0, 254, 0xFFFF_FFFF, Rule::ExtentHome, 2),
+        (0, 330, 4, Rule::ExtentHome, 0),
+        (0, 358, 0xFFFF_FFFF, Rule::ExtentList, 2),
+        (2, 250, 2, Rule::UseCounts, 2),
+        (2, 254, 0, Rule::ExtentList, 2),
+        (2, 270, 1, Rule::ExtentList, 2),
+        (2, 286, 2, Rule::ExtentList, 2),
+        (2, 306, 64, Rule::FragmentSlot, 2),
+    ] {
+        let mut draft = several_extents(alloc)?;
+        draft.put(page, at, number);
+        let mut file = with_used_pages(alloc, draft, 64, 17855)?;
+        let answer = run::<SparsePages, Brand>(alloc, &mut file, Blank::new(1));
+        let broken = matches!(answer, Err(stop) if stop == Stop::Broken(rule.at(named)));
+        assert!(rt; broken, "{number} at {at} of page {page}");
+    }
+    Ok(())
 }
 
 /// A tablespace of 16,448 pages: the extents 0 and 256 stand on FREE_FRAG, the others on FREE.

@@ -8,7 +8,7 @@ use Rattle.std.proofs.Math.Seq.{take-append_seam}
 use Rattle.std.proofs.lemmas.List.{append-nil, length-map, length-take-le}
 use Rattle.std.proofs.lemmas.List.Elements.{All-head, All-tail, All-nil, All-cons}
 use Rattle.column_values.specs.Order.{Key, IsBelow, AreEqualKeys}
-use Rattle.column_values.specs.Types.{Fields}
+use Rattle.column_values.specs.Types.{Fields, AreOfOneIndex, child_field}
 use Rattle.compact_record.specs.Reading.{key_of}
 use Rattle.index_page.specs.Header.{records_of}
 use Rattle.compact_record.specs.Reading.{key_kinds}
@@ -21,7 +21,6 @@ use Rattle.column_values.proofs.KeyOrder.{agrees}
 use Rattle.index_page.specs.Page.{IsIndexPage}
 use Rattle.index_page.specs.PageChecks.{PageChecks}
 use Rattle.index_page.specs.Laws.{ChecksAreIndexPage, HasOneChain}
-use Rattle.tree_walk.specs.OneIndex.{AreOfOneIndex, child_field}
 use Rattle.tree_walk.specs.Place.{NodeAt}
 use Rattle.tree_walk.specs.Descent.{Bounded, bounded_root, key_after, bounds, kids, spot_on, IsNode, IsTree}
 use Rattle.tree_walk.specs.Laws.{ChecksGiveTree}

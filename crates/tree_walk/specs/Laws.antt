@@ -10,7 +10,8 @@ use Rattle.column_values.specs.Order.{Key, IsBelow}
 use Rattle.compact_record.specs.Reading.{key_of, key_kinds}
 use Rattle.index_page.specs.Header.{index_id_of}
 use Rattle.tree_walk.specs.Index.{Index, Row, page_in, root_level, index_id, pages_at, leaf_rows}
-use Rattle.tree_walk.specs.OneIndex.{AreOfOneIndex}
+use Rattle.column_values.specs.Types.{AreOfOneIndex}
+use Rattle.tree_walk.specs.Records.{IsRecord}
 use Rattle.tree_walk.specs.Segments.{segment_at}
 use Rattle.tree_walk.specs.Place.{IsBeside}
 use Rattle.tree_walk.specs.TreeChecks.{TreeChecks, IsRootPlace, HasNewSegments, before, after}
@@ -55,6 +56,11 @@ KeysRiseOverLeaves = (index : Index) → IsWalked index → Rises index (tree_ro
 -- and it is a tree by descent
 abbrev pub ChecksGiveTree : Type 0
 ChecksGiveTree = (index : Index) → AreOfOneIndex index.leaf index.node → IsWalked index → IsTreeByDescent index
+
+-- each of its rows can be read
+abbrev pub RowsCanBeRead : Type 0
+RowsCanBeRead = (index : Index) → IsWalked index
+    → All (λ row. IsRecord (page_in index row.page) index.leaf row.origin) (leaf_rows index)
 
 -- a page of this index, used by the segment of its level
 pub record IsOwnPage (index : Index) (level n : ℕ) : Type 0 where

@@ -1,8 +1,7 @@
 -- The room that a walk works in.
 use Rattle.std.specs.Prelude.{◌≡◌, ℕ, ◌≤◌, length}
-use Rattle.column_values.specs.Types.{Fields}
+use Rattle.column_values.specs.Types.{Fields, AreOfOneIndex}
 use Rattle.tree_walk.specs.declared.walk.Walk.{Walk}
-use Rattle.tree_walk.specs.OneIndex.{AreOfOneIndex}
 
 -- there is room for records of so many fields
 pub record HasRoom (walk : Walk) (members : ℕ) : Type 0 where

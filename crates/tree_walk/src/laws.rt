@@ -1,6 +1,6 @@
 //! What the definitions of a tree say together, each the contract of a function that does nothing.
 
-ghost use Rattle.tree_walk.specs.Laws.{LinksAreDescent, KeysRiseOverLeaves, ChecksGiveTree, ChecksAreWholeness};
+ghost use Rattle.tree_walk.specs.Laws.{LinksAreDescent, KeysRiseOverLeaves, RowsCanBeRead, ChecksGiveTree, ChecksAreWholeness};
 
 use index_page::laws::{checks_are_an_index_page, page_has_one_chain};
 
@@ -13,6 +13,11 @@ pub fn links_are_the_descent()
 /// The keys of its rows rise over all leaves, and not only on each.
 pub fn keys_rise_over_leaves()
     ensures { KeysRiseOverLeaves }
+{}
+
+/// Each of its rows is spelled, and ends on its page.
+pub fn rows_can_be_read()
+    ensures { RowsCanBeRead }
 {}
 
 /// It is a tree by descent: each page is an index page whose keys lie between the separators of its parent.

@@ -98,6 +98,7 @@ pub(crate) fn walk_level<S: PageSource, L: Ledger>(
     ensures room { HasSameRoom walk.old walk.new }
     ensures keeps { HaltsOver S.PageSource source.old source.new result }
     ensures some { IfOk result (λ row. 1 ≤ row.pages) }
+    ensures fewer { IfOk result (λ row. row.pages + unmarked marks.new ≤ unmarked marks.old) }
     ensures spent { IfOk result (λ row. steps.new + 2 * unmarked marks.new + row.pages
         ≤ steps.old + 2 * unmarked marks.old + upper.pages) }
     ensures steps { steps.new ≤ steps.old + 2 * unmarked marks.old + upper.pages + 2 }

@@ -1,4 +1,7 @@
-//! Walks over a small tree, and a cursor over leaves, of files that tell nothing.
+//! Walks over small trees, and a cursor over leaves, of files that tell nothing.
 
+mod fetches;
+mod indexes;
 mod leaves;
+mod plan;
 mod trees;

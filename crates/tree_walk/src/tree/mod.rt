@@ -66,6 +66,7 @@ pub fn walk_tree<S: PageSource, L: Ledger>(
     ensures room { HasSameRoom walk.old walk.new }
     ensures stays { (members : ℕ) → HasRoom walk.old members → HasRoom walk.new members }
     ensures keeps { HaltsOver S.PageSource source.old source.new result }
+    ensures fewer { IfOk result (λ ends. ends.leaves + unmarked marks.new ≤ unmarked marks.old) }
     ensures spent { IfOk result (λ ends. steps.new + 2 * unmarked marks.new + ends.leaves
         ≤ steps.old + 2 * unmarked marks.old) }
     ensures steps { steps.new ≤ steps.old + 2 * unmarked marks.old + 2 }

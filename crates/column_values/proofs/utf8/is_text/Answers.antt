@@ -1,9 +1,10 @@
-use Rattle.column_values.proofs.Utf8Steps.{nothing_read}
+use Rattle.std.proofs.Common.{[]}
 use Rattle.column_values.proofs.utf8.is_text.Goals as goal
 
 pub returns : goal.returns
 returns c =
-    let feeds = rw c.limit-text.ensures at c.feed.ensures.feeds in
-    let was = feeds.2 _ nothing_read in
-    let both = rw feeds.1 at c.is_text.ensures.text in
-    both c.args.bytes.now was
+    let text = c.args.bytes.now in
+    let end = c.is_text.ensures.text text (c.feed.ensures.feeds.fed [] c.limit-text.ensures.fresh) in
+    let takes = c.limit-text.ensures.takes text in
+    let same = c.feed.ensures.feeds.same text in
+    ((λ t. takes.0 (same.0 (end.0 t))), (λ t. end.1 (same.1 (takes.1 t))))

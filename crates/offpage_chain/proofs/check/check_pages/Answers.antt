@@ -1,9 +1,8 @@
 use Rattle.std.proofs.Common.{refl, ℕ, List, ◌≤◌, ◌+◌, ◌-◌, ◌++◌, sym, ◌∙◌, subst, arith}
 use Rattle.std.proofs.lemmas.Result.{err_from_is_err_and}
 use Rattle.page_source.proofs.Told.{told0, told1, told2, told3}
-use Rattle.column_values.specs.Utf8Reader.{CountsUpTo}
+use Rattle.column_values.specs.Utf8Reader.{CountsUpTo, IsFed}
 use Rattle.space_audit.specs.Marks.{is_set}
-use Rattle.offpage_chain.specs.Feeding.{IsFed}
 use Rattle.offpage_chain.proofs.Feeds.{fed_none, fed_more, counts_more}
 use Rattle.offpage_chain.proofs.Alongs.{IsAlong, marked_none, along_start, along_halts, along_more, along_holds}
 use Rattle.offpage_chain.proofs.Alongs.{along_count, along_marked, along_fed}
@@ -17,6 +16,7 @@ loop-left-init g c =
       members = refl;
       spent = omega arith;
       few = omega arith;
+      marked = omega arith;
       counts = subst (λ (most : ℕ). CountsUpTo most c.args.text.now) (omega arith) c.requires.count;
       told = told0 (g.S.PageSource.content c.args.source.now)
           (λ file. along_start
@@ -62,6 +62,7 @@ loop-left-preserved g c =
       members = c.mark.ensures.members ∙ inv.members;
       spent = omega (arith, inv.spent, c.check_page.ensures.cost, c.mark.ensures.fewer c.in_ok-length.ensures.new);
       few = omega (arith, inv.few, few, part.1.part.0, part.0);
+      marked = omega (arith, inv.marked, c.mark.ensures.fewer c.in_ok-length.ensures.new);
       counts =
           counts_more c.feed.new.self c.args.reference.now.length c.loop-left.left c.in_ok-length.length (omega
           (arith, inv.few)) few

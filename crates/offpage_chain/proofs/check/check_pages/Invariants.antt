@@ -16,6 +16,7 @@ invariant-loop-left g l =
       members : length l.marks ≡ length l.fn.marks;
       spent : l.steps + unmarked l.marks ≤ l.fn.steps + unmarked l.fn.marks;
       few : l.count + l.left ≤ l.reference.length;
+      marked : l.count + unmarked l.marks ≤ unmarked l.fn.marks;
       counts : CountsUpTo (16384 + (l.reference.length - l.left)) l.text;
       told : OfFile g.S.PageSource l.fn.source (λ file.
           IsAlong (record {

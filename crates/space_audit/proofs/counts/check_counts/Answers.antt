@@ -1,9 +1,8 @@
-use Rattle.std.proofs.Common.{◌≡◌, ℕ, ◌+◌, ◌*◌, ◌<◌, ◌≤◌, length, get_or, take, Some, inl, inr, sym, ◌∙◌, ap, subst, arith}
+use Rattle.std.proofs.Common.{◌<◌, length, get_or, inl, inr, sym, ◌∙◌, ap, subst, arith}
 use Rattle.page_source.specs.declared.rule.Rule.TheVariants.{UseCounts}
 use Rattle.page_source.specs.declared.rule.Fault.{Fault}
 use Rattle.space_header.specs.declared.address.Address.{Address}
 use Rattle.space_header.specs.declared.header.SpaceHeader.{SpaceHeader}
-use Rattle.inode_segments.specs.Inodes.{segments}
 use Rattle.space_audit.specs.Audit.{HasNotFullCount}
 use Rattle.space_audit.proofs.ListSteps.{get_some}
 use Rattle.space_audit.proofs.ClaimSteps.{segment_read}
@@ -24,7 +23,8 @@ returns-then-inode-used c = λ file extents h are head.
     let stated = ap (λ (x : SpaceHeader). x.frag_used) head in
     let is = segment_read file c.args.inodes.now s place c.inode.result.now h.inodes_are c.place.ensures
     c.inode.ensures in
-    let here = segment_sum file extents c.args.inodes.now c.args.homes.now s place c.inode.result.now h are is
+    let here = segment_sum file c.used_pages_are_of_extents.ensures extents c.args.inodes.now c.args.homes.now
+    s place c.inode.result.now h are is
     c.used-in-loop-s.result c.used-in-loop-s.ensures in
     inr (
       (sym stated ∙ (c.if-header-used.false
@@ -51,7 +51,8 @@ loop-s-preserved c = λ file extents h are head.
     let below : s < length places = omega (arith, c.loop-s-test.true, c.count-s-end.ensures.count) in
     let is = segment_read file c.args.inodes.now s place c.inode.result.now h.inodes_are
     (get_some places s none below) c.inode.ensures in
-    let here = segment_sum file extents c.args.inodes.now c.args.homes.now s place c.inode.result.now h are is
+    let here = segment_sum file c.used_pages_are_of_extents.ensures extents c.args.inodes.now c.args.homes.now
+    s place c.inode.result.now h are is
     c.used-in-loop-s.result c.used-in-loop-s.ensures in
     counts_more file s (c.loop-s.invariant file extents h are head)
     (λ d. subst (λ p. HasNotFullCount file p) (sym (is.place_is d)) (here.1 c.if-inode-used.false))

@@ -1,9 +1,8 @@
-use Rattle.std.proofs.Common.{◌≡◌, ℕ, ◌+◌, ◌<◌, ◌≤◌, length, take, count_by, not, is_some, ◌∷◌, [], ap, length-append, None, sym, ◌∙◌, subst, arith, below_more}
+use Rattle.std.proofs.Common.{◌+◌, ◌<◌, length, is_some, ◌∷◌, [], ap, length-append, None, ◌∙◌, arith, below_more}
 use Rattle.std.proofs.lemmas.Result.{err_from_is_err_and}
 use Rattle.std.specs.Option.{unwrap_or}
-use Rattle.page_source.proofs.Told.{told2, told3}
+use Rattle.page_source.proofs.Told.{told2}
 use Rattle.space_audit.specs.Audit.{FrameCheck}
-use Rattle.space_audit.specs.Read.{AreKinds}
 use Rattle.space_audit.proofs.PageFrames.{frame_stops, cost_more, cost_all, kinds_more, frames_hold, one_at_most}
 use Rattle.space_audit.proofs.frames.check_frames.Goals as goal
 
@@ -54,6 +53,7 @@ loop-n-preserved g c =
 pub returns-clause-exact : goal.returns-clause-exact
 returns-clause-exact g c =
     told2 (g.S.PageSource.content c.args.source.now)
-    (λ file h below. frames_hold file c.args.space c.args.extents.now c.args.inodes.now c.args.owners.now h
+    (λ file h below. frames_hold file c.used_pages_are_of_extents.ensures c.args.space c.args.extents.now
+    c.args.inodes.now c.args.owners.now h
     (λ j l. below j (omega (arith, l, c.loop-n-test.false))))
     c.requires.told c.loop-n.invariant.checks

@@ -1,8 +1,7 @@
-use Rattle.std.proofs.Common.{◌≡◌, ℕ, ◌+◌, ◌/◌, ◌<◌, ◌&&◌, true, false, length, None, sym, ◌∙◌, subst, inl, inr, arith, below_more}
-use Rattle.std.proofs.lemmas.Bool.{cases_lt, false≢true}
-use Rattle.space_header.specs.Header.{limit_of}
+use Rattle.std.proofs.Common.{◌/◌, None, sym, ◌∙◌, arith, below_more}
+use Rattle.std.proofs.lemmas.Bool.{false≢true}
 use Rattle.extent_map.specs.Extents.{is_used, is_fragment_extent}
-use Rattle.extent_map.proofs.Used.{and_left, and_right, both_true, used_below}
+use Rattle.space_audit.proofs.Fragments.{and_left, and_right, both_true, used_below}
 use Rattle.space_audit.specs.Audit.{ClaimCheck}
 use Rattle.space_audit.proofs.ClaimSteps.{holder_tells, used_in_size}
 use Rattle.space_audit.proofs.holders.check_holders.Goals.{else-is_claimable-via-then-is_claimable+else-not-is_once, else-is_claimable-via-else-is_claimable}
@@ -39,5 +38,5 @@ loop-n-preserved c = λ file h.
 
 pub returns : goal.returns
 returns c = λ file h j l u.
-    let inside = used_in_size file h.extents_are.whole h.extents_sound j u.0 in
+    let inside = used_in_size file c.used_pages_are_of_extents.ensures h.extents_are.whole h.extents_sound j u.0 in
     c.loop-n.invariant file h j (omega (arith, inside, h.size_is, c.loop-n-test.false)) u

@@ -1,5 +1,12 @@
-use Rattle.space_audit.proofs.Sound.{claims_are_partition}
+use Rattle.space_audit.proofs.Sound.{HasLaws, claims_are_partition}
 use Rattle.space_audit.proofs.laws.claims_are_partition.Goals as goal
 
 pub returns : goal.returns
-returns c = λ file flags h. claims_are_partition c.inode_checks_are_sound.ensures file flags h
+returns c =
+    let laws : HasLaws = record {
+      head = c.head_checks_are_sound.ensures;
+      descriptors = c.descriptor_checks_are_sound.ensures;
+      inodes = c.inode_checks_are_sound.ensures;
+      used_pages = c.used_pages_are_of_extents.ensures;
+    } in
+    λ file flags h. claims_are_partition laws file flags h

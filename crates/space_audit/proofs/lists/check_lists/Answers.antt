@@ -1,9 +1,8 @@
-use Rattle.std.proofs.Common.{◌≡◌, ℕ, ◌+◌, ◌*◌, ◌<◌, ◌≤◌, List, length, take, None, Err, refl, sym, ◌∙◌, ap, subst, arith}
+use Rattle.std.proofs.Common.{◌≡◌, ◌+◌, ◌*◌, ◌<◌, ◌≤◌, length, take, None, ◌∙◌, subst, arith}
 use Rattle.std.proofs.lemmas.Result.{err_from_is_err_and}
-use Rattle.page_source.specs.Checks.{Answers, Stops}
 use Rattle.page_source.specs.Verdict.{AllBefore}
 use Rattle.inode_segments.specs.Inodes.{segments}
-use Rattle.space_audit.specs.Lists.{SegmentListsCheck, ThreeChecks, numbered_list, ListChecks}
+use Rattle.space_audit.specs.Lists.{SegmentListsCheck}
 use Rattle.space_audit.proofs.AtHome.{homes_below, below_three, below_all}
 use Rattle.space_audit.proofs.OwnerFacts.{get_at}
 use Rattle.space_audit.proofs.ListSteps.{listed_first, listed_segment, first_stops, segment_stops, before_more, homes_holds, homes_breaks, stops_map}
@@ -55,7 +54,8 @@ returns-in_err-check_three-2-clause-exact g c = λ file h.
     (listed_first file header inodes nodes homes h None c.in_ok-check_three.ensures.exact)
     (subst (λ xs. s < length xs) h.inodes_are.places inside) (c.loop-s.invariant.held file h)
     (λ d. stops_map stop _ _
-    (λ v x. listed_segment file header inodes nodes homes h s c.place.result c.inode-inode.result.now
+    (λ v x. listed_segment file c.used_pages_are_of_extents.ensures header inodes nodes homes h s
+    c.place.result c.inode-inode.result.now
     (take s (segments file)) c.place.ensures c.inode-inode.ensures v x d)
     c.in_err-check_three-2.ensures.exact))
 
@@ -69,7 +69,8 @@ loop-s-preserved g c = record {
       (omega (arith, c.in_ok-check_three-2.ensures.followed, c.loop-s.invariant.spent, below_three homes h));
   held = λ file h.
       before_more file c.loop-s.s (c.loop-s.invariant.held file h)
-      (listed_segment file c.args.header.now c.args.inodes.now c.args.nodes.now c.args.homes.now.numbers h c.loop-s.s
+      (listed_segment file c.used_pages_are_of_extents.ensures c.args.header.now c.args.inodes.now c.args.nodes.now
+      c.args.homes.now.numbers h c.loop-s.s
       c.place.result c.inode-inode.result.now (take c.loop-s.s (segments file)) c.place.ensures c.inode-inode.ensures
       None c.in_ok-check_three-2.ensures.exact);
 }

@@ -36,6 +36,7 @@ places-init g c =
       room = let s = c.in_ok-read_low.ensures.room in record
           { scratch = s.scratch; low = s.low; high = s.high; first = s.first; last = s.last };
       few = unmarked_most c.args.marks.now;
+      fewer = omega arith;
       live = omega arith;
       deleted = omega arith;
     }
@@ -143,6 +144,7 @@ places-preserved g c =
       room = room_join _ _ _ i.room (room_join _ _ _ c.in_ok-read_low-2.ensures.room
           (room_join _ _ _ c.in_ok-found.ensures.room c.in-Some.ensures.room));
       few = omega (arith, n, i.few, c.in_ok-found.ensures.members);
+      fewer = omega (arith, n, i.fewer);
       live = omega (arith, i.live, c.sum-tally.ensures.live, most);
       deleted = omega (arith, i.deleted, c.sum-tally.ensures.deleted, most);
     }

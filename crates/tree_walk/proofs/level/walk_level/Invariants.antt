@@ -18,6 +18,7 @@ invariant-places g l =
           l.fn.marks l.marks l.place l.walk.parent l.tally);
       room : HasSameRoom l.fn.walk l.walk;
       few : l.place.j + unmarked l.marks ≤ length l.marks;
+      fewer : l.place.j + unmarked l.marks ≤ unmarked l.fn.marks;
       live : l.tally.live ≤ 65536 * l.place.j;
       deleted : l.tally.deleted ≤ 65536 * l.place.j;
     }

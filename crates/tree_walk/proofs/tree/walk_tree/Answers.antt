@@ -27,6 +27,7 @@ loop-depth-init g c = record {
       (λ file t x. tree_first (index_of file c.args.root c.args.leaf.now c.args.node.now) c.in_ok-top.top
       c.args.marks.now c.args.named.now c.check_root.new.marks t x c.in_ok-top.ensures.marked)
       c.in_ok-top.ensures.top c.in_ok-top.ensures.exact;
+  fewer = let a = c.in_ok-top.ensures.fewer in omega arith;
   some = omega arith;
   room = c.in_ok-top.ensures.room;
 }
@@ -85,6 +86,11 @@ loop-depth-preserved g c =
           }) refl
           (omega arith) c.walk_level.new.marks c.in_ok-row.row x m l)
           c.loop-depth.invariant.told x m l;
+      fewer =
+          let a = c.in_ok-row.ensures.fewer in
+          let b = c.loop-depth.invariant.fewer in
+          let s = c.loop-depth.invariant.some in
+          omega arith;
       some = c.in_ok-row.ensures.some;
       room = room_join _ _ _ c.loop-depth.invariant.room c.in_ok-row.ensures.room;
     }

@@ -13,6 +13,7 @@ invariant-loop-depth g l =
       members : length l.marks ≡ length l.fn.marks;
       later : g.S.PageSource.faults l.fn.source ≤ g.S.PageSource.faults l.source;
       spent : l.steps + 2 * unmarked l.marks + l.row.pages ≤ l.fn.steps + 2 * unmarked l.fn.marks;
+      fewer : l.row.pages + unmarked l.marks ≤ unmarked l.fn.marks;
       some : 1 ≤ l.row.pages;
       told : IfSome (content l.fn.source) (λ file. TreeState (index_of file l.root l.leaf l.node) l.top l.depth
           l.fn.marks l.fn.named l.marks l.row);

@@ -3,6 +3,7 @@ use Rattle.std.proofs.lemmas.Bool.{not-false}
 use Rattle.compact_record.specs.declared.places.Place.{Place}
 use Rattle.compact_record.specs.Reading.{IsSpelled}
 use Rattle.compact_record.proofs.Steps.{head_is, end_is, places_are, whole_slice}
+use Rattle.compact_record.proofs.KeySteps.{lie_below}
 use Rattle.compact_record.proofs.located.Located.again.Goals as goal
 
 pub returns-then-head-origin-clause-exact : goal.returns-then-head-origin-clause-exact
@@ -49,3 +50,6 @@ returns-clause-read c = λ _.
           (omega (arith, count, whole, c.requires.room, c.deref_mut.ensures.len, ap (λ r. r.members) c.self.view_is))
           (c.read_places-sizes.ensures.places all);
     }
+
+pub returns-clause-lies : goal.returns-clause-lies
+returns-clause-lies c = λ t. lie_below c.args.page.now c.args.origin c.args.fields.now _ (returns-clause-read c t)

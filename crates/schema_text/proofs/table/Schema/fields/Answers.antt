@@ -1,8 +1,8 @@
 use Rattle.std.proofs.Common.{◌≡◌, ◌∙◌, ◌++◌, ◌∷◌, [], length, sym, ap, subst, arith}
 use Rattle.std.proofs.lemmas.Result.{IfOk-weaker}
-use Rattle.column_values.specs.Types.{AreListed, AreFields, nullable_count}
+use Rattle.column_values.specs.Types.{AreListed, AreFields, nullable_count, child_field}
 use Rattle.schema_text.specs.Grammar.{IsTable}
-use Rattle.schema_text.specs.IndexFields.{child_field, index_fields, leaf_fields, node_fields}
+use Rattle.schema_text.specs.IndexFields.{index_fields, leaf_fields, node_fields}
 use Rattle.schema_text.proofs.FieldLemmas.{AreBuilt, built_few, built_leaf, built_node, leaf_good, node_good}
 use Rattle.schema_text.proofs.table.Schema.fields.Goals as goal
 
