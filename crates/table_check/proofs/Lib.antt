@@ -1,0 +1,11 @@
+mod ValueStages
+mod Progress
+mod RecordSteps
+mod RecordMarks
+mod LiveSteps
+mod RowSteps
+mod RowMarks
+mod TreeSteps
+mod UnreachedSteps
+mod WholeSteps
+mod OneAnswer

@@ -1,0 +1,205 @@
+-- Pages that were marked and counted so far, and those of one more call.
+use Rattle.std.proofs.Common.{◌≡◌, ◌==◌, IfSome, ℕ, ◌+◌, ◌≤◌, Bool, true, false, cond, List, [], ◌∷◌, ◌++◌, length}
+use Rattle.std.proofs.Common.{Option, Some, None, Result, Ok, Err, refl, sym, ap, ◌∙◌, subst, arith, length-append}
+use Rattle.std.specs.Prelude.{IfOk, OnOk, not}
+use Rattle.std.proofs.lemmas.List.Sums.{count_by-le-length}
+use Rattle.page_source.specs.declared.objects.PageSource.{Ghosts as FileOf}
+use Rattle.page_source.specs.declared.rule.Fault.{Fault}
+use Rattle.page_source.specs.declared.checks.Halt.{Halt}
+use Rattle.page_source.specs.Lists.{unmarked}
+use Rattle.page_source.specs.Faults.{Rose}
+use Rattle.page_source.specs.Checks.{Halts, HaltsAt}
+use Rattle.page_source.specs.Calls.{OfFile, HaltsOver}
+use Rattle.page_source.proofs.Told.{told0, told1, told2, told3}
+use Rattle.space_audit.specs.Marks.{is_in, is_set, seen, Marked}
+use Rattle.table_check.specs.Marking.{ChecksPages}
+
+pub unmarked_most : (marks : List Bool) → unmarked marks ≤ length marks
+unmarked_most marks = count_by-le-length not marks
+
+-- a count rose since then, and so since before
+pub rose_before : (first old new : ℕ) → first ≤ old → Rose old new → Rose first new
+rose_before first old new later rose = omega (arith, later, rose)
+
+-- so many pages were counted, and these ones marked, in as many steps at the most
+pub record HasMarked {S : Type 0} (g : FileOf S) (old new : S) (before after : List Bool) (steps spent count : ℕ)
+    (pages : List ℕ → List ℕ) : Type 0 where
+  pub same : g.content new ≡ g.content old
+  pub later : g.faults old ≤ g.faults new
+  pub members : length after ≡ length before
+  pub fewer : count + unmarked after ≤ unmarked before
+  pub cost : spent + unmarked after ≤ steps + unmarked before
+  pub counted : OfFile g old (λ file. count ≡ length (pages file))
+  pub grew : OfFile g old (λ file. Marked (is_set before) after (pages file))
+
+cond_false : (a : Bool) → cond a true false ≡ a
+cond_false true = refl
+cond_false false = refl
+
+pub marked_none : (marks : List Bool) → Marked (is_set marks) marks []
+marked_none marks n = sym (cond_false (is_set marks n))
+
+-- none yet
+pub none_marked : {S : Type 0} (g : FileOf S) (old : S) (marks : List Bool) (steps : ℕ) (pages : List ℕ → List ℕ)
+    → ((file : List ℕ) → pages file ≡ []) → HasMarked g old old marks marks steps steps 0 pages
+none_marked g old marks steps pages none = record {
+  same = refl;
+  later = omega arith;
+  members = refl;
+  fewer = omega arith;
+  cost = omega arith;
+  counted = told0 (g.content old) (λ file. sym (ap length (none file)));
+  grew = told0 (g.content old) (λ file. subst (λ (list : List ℕ). Marked (is_set marks) marks list) (sym (none file))
+      (marked_none marks));
+}
+
+cond_twice : (a b c : Bool) → cond (cond a true b) true c ≡ cond a true (cond b true c)
+cond_twice true b c = refl
+cond_twice false b c = refl
+
+pub is_in_append : (xs ys : List ℕ) (n : ℕ) → is_in (xs ++ ys) n ≡ cond (is_in xs n) true (is_in ys n)
+is_in_append [] ys n = refl
+is_in_append (x ∷ xs) ys n =
+    ap (λ (b : Bool). cond (x == n) true b) (is_in_append xs ys n) ∙ sym (cond_twice (x == n) (is_in xs n) (is_in ys n))
+
+pub marked_more : (taken : ℕ → Bool) (old new : List Bool) (list more : List ℕ) → Marked taken old list
+    → Marked (is_set old) new more → Marked taken new (list ++ more)
+marked_more taken old new list more a b n =
+    b n ∙ ap (λ (s : Bool). cond s true (is_in more n)) (a n) ∙ cond_twice (taken n) (is_in list n) (is_in more n)
+    ∙ ap (λ (s : Bool). cond (taken n) true s) (sym (is_in_append list more n))
+
+module _ {S : Type 0} (g : FileOf S) (first old new : S) (start before after : List Bool) (steps mid spent count : ℕ)
+    (pages more : List ℕ → List ℕ) (Checks : List ℕ → Option Fault → Type 0)
+    (has : HasMarked g first old start before steps mid count pages) where
+  -- one more call held
+  pub more_marked : (n : ℕ) (all : List ℕ → List ℕ) → OfFile g first (λ file. all file ≡ pages file ++ more file)
+      → ChecksPages g old new before after mid spent (Ok n) Checks more
+      → HasMarked g first new start after steps spent (count + n) all
+  more_marked n all splits call =
+      let fewer = call.fewer in
+      let at_ok = call.at_ok in
+      let counted = subst (λ (o : Option (List ℕ)). IfSome o (λ file. n ≡ length (more file))) has.same call.count in
+      let grew = subst (λ (o : Option (List ℕ)). IfSome o (λ file. Marked (is_set before) after
+      (more file))) has.same call.grew in
+      record {
+        same = call.over.same ∙ has.same;
+        later = omega (arith, has.later, call.over.cause.later);
+        members = call.members ∙ has.members;
+        fewer = omega (arith, has.fewer, fewer);
+        cost = omega (arith, has.cost, at_ok);
+        counted =
+            told3 (g.content first)
+            (λ file e a b. omega (arith, a, b, ap length e, length-append (pages file) (more file)))
+            splits has.counted counted;
+        grew =
+            told3 (g.content first)
+            (λ file e a b. subst (λ (list : List ℕ). Marked (is_set start) after list) (sym e)
+            (marked_more (is_set start) before after (pages file) (more file) a b))
+            splits has.grew grew;
+      }
+
+  -- or it broke off
+  pub breaks_off : (halt : Halt) (All : List ℕ → Option Fault → Type 0) (all : List ℕ → List ℕ)
+      → OfFile g first (λ file. HaltsAt halt (All file)) → ChecksPages g old new before after mid spent
+      (Err halt) Checks more
+      → ChecksPages g first new start after steps spent (Err halt) All all
+  breaks_off halt All all exact call = record {
+    exact = exact;
+    count = tt;
+    grew = tt;
+    members = call.members ∙ has.members;
+    fewer = tt;
+    cost = omega (arith, has.cost, has.fewer, call.cost);
+    at_ok = tt;
+    over = record {
+      same = call.over.same ∙ has.same;
+      cause = record {
+        later = omega (arith, has.later, call.over.cause.later);
+        source = λ is. rose_before (g.faults first) (g.faults old) (g.faults new) has.later (call.over.cause.source is);
+      };
+    };
+  }
+
+-- all of them held
+pub all_marked : {S : Type 0} (g : FileOf S) (old new : S) (before after : List Bool) (steps spent count : ℕ)
+    (pages all : List ℕ → List ℕ) (All : List ℕ → Option Fault → Type 0) → OfFile g old (λ file. all file ≡ pages file)
+    → OfFile g old (λ file. All file None) → HasMarked g old new before after steps spent count pages
+    → ChecksPages g old new before after steps spent (Ok count) All all
+all_marked g old new before after steps spent count pages all All same holds has = record {
+  exact = holds;
+  count = told2 (g.content old) (λ file e a. a ∙ sym (ap length e)) same has.counted;
+  grew = told2 (g.content old) (λ file e a. subst (λ (list : List ℕ). Marked (is_set before) after list) (sym e) a)
+      same has.grew;
+  members = has.members;
+  fewer = has.fewer;
+  cost = omega (arith, has.cost);
+  at_ok = has.cost;
+  over = record { same = has.same; cause = record { later = has.later; source = λ is. absurd (cc) } };
+}
+
+-- a call between that marks nothing
+pub moved : {S A : Type 0} (g : FileOf S) (first old new : S) (start marks : List Bool) (steps mid spent count : ℕ)
+    (pages : List ℕ → List ℕ) (result : Result A Halt) → spent ≤ mid → HaltsOver g old new result
+    → HasMarked g first old start marks steps mid count pages
+    → HasMarked g first new start marks steps spent count pages
+moved g first old new start marks steps mid spent count pages result less over has = record {
+  same = over.same ∙ has.same;
+  later = omega (arith, has.later, over.cause.later);
+  members = has.members;
+  fewer = has.fewer;
+  cost = omega (arith, less, has.cost);
+  counted = has.counted;
+  grew = has.grew;
+}
+
+-- the same call, counted from another number of steps
+pub shifted : {S : Type 0} (g : FileOf S) (old new : S) (before after : List Bool) (steps spent k : ℕ)
+    (result : Result ℕ Halt) (Checks : List ℕ → Option Fault → Type 0) (pages : List ℕ → List ℕ)
+    → ChecksPages g old new before after steps spent result Checks pages
+    → ChecksPages g old new before after (steps + k) (spent + k) result Checks pages
+shifted g old new before after steps spent k (Ok n) Checks pages call = record {
+  exact = call.exact;
+  count = call.count;
+  grew = call.grew;
+  members = call.members;
+  fewer = call.fewer;
+  cost = omega (arith, call.cost);
+  at_ok = let at_ok = call.at_ok in omega (arith, at_ok);
+  over = call.over;
+}
+shifted g old new before after steps spent k (Err halt) Checks pages call = record {
+  exact = call.exact;
+  count = tt;
+  grew = tt;
+  members = call.members;
+  fewer = tt;
+  cost = omega (arith, call.cost);
+  at_ok = tt;
+  over = call.over;
+}
+
+-- it took fewer steps
+pub sooner : {S : Type 0} (g : FileOf S) (old new : S) (before after : List Bool) (steps spent k : ℕ)
+    (result : Result ℕ Halt) (Checks : List ℕ → Option Fault → Type 0) (pages : List ℕ → List ℕ)
+    → ChecksPages g old new before after steps (spent + k) result Checks pages
+    → ChecksPages g old new before after steps spent result Checks pages
+sooner g old new before after steps spent k (Ok n) Checks pages call = record {
+  exact = call.exact;
+  count = call.count;
+  grew = call.grew;
+  members = call.members;
+  fewer = call.fewer;
+  cost = omega (arith, call.cost);
+  at_ok = let at_ok = call.at_ok in omega (arith, at_ok);
+  over = call.over;
+}
+sooner g old new before after steps spent k (Err halt) Checks pages call = record {
+  exact = call.exact;
+  count = tt;
+  grew = tt;
+  members = call.members;
+  fewer = tt;
+  cost = omega (arith, call.cost);
+  at_ok = tt;
+  over = call.over;
+}

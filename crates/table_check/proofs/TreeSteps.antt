@@ -1,0 +1,181 @@
+-- The trees of a table, one after another.
+use Rattle.std.proofs.Common.{◌≡◌, ℕ, zero, suc, ◌+◌, ◌<◌, ◌≤◌, Bool, true, false, cond, List, [], ◌∷◌, ◌++◌, length}
+use Rattle.std.proofs.Common.{get_or, replicate, map, flat_map, Option, Some, None, Result, Ok, Err, refl, sym, ap}
+use Rattle.std.proofs.Common.{◌∙◌, subst, arith}
+use Rattle.std.specs.List.{range_with_len}
+use Rattle.std.proofs.Math.Path.{fun_ext}
+use Rattle.std.proofs.lemmas.List.{get_or_default}
+use Rattle.page_source.specs.declared.rule.Fault.{Fault}
+use Rattle.page_source.specs.declared.checks.Halt.{Halt}
+use Rattle.page_source.specs.declared.checks.Halt.TheVariants.{Broken, Source}
+use Rattle.std.proofs.lemmas.List.{map-append}
+use Rattle.page_source.specs.declared.checks.Stop.{Stop}
+use Rattle.page_source.specs.declared.checks.Stop.TheVariants as stops
+use Rattle.page_source.specs.Verdict.{AllBelow, Each, EachOf}
+use Rattle.space_header.specs.declared.address.Address.{Address}
+use Rattle.inode_segments.specs.Inodes.{segments}
+use Rattle.tree_walk.specs.declared.ends.TreeEnds.{TreeEnds}
+use Rattle.tree_walk.specs.Leaf.{IsWalked}
+use Rattle.tree_walk.specs.Walk.{IsEndsOf}
+use Rattle.page_source.specs.Checks.{Halts, HaltsAt, Stops, stop_of}
+use Rattle.column_values.specs.Types.{Fields}
+use Rattle.schema_text.specs.declared.table.IndexDef.{IndexDef}
+use Rattle.schema_text.specs.TableDef.{TableDef, index_at}
+use Rattle.schema_text.specs.IndexFields.{leaf_fields, node_fields}
+use Rattle.space_audit.specs.Marks.{is_in, is_set, Marked}
+use Rattle.tree_walk.specs.Index.{Index, index_of, tree_pages}
+use Rattle.tree_walk.specs.Segments.{named_segments, leaf_segment}
+use Rattle.tree_walk.specs.TreeChecks.{TreeChecks}
+use Rattle.table_check.specs.First.{ValueChecksOf}
+use Rattle.table_check.specs.Values.{RowChecks}
+use Rattle.table_check.specs.Trees.{clustered_tree, all_tree_pages, index_in, index_count, IndexCheck, NamedCheck}
+use Rattle.table_check.specs.Trees.{NamedChecks, pages_of_trees, segments_of_trees, leaf_segments_of}
+use Rattle.table_check.specs.Taken.{AreExactly, AreTaken, AreWalked}
+use Rattle.table_check.proofs.Progress.{is_in_append}
+use Rattle.table_check.proofs.RecordSteps.{flat_map_more, range_more, below_more}
+
+-- a halt of these checks, as a stop
+pub stops_at : (halt : Halt) (checks : Option Fault → Type 0) → HaltsAt halt checks → Stops (stop_of halt) checks
+stops_at (Broken fault) checks at = at
+stops_at Source checks at = tt
+
+-- more numbers were marked
+pub exactly_more : (old new : List Bool) (list more : List ℕ) → AreExactly old list → Marked (is_set old) new more
+    → AreExactly new (list ++ more)
+exactly_more old new list more a b n =
+    b n ∙ ap (λ (s : Bool). cond s true (is_in more n)) (a n) ∙ sym (is_in_append list more n)
+
+module _ (file : List ℕ) (table : TableDef) (j : ℕ) (leaf node : Fields) (indexes : List IndexDef) (d : IndexDef)
+    (within : j < length table.indexes) (all : indexes ≡ table.indexes)
+    (is_leaf : leaf ≡ leaf_fields table j) (is_node : node ≡ node_fields table j) where
+  -- the index that is walked
+  root_is : (get_or indexes j d).root ≡ (index_at table j).root
+  root_is =
+      ap (λ (i : IndexDef). i.root)
+      (ap (λ (list : List IndexDef). get_or list j d) all ∙ get_or_default table.indexes j d _ within)
+
+  pub index_is : index_of file (get_or indexes j d).root leaf node ≡ index_in file table j
+  unfolding index_in
+  index_is =
+      ap (λ (r : ℕ). index_of file r leaf node) root_is
+      ∙ ap (λ (f : Fields). index_of file (index_at table j).root f node) is_leaf
+      ∙ ap (index_of file (index_at table j).root (leaf_fields table j)) is_node
+
+  pub tree_checked : (marks named : List Bool) → AreTaken file table j marks named → (v : Option Fault)
+      → TreeChecks (index_of file (get_or indexes j d).root leaf node) (is_set marks) (is_set named) v
+      → IndexCheck file table j v
+  tree_checked marks named taken v check =
+      subst (λ (t : ℕ → Bool). TreeChecks (index_in file table j) t (is_in (segments_of_trees file table j)) v)
+      (fun_ext taken.pages)
+      (subst (λ (t : ℕ → Bool). TreeChecks (index_in file table j) (is_set marks) t v) (fun_ext taken.segments)
+      (subst (λ (i : Index). TreeChecks i (is_set marks) (is_set named) v) index_is check))
+
+  pub tree_halts : (marks named : List Bool) → AreTaken file table j marks named → (halt : Halt)
+      → HaltsAt halt (TreeChecks (index_of file (get_or indexes j d).root leaf node) (is_set marks) (is_set named))
+      → Stops (stop_of halt) (IndexCheck file table j)
+  tree_halts marks named taken (Broken fault) at = tree_checked marks named taken (Some fault) at
+  tree_halts marks named taken Source at = tt
+
+  -- and what it takes
+  pub tree_taken : (marks named now now_named : List Bool) → AreTaken file table j marks named
+      → Marked (is_set marks) now (tree_pages (index_of file (get_or indexes j d).root leaf node))
+      → Marked (is_set named) now_named (named_segments (index_of file (get_or indexes j d).root leaf node))
+      → AreTaken file table (j + 1) now now_named
+  unfolding pages_of_trees segments_of_trees
+  tree_taken marks named now now_named taken pages segments =
+      let page_list = subst (λ (i : Index). Marked (is_set marks) now (tree_pages i)) index_is pages in
+      let segment_list = subst (λ (i : Index). Marked (is_set named) now_named (named_segments i)) index_is segments in
+      record {
+        pages = subst (AreExactly now) (sym (flat_map_more (λ i. tree_pages (index_in file table i)) j))
+            (exactly_more marks now (pages_of_trees file table j) (tree_pages
+            (index_in file table j)) taken.pages page_list);
+        segments = subst (AreExactly now_named) (sym (flat_map_more (λ i. named_segments (index_in file table i)) j))
+            (exactly_more named now_named (segments_of_trees file table j) (named_segments (index_in file table j))
+            taken.segments segment_list);
+      }
+
+-- a check that stops behind others that hold
+pub each_stops : (count i : ℕ) (check : ℕ → Option Fault → Type 0) (stop : Stop) → i < count → AllBelow check i
+    → Stops stop (check i) → Stops stop (Each count check)
+each_stops count i check (stops.Broken fault) within before here = (i, within, before, here)
+each_stops count i check stops.Source within before here = tt
+each_stops count i check stops.Memory within before here = tt
+
+module _ (file : List ℕ) (table : TableDef) where
+  leaves_more : (j : ℕ) → leaf_segments_of file table (j + 1)
+      ≡ leaf_segments_of file table j ++ leaf_segment (index_in file table j) ∷ []
+  unfolding leaf_segments_of
+  leaves_more j =
+      let f = λ (i : ℕ). leaf_segment (index_in file table i) in
+      let e : 0 + j ≡ j = omega arith in
+      ap (map f) (range_more 0 j ∙ ap (λ (x : ℕ). range_with_len 0 j ++ x ∷ []) e)
+      ∙ map-append f (range_with_len 0 j) (j ∷ [])
+
+  pub leaf_added : (j : ℕ) (leaves now : List ℕ) (ends : TreeEnds) → leaves ≡ leaf_segments_of file table j
+      → IsEndsOf (index_in file table j) ends → now ≡ leaves ++ ends.leaf_segment ∷ []
+      → now ≡ leaf_segments_of file table (j + 1)
+  leaf_added j leaves now ends before is added =
+      added ∙ ap (λ (list : List ℕ). list ++ ends.leaf_segment ∷ []) before
+      ∙ ap (λ (x : ℕ). leaf_segments_of file table j ++ x ∷ []) is.leaf ∙ sym (leaves_more j)
+
+  -- the first tree was walked
+  pub walked_first : (marks named : List Bool) (ends : TreeEnds) (leaves now : List ℕ) → leaves ≡ []
+      → now ≡ leaves ++ ends.leaf_segment ∷ [] → IndexCheck file table 0 None → AreTaken file table 1 marks named
+      → IsWalked (index_in file table 0) → IsEndsOf (index_in file table 0) ends
+      → AreWalked file table 1 marks named ends now
+  unfolding leaf_segments_of
+  walked_first marks named ends leaves now none added check taken walked is = record {
+    taken = taken;
+    held = below_more (IndexCheck file table) 0 (λ j below. absurd (omega (arith, below))) check;
+    has_clustered = record { walked = walked; has_ends = is };
+    has_leaves = leaf_added 0 leaves now ends none is added;
+  }
+
+  -- one more tree was walked
+  pub walked_more : (j : ℕ) (marks named marks_now named_now : List Bool) (clustered ends : TreeEnds)
+      (leaves now : List ℕ)
+      → AreWalked file table j marks named clustered leaves → IndexCheck file table j None
+      → AreTaken file table (j + 1) marks_now named_now → IsEndsOf (index_in file table j) ends
+      → now ≡ leaves ++ ends.leaf_segment ∷ [] → AreWalked file table (j + 1) marks_now named_now clustered now
+  walked_more j marks named marks_now named_now clustered ends leaves now are check taken is added = record {
+    taken = taken;
+    held = below_more (IndexCheck file table) j are.held check;
+    has_clustered = are.has_clustered;
+    has_leaves = leaf_added j leaves now ends are.has_leaves is added;
+  }
+
+-- no number is marked of so many
+none_marked_yet : (size n : ℕ) → is_set (replicate size false) n ≡ false
+none_marked_yet zero n = refl
+none_marked_yet (suc size) zero = refl
+none_marked_yet (suc size) (suc n) = none_marked_yet size n
+
+module _ (file : List ℕ) (table : TableDef) where
+  pub none_taken : (marks named : List Bool) (size count : ℕ) → marks ≡ replicate size false → named
+      ≡ replicate count false
+      → AreTaken file table 0 marks named
+  unfolding pages_of_trees segments_of_trees
+  none_taken marks named size count m s = record {
+    pages = λ n. ap (λ (list : List Bool). is_set list n) m ∙ none_marked_yet size n;
+    segments = λ n. ap (λ (list : List Bool). is_set list n) s ∙ none_marked_yet count n;
+  }
+
+  -- the segments that are named, by the marks
+  pub named_checked : (named : List Bool) (places : List Address) → places ≡ segments file
+      → AreExactly named (segments_of_trees file table (index_count table)) → (v : Option Fault)
+      → EachOf places (NamedCheck (λ segment. is_set named segment ≡ true)) v → NamedChecks file table v
+  named_checked named places all exactly v check =
+      subst (λ (f : ℕ → Bool). EachOf (segments file) (NamedCheck (λ segment. f segment ≡ true)) v) (fun_ext exactly)
+      (subst (λ (list : List Address). EachOf list (NamedCheck (λ segment. is_set named segment ≡ true)) v) all check)
+
+  -- the checks of the rows, behind the pages of all trees
+  pub values_checked : (marks : List Bool) → AreExactly marks (all_tree_pages file table) → (v : Option Fault)
+      → RowChecks (clustered_tree file table) (is_set marks) v → ValueChecksOf file table v
+  values_checked marks exactly v check =
+      subst (λ (f : ℕ → Bool). RowChecks (clustered_tree file table) f v) (fun_ext exactly) check
+
+  pub values_stop : (marks : List Bool) → AreExactly marks (all_tree_pages file table) → (halt : Halt)
+      → HaltsAt halt (RowChecks (clustered_tree file table) (is_set marks)) → Stops (stop_of halt)
+      (ValueChecksOf file table)
+  values_stop marks exactly (Broken fault) at = values_checked marks exactly (Some fault) at
+  values_stop marks exactly Source at = tt

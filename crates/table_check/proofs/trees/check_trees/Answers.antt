@@ -1,0 +1,48 @@
+use Rattle.std.proofs.Common.{◌≡◌, ℕ, Some, None, inl, inr, refl, sym, ap, ◌∙◌, subst}
+use Rattle.std.proofs.lemmas.Result.{err_from_is_err_and}
+use Rattle.page_source.proofs.Told.{told0, told2, told3}
+use Rattle.table_check.proofs.TreeSteps.{none_taken, named_checked}
+use Rattle.table_check.proofs.trees.check_trees.Goals as goal
+
+pub walk_indexes-requires-clause-told : goal.walk_indexes-requires-clause-told
+walk_indexes-requires-clause-told g c =
+    told0 (g.S.PageSource.content c.args.source.now)
+    (λ file. none_taken file c.args.schema.now c.in_ok-marks.marks c.in_ok-named.named c.size.result
+    c.segment_count.result
+    c.in_ok-marks.ensures c.in_ok-named.ensures)
+
+pub returns-in_err-check_named-clause-exact : goal.returns-in_err-check_named-clause-exact
+returns-in_err-check_named-clause-exact g c =
+    let r = err_from_is_err_and c.from_residual-in_err-check_named.result
+    c.from_residual-in_err-check_named.ensures.1 in
+    rw (r.1, r.2)
+    (told3 (g.S.PageSource.content c.args.source.now)
+    (λ file audit trees are. inr (
+      trees,
+      named_checked file c.args.schema.now c.walk_indexes.new.named c.args.space.now.segments
+          audit.has_segments are.taken.segments (Some c.in_err-check_named.field-0.0) c.in_err-check_named.ensures,
+    ))
+    c.requires.audit c.in_ok-clustered.ensures.exact c.in_ok-clustered.ensures.walked)
+
+pub returns-clause-exact : goal.returns-clause-exact
+returns-clause-exact g c =
+    told3 (g.S.PageSource.content c.args.source.now)
+    (λ file audit trees are. (
+      trees,
+      named_checked file c.args.schema.now c.walk_indexes.new.named c.args.space.now.segments
+          audit.has_segments are.taken.segments None c.in_ok-check_named.ensures,
+    ))
+    c.requires.audit c.in_ok-clustered.ensures.exact c.in_ok-clustered.ensures.walked
+
+pub returns-clause-trees : goal.returns-clause-trees
+returns-clause-trees g c =
+    told3 (g.S.PageSource.content c.args.source.now)
+    (λ file audit trees are. record {
+      sound = trees;
+      named = named_checked file c.args.schema.now c.walk_indexes.new.named c.args.space.now.segments audit.has_segments
+          are.taken.segments None c.in_ok-check_named.ensures;
+      pages = are.taken.pages;
+      has_clustered = are.has_clustered;
+      has_leaves = are.has_leaves;
+    })
+    c.requires.audit c.in_ok-clustered.ensures.exact c.in_ok-clustered.ensures.walked

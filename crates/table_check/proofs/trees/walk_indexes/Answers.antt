@@ -1,0 +1,99 @@
+use Rattle.std.proofs.Common.{◌≡◌, ℕ, ◌+◌, ◌≤◌, None, length, refl, sym, ap, ◌∙◌, subst, arith}
+use Rattle.std.proofs.lemmas.Result.{err_from_is_err_and}
+use Rattle.page_source.proofs.Told.{told1, told2, told3, told4, told5}
+use Rattle.page_source.specs.Verdict.{AllBelow}
+use Rattle.table_check.specs.Taken.{AreWalked}
+use Rattle.table_check.specs.Trees.{index_count, IndexCheck}
+use Rattle.table_check.proofs.TreeSteps.{each_stops, walked_first, walked_more}
+use Rattle.table_check.proofs.trees.walk_indexes.Goals as goal
+
+pub returns-in_err-clustered-clause-exact : goal.returns-in_err-clustered-clause-exact
+returns-in_err-clustered-clause-exact g c =
+    let r = err_from_is_err_and c.from_residual-in_err-clustered.result c.from_residual-in_err-clustered.ensures.1 in
+    rw (r.1, r.2)
+    (told1 (g.S.PageSource.content c.args.source.now)
+    (λ file at. each_stops (index_count c.args.schema.now) 0
+    (IndexCheck file c.args.schema.now) c.in_err-clustered.field-0.0
+    (omega (arith, c.indexes-count.ensures.table.clustered)) (λ j below. absurd (omega (arith, below))) at)
+    c.in_err-clustered.ensures.exact)
+
+pub loop-j-init : goal.loop-j-init
+loop-j-init g c = record {
+  same = c.in_ok-clustered.ensures.over.same;
+  later = c.in_ok-clustered.ensures.over.cause.later;
+  members = c.in_ok-clustered.ensures.members;
+  segments = c.in_ok-clustered.ensures.segments;
+  room = c.in_ok-clustered.ensures.room;
+  leaves = c.in_ok-clustered.ensures.leaves;
+  told =
+      told4 (g.S.PageSource.content c.args.source.now)
+      (λ file check taken walked ends. walked_first file c.args.schema.now c.walk_index.new.marks c.walk_index.new.named
+      c.in_ok-clustered.clustered c.args.leaf_segments.now.items c.push.new.segments.items c.requires.empty
+      c.in_ok-push.ensures check
+      taken walked ends)
+      c.in_ok-clustered.ensures.exact c.in_ok-clustered.ensures.taken c.in_ok-clustered.ensures.walked
+      c.in_ok-clustered.ensures.ends;
+}
+
+pub returns-in_err-ends-clause-exact : goal.returns-in_err-ends-clause-exact
+returns-in_err-ends-clause-exact g c =
+    let r = err_from_is_err_and c.from_residual-in_err-ends.result c.from_residual-in_err-ends.ensures.1 in
+    let at = rw c.loop-j.invariant.same at c.in_err-ends.ensures.exact in
+    rw (r.1, r.2)
+    (told2 (g.S.PageSource.content c.args.source.now)
+    (λ file are at. each_stops (index_count c.args.schema.now) c.loop-j.j (IndexCheck file c.args.schema.now)
+    c.in_err-ends.field-0.0 (omega (arith, c.loop-j-test.true, ap length c.indexes-count.ensures.same)) are.held at)
+    c.loop-j.invariant.told at)
+
+pub loop-j-preserved : goal.loop-j-preserved
+loop-j-preserved g c =
+    let inv = c.loop-j.invariant in
+    let check = rw inv.same at c.in_ok-ends.ensures.exact in
+    let taken = rw inv.same at c.in_ok-ends.ensures.taken in
+    let ends = rw inv.same at c.in_ok-ends.ensures.ends in
+    let more = c.in_ok-ends.ensures.leaves in
+    record {
+      same = c.in_ok-ends.ensures.over.same ∙ inv.same;
+      later = omega (arith, inv.later, c.in_ok-ends.ensures.over.cause.later);
+      members = c.in_ok-ends.ensures.members ∙ inv.members;
+      segments = c.in_ok-ends.ensures.segments ∙ inv.segments;
+      room = c.in_ok-ends.ensures.room;
+      leaves = record {
+        fewer = omega (arith, inv.leaves.fewer, more.fewer);
+        cost = omega (arith, inv.leaves.cost, more.cost);
+      };
+      told =
+          told4 (g.S.PageSource.content c.args.source.now)
+          (λ file are check taken ends. walked_more file c.args.schema.now c.loop-j.j c.loop-j.marks c.loop-j.named
+          c.walk_index-in-loop-j.new.marks c.walk_index-in-loop-j.new.named c.in_ok-clustered.clustered
+          c.in_ok-ends.ends
+          c.loop-j.leaf_segments.items c.push-in-loop-j.new.segments.items are check taken ends c.in_ok-push-2.ensures)
+          inv.told check taken ends;
+    }
+
+pub returns-clause-exact : goal.returns-clause-exact
+returns-clause-exact g c =
+    let e : c.loop-j.j ≡ index_count c.args.schema.now =
+    omega (
+      arith,
+      c.loop-j-test.false,
+      c.loop-j.auto.j-end,
+      ap length c.indexes-count.ensures.same,
+      c.indexes-count.ensures.table.clustered,
+    ) in
+    told1 (g.S.PageSource.content c.args.source.now)
+    (λ file are. subst (λ (n : ℕ). AllBelow (IndexCheck file c.args.schema.now) n) e are.held) c.loop-j.invariant.told
+
+pub returns-clause-walked : goal.returns-clause-walked
+returns-clause-walked g c =
+    let e : c.loop-j.j ≡ index_count c.args.schema.now =
+    omega (
+      arith,
+      c.loop-j-test.false,
+      c.loop-j.auto.j-end,
+      ap length c.indexes-count.ensures.same,
+      c.indexes-count.ensures.table.clustered,
+    ) in
+    told1 (g.S.PageSource.content c.args.source.now)
+    (λ file are. subst (λ (n : ℕ). AreWalked file c.args.schema.now n c.loop-j.marks c.loop-j.named
+    c.in_ok-clustered.clustered c.loop-j.leaf_segments.items) e are) c.loop-j.invariant.told

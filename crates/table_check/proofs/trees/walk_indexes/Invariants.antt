@@ -1,0 +1,20 @@
+use Rattle.std.proofs.Common.{◌≡◌, ℕ, ◌+◌, ◌*◌, ◌≤◌, List, length}
+use Rattle.page_source.specs.Calls.{OfFile}
+use Rattle.tree_walk.specs.Room.{HasRoom}
+use Rattle.table_check.specs.Taken.{AreWalked, LeavesRoom}
+use Rattle.table_check.proofs.trees.walk_indexes.Given as goal
+
+-- the trees before this one hold
+abbrev pub invariant-loop-j : goal.invariant-loop-j
+invariant-loop-j g l =
+    let content = g.S.PageSource.content in
+    record {
+      same : content l.source ≡ content l.fn.source;
+      later : g.S.PageSource.faults l.fn.source ≤ g.S.PageSource.faults l.source;
+      members : length l.marks ≡ length l.fn.marks;
+      segments : length l.named ≡ length l.fn.named;
+      room : HasRoom l.walk 128;
+      leaves : LeavesRoom l.clustered.leaves l.fn.marks l.marks l.fn.steps l.steps;
+      told : OfFile g.S.PageSource l.fn.source (λ file.
+          AreWalked file l.schema l.j l.marks l.named l.clustered l.leaf_segments.items);
+    }

@@ -1,0 +1,57 @@
+-- What is known of a table's trees while they are walked one after another, and once all were.
+use Rattle.std.specs.Prelude.{◌≡◌, ℕ, ◌+◌, ◌*◌, ◌≤◌, Bool, List, None}
+use Rattle.page_source.specs.Lists.{unmarked}
+use Rattle.space_audit.specs.Marks.{is_in, is_set}
+use Rattle.schema_text.specs.TableDef.{TableDef}
+use Rattle.tree_walk.specs.declared.ends.TreeEnds.{TreeEnds}
+use Rattle.tree_walk.specs.Leaf.{IsWalked}
+use Rattle.tree_walk.specs.Walk.{IsEndsOf}
+use Rattle.table_check.specs.declared.trees.Trees.{Trees}
+use Rattle.table_check.specs.First.{is_reached}
+use Rattle.table_check.specs.Trees.{clustered_tree, index_count, pages_of_trees, segments_of_trees, all_tree_pages}
+use Rattle.table_check.specs.Trees.{leaf_segments, leaf_segments_of, AllTreeChecks, NamedChecks, IndexCheck}
+use Rattle.page_source.specs.Verdict.{AllBelow}
+
+-- exactly these numbers are marked
+abbrev pub AreExactly : List Bool → List ℕ → Type 0
+AreExactly marks list = (n : ℕ) → is_set marks n ≡ is_in list n
+
+-- the pages of the first j trees are marked, and the segments that they name
+pub record AreTaken (file : List ℕ) (table : TableDef) (j : ℕ) (marks named : List Bool) : Type 0 where
+  pub pages : AreExactly marks (pages_of_trees file table j)
+  pub segments : AreExactly named (segments_of_trees file table j)
+
+-- the tree of the clustered index was walked, and these are its ends
+pub record IsClustered (file : List ℕ) (table : TableDef) (ends : TreeEnds) : Type 0 where
+  pub walked : IsWalked (clustered_tree file table)
+  pub has_ends : IsEndsOf (clustered_tree file table) ends
+
+-- the first j trees hold
+pub record AreWalked (file : List ℕ) (table : TableDef) (j : ℕ) (marks named : List Bool) (clustered : TreeEnds)
+    (leaves : List ℕ) : Type 0 where
+  pub taken : AreTaken file table j marks named
+  pub held : AllBelow (IndexCheck file table) j
+  pub has_clustered : IsClustered file table clustered
+  pub has_leaves : leaves ≡ leaf_segments_of file table j
+
+-- all trees hold, and each segment is named
+pub record AreTrees (file : List ℕ) (table : TableDef) (trees : Trees) : Type 0 where
+  pub sound : AllTreeChecks file table None
+  pub named : NamedChecks file table None
+  pub pages : AreExactly trees.marks (all_tree_pages file table)
+  pub has_clustered : IsClustered file table trees.clustered
+  pub has_leaves : trees.leaf_segments.items ≡ leaf_segments file table
+
+-- exactly the pages of trees and chains are marked
+abbrev pub IsReached : List ℕ → TableDef → List Bool → Type 0
+IsReached file table marks = (n : ℕ) → is_set marks n ≡ is_reached file table n
+
+-- so many leaves are among the pages that were marked since, and were left over of two steps for each of these
+pub record LeavesRoom (leaves : ℕ) (before after : List Bool) (steps spent : ℕ) : Type 0 where
+  pub fewer : leaves + unmarked after ≤ unmarked before
+  pub cost : spent + 2 * unmarked after + leaves ≤ steps + 2 * unmarked before
+
+-- the same where none of so many pages was marked before
+pub record LeavesSome (leaves : ℕ) (after : List Bool) (size steps spent : ℕ) : Type 0 where
+  pub fewer : leaves + unmarked after ≤ size
+  pub cost : spent + 2 * unmarked after + leaves ≤ steps + 2 * size

@@ -1,0 +1,16 @@
+//! A whole table: all rules of its file, in order.
+#![tactic(auto)]
+
+pub mod laws;
+mod record;
+mod rows;
+mod table;
+mod trees;
+mod unreached;
+mod value;
+mod values;
+mod whole;
+
+pub use rows::LiveRows;
+pub use table::{Checked, Table};
+pub use whole::{check, check_table};

@@ -1,0 +1,75 @@
+//! All rules of a tablespace against a schema, in order.
+
+ghost use Rattle.std.specs.Prelude.{IfOk};
+ghost use Rattle.page_source.specs.Checks.{Answers};
+ghost use Rattle.page_source.specs.Calls.{OfFile, StopsOver};
+ghost use Rattle.table_check.specs.First.{First, IsChecked, IsCheckedTable, TakesSteps, LeavesSteps, check_steps};
+
+use crate::table::{Checked, Table};
+use crate::trees::check_trees;
+use crate::unreached::count_unreached;
+use crate::values::check_values;
+use page_source::{PageSource, Steps, Stop};
+use schema_text::Schema;
+use space_audit::audit;
+use std::alloc::Global;
+use std::sync::ledger::Ledger;
+
+/// Checks a tablespace by the rules 1 to 51. `Broken` names the first broken one and its page.
+pub fn check<S: PageSource, L: Ledger>(
+    alloc: Global,
+    source: &mut S,
+    schema: &Schema,
+    steps: &mut Steps<L>,
+) -> Result<Checked, Stop>
+    ensures exact { OfFile S.PageSource source.old (λ file. Answers result (First file schema.now)) }
+    ensures checked { IfOk result (λ checked. OfFile S.PageSource source.old (λ file.
+        IsChecked file schema.now checked)) }
+    ensures steps { TakesSteps S.PageSource source.old check_steps steps.old steps.new }
+    ensures over { StopsOver S.PageSource source.old source.new result }
+{
+    Ok(check_table(alloc, source, schema, steps)?.checked)
+}
+
+/// The same, with what reading the rows of the table needs besides.
+pub fn check_table<S: PageSource, L: Ledger>(
+    alloc: Global,
+    source: &mut S,
+    schema: &Schema,
+    steps: &mut Steps<L>,
+) -> Result<Table, Stop>
+    ensures exact { OfFile S.PageSource source.old (λ file. Answers result (First file schema.now)) }
+    ensures table { IfOk result (λ table. OfFile S.PageSource source.old (λ file.
+        IsCheckedTable file schema.now table)) }
+    ensures steps { TakesSteps S.PageSource source.old check_steps steps.old steps.new }
+    ensures leaves { IfOk result (λ table. LeavesSteps steps.old steps.new table) }
+    ensures over { StopsOver S.PageSource source.old source.new result }
+{
+    let space = audit(alloc, source, schema.flags(), steps)?;
+    let pages = space.size();
+    let mut trees = check_trees(alloc, source, &space, schema, steps)?;
+    let clustered = trees.clustered;
+    let chain_pages = check_values(
+        alloc,
+        source,
+        &space,
+        schema,
+        &clustered,
+        &mut trees.marks,
+        steps,
+    )?;
+    let unreached = count_unreached(&space, &trees.leaf_segments, &trees.marks)?;
+    let checked = Checked {
+        pages,
+        used: space.used_pages(),
+        rows: clustered.live,
+        deleted: clustered.deleted,
+        unreached,
+    };
+    Ok(Table {
+        checked,
+        space: space.space_id(),
+        clustered,
+        chain_pages,
+    })
+}
