@@ -1,0 +1,13 @@
+pub mod ColumnFields
+pub mod Written
+pub mod Chains
+pub mod Longs
+pub mod Cells
+pub mod Short
+pub mod Sends
+pub mod RowLines
+pub mod Totals
+pub mod RowPages
+pub mod TableLines
+pub mod Soundness
+pub mod Dumps

@@ -1,0 +1,53 @@
+-- The text of a table's rows, and what a dump did.
+use Rattle.std.specs.Prelude.{◌≡◌, ◌≤◌, ℕ, List, Option, Some, None, Result, Ok, Err}
+use Rattle.page_source.specs.declared.objects.PageSource.{Ghosts as FileOf}
+use Rattle.page_source.specs.declared.objects.ByteSink.{Ghosts as SinkOf}
+use Rattle.page_source.specs.Faults.{Rose}
+use Rattle.page_source.specs.Objects.{GrowsBy, GrowsByPart}
+use Rattle.column_values.specs.declared.value.Value.{Value}
+use Rattle.schema_text.specs.TableDef.{TableDef}
+use Rattle.row_text.specs.Line.{text_of}
+use Rattle.table_check.specs.declared.table.Checked.{Checked}
+use Rattle.table_check.specs.First.{First, IsChecked}
+use Rattle.table_check.specs.Rows.{AreRows}
+use Rattle.sql_dump.specs.declared.stop.DumpStop.{DumpStop}
+use Rattle.sql_dump.specs.declared.stop.DumpStop.TheVariants.{Broken, Source, Sink, Memory}
+
+-- the lines of the rows that the file holds
+pub record IsDumpOf (file : List ℕ) (table : TableDef) (text : List ℕ) : Type 0 where
+  pub rows : List (List Value)
+  pub are : AreRows file table rows
+  pub is : text ≡ text_of table rows
+
+-- a text grew by the dump, and by a prefix of it
+abbrev pub GrewByDump : List ℕ → TableDef → Option (List ℕ) → Option (List ℕ) → Type 0
+GrewByDump file table old new = (text : List ℕ) × IsDumpOf file table text × GrowsBy old new text
+
+abbrev pub GrewByPart : List ℕ → TableDef → Option (List ℕ) → Option (List ℕ) → Type 0
+GrewByPart file table old new = (text : List ℕ) × IsDumpOf file table text × GrowsByPart old new text
+
+-- no rule of the file is broken, these are its numbers, and its dump was written
+pub record IsDumped (file : List ℕ) (table : TableDef) (checked : Checked) (old new : Option (List ℕ)) : Type 0 where
+  pub sound : First file table None
+  pub numbers : IsChecked file table checked
+  pub written : GrewByDump file table old new
+
+-- what a dump answered over a file that is told, and what its sink then holds
+abbrev pub Dumps : List ℕ → TableDef → Result Checked DumpStop → Option (List ℕ) → Option (List ℕ) → Type 0
+Dumps file table (Ok checked) old new = IsDumped file table checked old new
+Dumps file table (Err (Broken fault)) old new = First file table (Some fault) × (new ≡ old)
+Dumps file table (Err Source) old new =
+    (First file table None → GrewByPart file table old new) × (¬ (First file table None) → new ≡ old)
+Dumps file table (Err Sink) old new = First file table None × GrewByPart file table old new
+Dumps file table (Err Memory) old new = new ≡ old
+
+-- what a dump leaves of the two objects, told or not: the file is as before, a fault is answered only where the count
+-- of that object rose, and for want of memory nothing is written
+pub record DumpsOver {S O : Type 0} (g : FileOf S) (o : SinkOf O) (old new : S) (sink sink_now : O)
+    (result : Result Checked DumpStop) : Type 0 where
+  pub same : g.content new ≡ g.content old
+  pub source_later : g.faults old ≤ g.faults new
+  pub sink_later : o.faults sink ≤ o.faults sink_now
+  pub source_rose : result ≡ Err Source → Rose (g.faults old) (g.faults new)
+  pub sink_rose : result ≡ Err Sink → Rose (o.faults sink) (o.faults sink_now)
+  pub unwritten : result ≡ Err Memory → sink_now ≡ sink

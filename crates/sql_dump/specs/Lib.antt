@@ -1,0 +1,7 @@
+pub mod Dump
+pub mod Stops
+pub mod Long
+pub mod Cells
+pub mod Lines
+pub mod Buffer
+pub mod Laws

@@ -1,0 +1,143 @@
+//! Values that go on in pages of their own, written as they are read.
+
+ghost use Rattle.std.specs.Prelude.{◌≡◌, ◌+◌, ◌-◌, ◌<◌, ◌≤◌, ◌↔◌, ◌++◌, length, true, IsTrue, OnOk};
+ghost use Rattle.page_source.specs.Calls.{OfFile, Puts};
+ghost use Rattle.offpage_chain.specs.Chain.{chain_pages};
+ghost use Rattle.offpage_chain.specs.Reference.{reference_of};
+ghost use Rattle.row_text.specs.Writer.{Writer, before_value, with_value, is_long, long_part};
+ghost use Rattle.sql_dump.specs.Stops.{Writes, WritesOver};
+ghost use Rattle.sql_dump.specs.Long.{CanFollow, CanFollowIn, FitsLong, chain_bytes, long_text};
+
+use crate::buffer::Buffer;
+use crate::stop::WriteStop;
+use column_values::{ColumnType, FieldType};
+use offpage_chain::{ChainReader, Reference, read_reference};
+use page_source::{ByteSink, Failed, Page, PageSource, Steps};
+use row_text::RowWriter;
+use row_text::laws::parts_are_the_value;
+use std::sync::ledger::Ledger;
+
+/// BTR_EXTERN_FIELD_REF_SIZE, the bytes of a reference.
+const REFERENCE: usize = 20;
+
+/// Where the bytes of a part begin, behind the page's header and the part's (btr0cur).
+const PART: usize = 46;
+
+/// A page for the parts of chains, how many may still be fetched, and room for the text of one part.
+#[derive(Debug, Drop)]
+pub(crate) struct ChainRoom {
+    pub page: Page,
+    pub left: u32,
+    pub text: Buffer,
+}
+
+/// Whether a value of this type may go on elsewhere, and be as long as these local bytes state.
+pub(crate) fn fits_long(kind: &ColumnType, local: &[u8]) -> bool
+    requires { 20 ≤ length local.now }
+    ensures { IsTrue result ↔ FitsLong kind.now local.now }
+{
+    let field = FieldType::Column(*kind);
+    let (front, reference) = local.split_at(local.len() - REFERENCE);
+    let stated = front.len() as u64 + u64::from(read_reference(reference).length);
+    field.is_variable() && stated <= field.fixed_length() as u64
+}
+
+/// Makes the text of some bytes of a long value. Each byte has two at the most, so there is room.
+fn part_text(writer: &mut RowWriter, text: &mut Buffer, kind: &ColumnType, bytes: &[u8])
+    requires long { is_long kind.now ≡ true }
+    requires lacks { length bytes.now ≤ writer.old.lacks }
+    requires short { length bytes.now ≤ 16384 }
+    ensures text { text.new.bytes ≡ long_part kind.now bytes.now }
+    ensures counts { writer.new ≡ record writer.old { lacks = writer.old.lacks - length bytes.now } }
+{
+    text.truncate(0);
+    match writer.part(text, kind, bytes) {
+        Ok(()) => {}
+        Err(Failed) => {
+            let _ = text.len();
+            unreachable!();
+        }
+    }
+}
+
+/// Puts some bytes of a long value in one piece.
+fn put_part<O: ByteSink>(
+    sink: &mut O,
+    writer: &mut RowWriter,
+    text: &mut Buffer,
+    kind: &ColumnType,
+    bytes: &[u8],
+) -> Result<(), Failed>
+    requires long { is_long kind.now ≡ true }
+    requires lacks { length bytes.now ≤ writer.old.lacks }
+    requires short { length bytes.now ≤ 16384 }
+    ensures puts { Puts O.ByteSink sink.old sink.new (long_part kind.now bytes.now) result }
+    ensures counts { writer.new ≡ record writer.old { lacks = writer.old.lacks - length bytes.now } }
+{
+    part_text(writer, text, kind, bytes);
+    sink.put(text.bytes())
+}
+
+/// Puts the bytes of a chain.
+fn put_chain<S: PageSource, O: ByteSink, L: Ledger>(
+    source: &mut S,
+    sink: &mut O,
+    writer: &mut RowWriter,
+    kind: &ColumnType,
+    reference: &Reference,
+    room: &mut ChainRoom,
+    steps: &mut Steps<L>,
+) -> Result<(), WriteStop>
+    requires long { is_long kind.now ≡ true }
+    requires lacks { writer.old.lacks ≡ reference.now.length }
+    requires told { OfFile S.PageSource source.old (λ file. CanFollowIn file reference.now room.old.left) }
+    ensures puts { OfFile S.PageSource source.old (λ file. Writes result (O.written sink.old) (O.written sink.new)
+        (long_part kind.now (chain_bytes file reference.now))) }
+    ensures left { OnOk result (OfFile S.PageSource source.old (λ file.
+        room.new.left + length (chain_pages file reference.now) ≡ room.old.left)) }
+    ensures came { OnOk result (writer.new ≡ record { came = writer.old.came; lacks = 0 }) }
+    ensures cost { steps.new + room.new.left ≡ steps.old + room.old.left }
+    ensures over { WritesOver S.PageSource O.ByteSink source.old source.new sink.old sink.new result }
+{
+    parts_are_the_value();
+    let mut reader = ChainReader::new(reference);
+    while let Some(length) = reader.part(source, &mut room.page, &mut room.left, steps)? {
+        let part = &room.page.bytes()[PART..PART + length];
+        put_part(sink, writer, &mut room.text, kind, part)?;
+    }
+    Ok(())
+}
+
+/// Puts the value that begins with these local bytes and goes on elsewhere.
+pub(crate) fn put_long<S: PageSource, O: ByteSink, L: Ledger>(
+    source: &mut S,
+    sink: &mut O,
+    writer: &mut RowWriter,
+    kind: &ColumnType,
+    local: &[u8],
+    room: &mut ChainRoom,
+    steps: &mut Steps<L>,
+) -> Result<(), WriteStop>
+    requires few { writer.old.came < 64 }
+    requires long { is_long kind.now ≡ true }
+    requires refers { 20 ≤ length local.now }
+    requires short { length local.now ≤ 16384 }
+    requires told { OfFile S.PageSource source.old (λ file. CanFollowIn file (reference_of local.now) room.old.left) }
+    ensures puts { OfFile S.PageSource source.old (λ file. Writes result (O.written sink.old) (O.written sink.new)
+        (before_value writer.old.came ++ long_text file kind.now local.now)) }
+    ensures left { OnOk result (OfFile S.PageSource source.old (λ file.
+        room.new.left + length (chain_pages file (reference_of local.now)) ≡ room.old.left)) }
+    ensures came { OnOk result (writer.new ≡ with_value writer.old 0) }
+    ensures cost { steps.new + room.new.left ≡ steps.old + room.old.left }
+    ensures over { WritesOver S.PageSource O.ByteSink source.old source.new sink.old sink.new result }
+{
+    parts_are_the_value();
+    let (front, reference) = local.split_at(local.len() - REFERENCE);
+    let reference = read_reference(reference);
+    let length = front.len() as u64 + u64::from(reference.length);
+    writer.start_long(sink, kind, length)?;
+    put_part(sink, writer, &mut room.text, kind, front)?;
+    put_chain(source, sink, writer, kind, &reference, room, steps)?;
+    writer.end_long(sink, kind, length)?;
+    Ok(())
+}

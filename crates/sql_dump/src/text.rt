@@ -1,0 +1,62 @@
+//! The rows of a table as text.
+
+ghost use Rattle.std.specs.Prelude.{◌≤◌, ◌+◌, IfOk};
+ghost use Rattle.page_source.specs.Calls.{OfFile};
+ghost use Rattle.table_check.specs.First.{TakesSteps, dump_steps};
+ghost use Rattle.sql_dump.specs.Dump.{Dumps, DumpsOver};
+
+use crate::buffer::Buffer;
+use crate::columns::column_fields;
+use crate::laws::{checked_can_be_read, schema_is_table};
+use crate::long::ChainRoom;
+use crate::rows::put_rows;
+use crate::stop::DumpStop;
+use compact_record::Located;
+use page_source::{ByteSink, Page, PageSource, Steps};
+use schema_text::Schema;
+use std::alloc::Global;
+use std::sync::ledger::Ledger;
+use table_check::{Checked, LiveRows, check_table};
+
+/// Checks a tablespace by the rules 1 to 51, and then writes one line for each row of its table that has no delete
+/// mark, in the order of the clustered index.
+pub fn dump<S: PageSource, O: ByteSink, L: Ledger>(
+    alloc: Global,
+    source: &mut S,
+    schema: &Schema,
+    sink: &mut O,
+    steps: &mut Steps<L>,
+) -> Result<Checked, DumpStop>
+    ensures told { OfFile S.PageSource source.old (λ file.
+        Dumps file schema.now result (O.written sink.old) (O.written sink.new)) }
+    ensures over { DumpsOver S.PageSource O.ByteSink source.old source.new sink.old sink.new result }
+    ensures steps { TakesSteps S.PageSource source.old dump_steps steps.old steps.new }
+    ensures sized { IfOk result (λ checked. steps.new ≤ steps.old + dump_steps checked.pages) }
+{
+    schema_is_table(schema);
+    checked_can_be_read();
+    let table = check_table(alloc, source, schema, steps)?;
+    let at = column_fields(alloc, schema)?;
+    let fields = schema.fields(alloc, 0, true)?;
+    let mut located = Located::with_room(alloc, fields.fields().len() as u32)?;
+    let mut buffer = Buffer::new(alloc)?;
+    let mut rows = LiveRows::start(alloc, &table.clustered)?;
+    let mut room = ChainRoom {
+        page: Page::zeroed(alloc)?,
+        left: table.chain_pages,
+        text: Buffer::new(alloc)?,
+    };
+    put_rows(
+        source,
+        sink,
+        &mut buffer,
+        schema,
+        &fields,
+        &at,
+        &mut located,
+        &mut rows,
+        &mut room,
+        steps,
+    )?;
+    Ok(table.checked)
+}
