@@ -1,44 +1,68 @@
--- How a dump leaves its output.
-use Rattle.std.proofs.Common.{◌≡◌, ℕ, List, [], Option, Some, Err, refl}
+-- How a dump that stops ends.
+use Rattle.std.proofs.Common.{◌≡◌, ℕ, List, Option, None, Err, refl, ap}
 use Rattle.page_source.specs.declared.objects.PageSource.{Ghosts as FileOf}
-use Rattle.page_source.specs.declared.objects.ByteSource.{Ghosts as SourceOf}
-use Rattle.ibd_cli.specs.declared.dump.DumpStop.{DumpStop}
-use Rattle.ibd_cli.specs.declared.dump.DumpStop.TheVariants.{Refused, Unbuilt, Broken, Source, Memory}
+use Rattle.page_source.specs.declared.objects.ByteSink.{Ghosts as SinkOf}
+use Rattle.page_source.specs.Calls.{OfFile}
+use Rattle.page_source.proofs.Told.{told1}
+use Rattle.schema_text.specs.TableDef.{TableDef}
+use Rattle.table_check.specs.First.{First, TakesSteps, dump_steps}
+use Rattle.sql_dump.specs.declared.stop.DumpStop.{DumpStop}
+use Rattle.sql_dump.specs.declared.stop.DumpStop.TheVariants.{Broken, Source, Sink, Memory}
+use Rattle.sql_dump.specs.Dump.{GrewByPart, Dumps, DumpsOver}
 use Rattle.ibd_cli.specs.declared.status.Status.TheVariants as statuses
-use Rattle.ibd_cli.specs.Answers.{Reads, status_of}
-use Rattle.ibd_cli.specs.Outcome.{Told}
-use Rattle.ibd_cli.specs.Run.{ReadsInputs, Leaves}
+use Rattle.ibd_cli.specs.declared.words.Task.TheVariants.{Dump}
+use Rattle.ibd_cli.specs.Run.{ComesBefore}
+use Rattle.ibd_cli.specs.Answers.{status_of_dump, HasPart, Ends, IsOfFile, ServesFile}
 
--- a stop leaves the output as it was
-pub leaves_stop : (told : Told) (left : Option (List ℕ)) (stop : DumpStop) (out : Option (List ℕ)) → Reads told left (Err stop)
-    → Leaves told (status_of stop) out out left
-leaves_stop told left (Refused line why) out reads = (reads, refl)
-leaves_stop told left Unbuilt out reads = (reads, refl)
-leaves_stop told left (Broken fault) out reads = (reads, refl)
-leaves_stop told left Source out reads = refl
-leaves_stop told left Memory out reads = refl
+-- the output of a sound file
+part_of : (file : List ℕ) (table : TableDef) (old new : Option (List ℕ)) → First file table None
+    → GrewByPart file table old new → HasPart Dump file table old new
+part_of file table old new sound part = (part.0, record { sound = sound; written = part.1 }, part.2)
 
--- and blames it never
-pub never_sink : (stop : DumpStop) → status_of stop ≡ statuses.SinkFault → ⊥
-never_sink (Refused line why) is = cc
-never_sink Unbuilt is = cc
-never_sink (Broken fault) is = cc
-never_sink Source is = cc
-never_sink Memory is = cc
+stop_ends : (file : List ℕ) (table : TableDef) (stop : DumpStop) (old new : Option (List ℕ))
+    → Dumps file table (Err stop) old new → Ends Dump file table (status_of_dump stop) old new
+stop_ends file table (Broken fault) old new told = told
+stop_ends file table Source old new told = ((λ sound. part_of file table old new sound (told.0 sound)), told.1)
+stop_ends file table Sink old new told = part_of file table old new told.0 told.1
+stop_ends file table Memory old new told = told
 
--- the inputs are the same whether the output takes all or not
-pub inputs_cut : {F Q : Type 0} (f : FileOf F) (q : SourceOf Q) (file file_now : F) (schema schema_now : Q) (steps steps_now : ℕ)
-    → ReadsInputs f q file file_now schema schema_now steps steps_now statuses.Done
-    → ReadsInputs f q file file_now schema schema_now steps steps_now statuses.SinkFault
-inputs_cut f q file file_now schema schema_now steps steps_now inputs =
+stop_of_file : (stop : DumpStop) → IsOfFile (status_of_dump stop)
+stop_of_file (Broken fault) = tt
+stop_of_file Source = tt
+stop_of_file Sink = tt
+stop_of_file Memory = tt
+
+is_source : (stop : DumpStop) → status_of_dump stop ≡ statuses.SourceFault → stop ≡ Source
+is_source (Broken fault) is = absurd (cc)
+is_source Source is = refl
+is_source Sink is = absurd (cc)
+is_source Memory is = absurd (cc)
+
+is_sink : (stop : DumpStop) → status_of_dump stop ≡ statuses.SinkFault → stop ≡ Sink
+is_sink (Broken fault) is = absurd (cc)
+is_sink Source is = absurd (cc)
+is_sink Sink is = refl
+is_sink Memory is = absurd (cc)
+
+is_memory : (stop : DumpStop) → ComesBefore Dump (status_of_dump stop) → stop ≡ Memory
+is_memory (Broken fault) before = absurd before
+is_memory Source before = absurd before
+is_memory Sink before = absurd before
+is_memory Memory before = refl
+
+pub dump_stopped : {F O : Type 0} (f : FileOf F) (o : SinkOf O) (file file_now : F) (table : TableDef) (out out_now : O)
+    (steps steps_now : ℕ) (stop : DumpStop)
+    → OfFile f file (λ content. Dumps content table (Err stop) (o.written out) (o.written out_now))
+    → DumpsOver f o file file_now out out_now (Err stop) → TakesSteps f file dump_steps steps steps_now
+    → ServesFile f o Dump file file_now table out out_now steps steps_now (status_of_dump stop)
+dump_stopped f o file file_now table out out_now steps steps_now stop told over cost =
     record {
-      read = inputs.read;
-      refused = λ line why same. absurd (cc);
-      untouched = inputs.untouched;
-      alone = λ text given told gives. tt;
-      broken = λ fault same. absurd (cc);
-      complete = λ told given output tells gives. tt;
-      source = λ same. absurd (cc);
-      content = inputs.content;
-      cost = inputs.cost;
+      ends = told1 (f.content file)
+          (λ content dumps. stop_ends content table stop (o.written out) (o.written out_now) dumps) told;
+      of_file = stop_of_file stop;
+      unwritten = λ before. over.unwritten (ap Err (is_memory stop before));
+      source = λ is. over.source_rose (ap Err (is_source stop is));
+      sink = λ is. over.sink_rose (ap Err (is_sink stop is));
+      content = over.same;
+      cost = cost;
     }

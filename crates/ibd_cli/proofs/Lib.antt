@@ -1,14 +1,8 @@
 pub mod WordLists
 pub mod CameLemmas
-pub mod Walk
-pub mod Places
-pub mod ColumnFields
-pub mod RowLines
-pub mod ColumnCells
-pub mod Readable
+pub mod Joined
 pub mod SchemaReading
-pub mod FileReading
 pub mod OneAnswer
-pub mod Outcomes
-pub mod InputsRead
 pub mod DumpEnds
+pub mod Outcomes
+pub mod Serving

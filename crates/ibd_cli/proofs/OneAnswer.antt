@@ -1,5 +1,5 @@
 -- A schema text is that of one schema, or refused in one way.
-use Rattle.std.proofs.Common.{◌≡◌, ℕ, List, Option, Some, None, Result, Ok, Err, sym, ap}
+use Rattle.std.proofs.Common.{◌≡◌, ℕ, List, Option, Some, None, Result, Ok, Err, ap}
 use Rattle.schema_text.specs.TableDef.{TableDef}
 use Rattle.schema_text.specs.Refusals.{BadLine, SchemaOf}
 use Rattle.schema_text.specs.Laws.{HasOneSchema, TextsPass, ChecksHaveOneAnswer}
@@ -18,6 +18,8 @@ same_bad a b e = cc
 
 pub one_answer : HasOneSchema → TextsPass → ChecksHaveOneAnswer → (text : List ℕ) → HasOneAnswer text
 one_answer schema pass one text (Ok a) (Ok b) p q = ap Ok (schema a b text p q)
-one_answer schema pass one text (Ok a) (Err bad) p q = absurd (none_is_some bad (one text None (Some bad) (pass a text p) q))
-one_answer schema pass one text (Err bad) (Ok b) p q = absurd (none_is_some bad (one text None (Some bad) (pass b text q) p))
+one_answer schema pass one text (Ok a) (Err bad) p q =
+    absurd (none_is_some bad (one text None (Some bad) (pass a text p) q))
+one_answer schema pass one text (Err bad) (Ok b) p q =
+    absurd (none_is_some bad (one text None (Some bad) (pass b text q) p))
 one_answer schema pass one text (Err a) (Err b) p q = ap Err (same_bad a b (one text (Some a) (Some b) p q))

@@ -1,11 +1,13 @@
 -- A list of known length, word by word.
-use Rattle.std.proofs.Common.{◌≡◌, ℕ, List, [], ◌∷◌, length, slice_get, Some, refl, sym, ◌∙◌, arith}
+use Rattle.std.proofs.Common.{◌≡◌, ℕ, List, [], ◌∷◌, length, slice_get, Some, refl, sym, ap, ◌∙◌, subst, arith}
 use Rattle.ibd_cli.specs.declared.words.Form.{Form}
-use Rattle.ibd_cli.specs.declared.words.Form.TheVariants.{Check, Dump, Build, Sample}
-use Rattle.ibd_cli.specs.Forms.{IsForm}
+use Rattle.ibd_cli.specs.declared.words.Form.TheVariants.{Table, Build, Sample}
+use Rattle.ibd_cli.specs.declared.words.Task.{Task}
+use Rattle.ibd_cli.specs.declared.words.Task.TheVariants.{Check, Dump}
+use Rattle.ibd_cli.specs.Forms.{IsForm, AsksNoTable}
 
-pub two_words : (words : List (List ℕ)) (name last : List ℕ) → length words ≡ 2 → slice_get words 0 ≡ Some name → slice_get words 1 ≡ Some last
-    → words ≡ name ∷ last ∷ []
+pub two_words : (words : List (List ℕ)) (name last : List ℕ) → length words ≡ 2 → slice_get words 0 ≡ Some name
+    → slice_get words 1 ≡ Some last → words ≡ name ∷ last ∷ []
 two_words [] name last size first second = absurd (omega arith)
 two_words (x ∷ []) name last size first second = absurd (omega arith)
 two_words (x ∷ y ∷ []) name last size first second = let e : x ≡ name = cc in let f : y ≡ last = cc in rw (e, f) refl
@@ -28,15 +30,47 @@ four_words (x ∷ a ∷ b ∷ []) name size first = absurd (omega arith)
 four_words (x ∷ a ∷ b ∷ c ∷ []) name size first = (a, b, c, (let e : x ≡ name = cc in rw e refl))
 four_words (x ∷ a ∷ b ∷ c ∷ d ∷ rest) name size first = absurd (omega arith)
 
-heads : (a b : List ℕ) (xs ys : List (List ℕ)) → a ∷ xs ≡ b ∷ ys → a ≡ b
-heads a b xs ys e = cc
+-- the same words begin with the same letter
+first_letters : (words : List (List ℕ)) (a b : ℕ) (xs ys : List ℕ) (rest more : List (List ℕ))
+    → words ≡ (a ∷ xs) ∷ rest → words ≡ (b ∷ ys) ∷ more → a ≡ b
+first_letters words a b xs ys rest more is same =
+    let e : (a ∷ xs) ∷ rest ≡ (b ∷ ys) ∷ more = sym is ∙ same in cc
 
-letters : (a b : ℕ) (xs ys : List ℕ) → a ∷ xs ≡ b ∷ ys → a ≡ b
-letters a b xs ys e = cc
+-- no other words are those of a command on a table
+only_task : (words : List (List ℕ)) (other task : Task) → IsForm words (Table other) → IsForm words (Table task)
+    → other ≡ task
+only_task words Check Check is same = refl
+only_task words Check Dump is same = absurd (omega (arith, first_letters words _ _ _ _ _ _ is.2 same.2))
+only_task words Dump Check is same = absurd (omega (arith, first_letters words _ _ _ _ _ _ is.2 same.2))
+only_task words Dump Dump is same = refl
 
--- no other words are those of a dump
-pub only_dump : (words : List (List ℕ)) (form : Form) → IsForm words form → IsForm words Dump → form ≡ Dump
-only_dump words Check other dump = let e = letters _ _ _ _ (heads _ _ _ _ (sym other.2 ∙ dump.2)) in absurd (omega arith)
-only_dump words Dump other dump = refl
-only_dump words Build other dump = let e = letters _ _ _ _ (heads _ _ _ _ (sym other.3 ∙ dump.2)) in absurd (omega arith)
-only_dump words (Sample n) other dump = let e = letters _ _ _ _ (heads _ _ _ _ (sym other.1 ∙ dump.2)) in absurd (omega arith)
+only_table : (words : List (List ℕ)) (form : Form) (task : Task) → IsForm words form → IsForm words (Table task)
+    → form ≡ Table task
+only_table words (Table other) task is same = ap Table (only_task words other task is same)
+only_table words Build Check is same = absurd (omega (arith, first_letters words _ _ _ _ _ _ is.3 same.2))
+only_table words Build Dump is same = absurd (omega (arith, first_letters words _ _ _ _ _ _ is.3 same.2))
+only_table words (Sample n) Check is same = absurd (omega (arith, first_letters words _ _ _ _ _ _ is.1 same.2))
+only_table words (Sample n) Dump is same = absurd (omega (arith, first_letters words _ _ _ _ _ _ is.1 same.2))
+
+tables_same : (a b : Task) → Table a ≡ Table b → a ≡ b
+tables_same a b e = cc
+
+pub same_task : (words : List (List ℕ)) (form : Form) (other task : Task) → form ≡ Table other → IsForm words form
+    → IsForm words (Table task) → other ≡ task
+same_task words form other task is has asks =
+    tables_same other task (sym is ∙ only_table words form task has asks)
+
+pub never_build : (words : List (List ℕ)) (form : Form) (task : Task) → form ≡ Build → IsForm words form
+    → IsForm words (Table task) → ⊥
+never_build words form task is has asks =
+    let e : Build ≡ Table task = sym is ∙ only_table words form task has asks in cc
+
+pub never_sample : (words : List (List ℕ)) (form : Form) (n : ℕ) (task : Task) → form ≡ Sample n → IsForm words form
+    → IsForm words (Table task) → ⊥
+never_sample words form n task is has asks =
+    let e : Sample n ≡ Table task = sym is ∙ only_table words form task has asks in cc
+
+-- such words ask for a table
+pub asks_table : (words : List (List ℕ)) (form : Form) (task : Task) → AsksNoTable words → form ≡ Table task
+    → IsForm words form → ⊥
+asks_table words form task none same is = none task (subst (IsForm words) same is)

@@ -1,84 +1,91 @@
--- What the parts of a dump answer.
+-- What the parts of a command on a table answer.
 use Rattle.std.specs.Prelude.{◌≡◌, ℕ, ⊤, List, [], Option, Some, None, Result, Ok, Err}
-use Rattle.schema_text.specs.TableDef.{TableDef}
-use Rattle.schema_text.specs.Grammar.{IsTextOf}
+use Rattle.page_source.specs.declared.objects.PageSource.{Ghosts as FileOf}
+use Rattle.page_source.specs.declared.objects.ByteSink.{Ghosts as SinkOf}
+use Rattle.page_source.specs.declared.checks.Stop.{Stop}
+use Rattle.page_source.specs.declared.checks.Stop.TheVariants as stops
+use Rattle.page_source.specs.Faults.{Rose}
+use Rattle.page_source.specs.Objects.{GrowsBy, GrowsByPart}
+use Rattle.page_source.specs.Calls.{OfFile}
 use Rattle.schema_text.specs.declared.errors.SchemaError.{SchemaError}
 use Rattle.schema_text.specs.declared.errors.SchemaError.TheVariants as refusals
-use Rattle.page_source.specs.declared.rule.Rule.{Rule}
-use Rattle.page_source.specs.declared.checks.Halt.{Halt}
-use Rattle.page_source.specs.declared.checks.Halt.TheVariants as halts
-use Rattle.ibd_cli.specs.declared.dump.DumpStop.{DumpStop}
-use Rattle.ibd_cli.specs.declared.dump.DumpStop.TheVariants.{Refused, Unbuilt, Broken, Source, Memory}
+use Rattle.schema_text.specs.TableDef.{TableDef}
+use Rattle.schema_text.specs.Grammar.{IsTextOf}
+use Rattle.table_check.specs.First.{First, TakesSteps}
+use Rattle.sql_dump.specs.declared.stop.DumpStop.{DumpStop}
+use Rattle.sql_dump.specs.declared.stop.DumpStop.TheVariants as dumps
+use Rattle.ibd_cli.specs.declared.schema_file.SchemaStop.{SchemaStop}
+use Rattle.ibd_cli.specs.declared.schema_file.SchemaStop.TheVariants.{Refused, Source, Memory}
 use Rattle.ibd_cli.specs.declared.status.Status.{Status}
 use Rattle.ibd_cli.specs.declared.status.Status.TheVariants as statuses
-use Rattle.ibd_cli.specs.Outcome.{First, IsOnePage, RowChecks, IsOtherPage, IsOtherFile, IsWholeFile, HasText, IsDumpOf}
-use Rattle.ibd_cli.specs.Outcome.{IsRefusedText, Told, DumpGives, row_fields}
-use Rattle.ibd_cli.specs.Values.{AreLocal}
+use Rattle.ibd_cli.specs.declared.words.Task.{Task}
+use Rattle.ibd_cli.specs.declared.words.Task.TheVariants.{Check, Dump}
+use Rattle.ibd_cli.specs.Outcome.{IsRefusedText, IsDone, task_steps}
+use Rattle.ibd_cli.specs.Run.{ComesBefore}
 
--- the stop that a refusal is, and that a halt is
-abbrev pub stop_of_schema : SchemaError → DumpStop
+-- the stop that a refusal is
+abbrev pub stop_of_schema : SchemaError → SchemaStop
 stop_of_schema (refusals.Refused line why) = Refused line why
 stop_of_schema refusals.Memory = Memory
 
-abbrev pub stop_of : Halt → DumpStop
-stop_of (halts.Broken fault) = Broken fault
-stop_of halts.Source = Source
+-- the status of a command that the schema text stops, that the checks stop, and that a dump stops
+abbrev pub status_of_schema : SchemaStop → Status
+status_of_schema (Refused line why) = statuses.SchemaRefused line why
+status_of_schema Source = statuses.SourceFault
+status_of_schema Memory = statuses.Memory
 
--- the status of a dump that stops so
-abbrev pub status_of : DumpStop → Status
-status_of (Refused line why) = statuses.SchemaRefused line why
-status_of Unbuilt = statuses.Unbuilt
-status_of (Broken fault) = statuses.Broken fault
-status_of Source = statuses.SourceFault
-status_of Memory = statuses.Memory
+abbrev pub status_of_stop : Stop → Status
+status_of_stop (stops.Broken fault) = statuses.Broken fault
+status_of_stop stops.Source = statuses.SourceFault
+status_of_stop stops.Memory = statuses.Memory
 
--- the status of a dump whose text can be put, or that stops
-abbrev pub status_with : Result (List ℕ) DumpStop → Status
-status_with (Ok text) = statuses.Done
-status_with (Err stop) = status_of stop
+abbrev pub status_of_dump : DumpStop → Status
+status_of_dump (dumps.Broken fault) = statuses.Broken fault
+status_of_dump dumps.Source = statuses.SourceFault
+status_of_dump dumps.Sink = statuses.SinkFault
+status_of_dump dumps.Memory = statuses.Memory
 
 -- the text was read to its end and is that of the schema, or it is refused
-abbrev pub ReadsSchema : List ℕ → Option (List ℕ) → Result TableDef DumpStop → Type 0
+abbrev pub ReadsSchema : List ℕ → Option (List ℕ) → Result TableDef SchemaStop → Type 0
 ReadsSchema text left (Ok table) = IsTextOf table text × (left ≡ Some [])
 ReadsSchema text left (Err (Refused line why)) = IsRefusedText text line why
-ReadsSchema text left (Err Unbuilt) = ⊥
-ReadsSchema text left (Err (Broken fault)) = ⊥
 ReadsSchema text left (Err Source) = ⊤
 ReadsSchema text left (Err Memory) = ⊤
 
--- the lines of the rows where all checks hold, else the first broken one, or more than is read yet
-abbrev pub ReadsFile : List ℕ → TableDef → Result (List ℕ) DumpStop → Type 0
-ReadsFile file table (Ok text) = IsWholeFile file table × IsDumpOf file table text
-ReadsFile file table (Err (Refused line why)) = ⊥
-ReadsFile file table (Err Unbuilt) = IsOtherFile file table
-ReadsFile file table (Err (Broken fault)) = First file table (Some fault)
-ReadsFile file table (Err Source) = ⊤
-ReadsFile file table (Err Memory) = ⊤
+-- a prefix of the output was written
+abbrev pub HasPart : Task → List ℕ → TableDef → Option (List ℕ) → Option (List ℕ) → Type 0
+HasPart task file table old new = (output : List ℕ) × IsDone task file table output × GrowsByPart old new output
 
--- the page in hand is read whole: it is the only one of its tree, and no check is broken
-pub record IsWholePage (page : List ℕ) (table : TableDef) : Type 0 where
-  pub one_page : IsOnePage page
-  pub local : AreLocal page (row_fields table)
-  pub checks : RowChecks page (row_fields table) None
+-- what was written where the file can't be read
+abbrev pub EndsUnread : Task → List ℕ → TableDef → Option (List ℕ) → Option (List ℕ) → Type 0
+EndsUnread Check file table old new = new ≡ old
+EndsUnread Dump file table old new =
+    (First file table None → HasPart Dump file table old new) × (¬ (First file table None) → new ≡ old)
 
--- a check of it is broken, and the fault names it
-pub record IsBrokenPage (page : List ℕ) (root : ℕ) (table : TableDef) (rule : Rule) (n : ℕ) : Type 0 where
-  pub one_page : IsOnePage page
-  pub named : n ≡ root
-  pub checks : RowChecks page (row_fields table) (Some rule)
+-- how a task ends at a file, and what was written
+abbrev pub Ends : Task → List ℕ → TableDef → Status → Option (List ℕ) → Option (List ℕ) → Type 0
+Ends task file table statuses.Done old new =
+    (output : List ℕ) × IsDone task file table output × GrowsBy old new output
+Ends task file table (statuses.Broken fault) old new = First file table (Some fault) × (new ≡ old)
+Ends task file table statuses.SourceFault old new = EndsUnread task file table old new
+Ends task file table statuses.SinkFault old new = HasPart task file table old new
+Ends task file table statuses.Memory old new = new ≡ old
+Ends task file table _ old new = ⊥
 
--- the same of the root page in hand
-abbrev pub ReadsPage : List ℕ → ℕ → TableDef → Result (List ℕ) DumpStop → Type 0
-ReadsPage page root table (Ok text) = IsWholePage page table × HasText page table text
-ReadsPage page root table (Err (Refused line why)) = ⊥
-ReadsPage page root table (Err Unbuilt) = IsOtherPage page (row_fields table)
-ReadsPage page root table (Err (Broken fault)) = IsBrokenPage page root table fault.rule fault.page
-ReadsPage page root table (Err Source) = ⊥
-ReadsPage page root table (Err Memory) = ⊤
+-- such a status ends a task that has read its schema
+abbrev pub IsOfFile : Status → Type 0
+IsOfFile statuses.Usage = ⊥
+IsOfFile (statuses.SchemaRefused line why) = ⊥
+IsOfFile statuses.Unbuilt = ⊥
+IsOfFile _ = ⊤
 
--- what the whole reading gives, where the inputs are told
-abbrev pub Reads : Told → Option (List ℕ) → Result (List ℕ) DumpStop → Type 0
-Reads told left (Ok text) = DumpGives told statuses.Done text × (left ≡ Some [])
-Reads told left (Err Source) = ⊤
-Reads told left (Err Memory) = ⊤
-Reads told left (Err stop) = DumpGives told (status_of stop) []
+-- what a task does to the file and the output, and how it ends
+pub record ServesFile {F O : Type 0} (f : FileOf F) (o : SinkOf O) (task : Task) (file file_now : F) (table : TableDef)
+    (out out_now : O) (steps steps_now : ℕ) (status : Status) : Type 0 where
+  pub ends : OfFile f file (λ content. Ends task content table status (o.written out) (o.written out_now))
+  pub of_file : IsOfFile status
+  pub unwritten : ComesBefore task status → out_now ≡ out
+  pub source : status ≡ statuses.SourceFault → Rose (f.faults file) (f.faults file_now)
+  pub sink : status ≡ statuses.SinkFault → Rose (o.faults out) (o.faults out_now)
+  pub content : f.content file_now ≡ f.content file
+  pub cost : TakesSteps f file (task_steps task) steps steps_now

@@ -2,9 +2,6 @@ pub mod Forms
 pub mod Lines
 pub mod Causes
 pub mod Reading
-pub mod Texts
-pub mod Values
-pub mod Rows
 pub mod Outcome
-pub mod Answers
 pub mod Run
+pub mod Answers

@@ -5,7 +5,8 @@ use Rattle.page_source.specs.Rules.{rule_number, rule_name}
 use Rattle.schema_text.specs.declared.errors.SchemaWhy.{SchemaWhy}
 use Rattle.schema_text.specs.declared.errors.SchemaWhy.TheVariants as whys
 use Rattle.ibd_cli.specs.declared.status.Status.{Status}
-use Rattle.ibd_cli.specs.declared.status.Status.TheVariants.{Done, Usage, SchemaRefused, Broken, SourceFault, SinkFault, Memory, Unbuilt}
+use Rattle.ibd_cli.specs.declared.status.Status.TheVariants.{Done, Usage, SchemaRefused, Broken}
+use Rattle.ibd_cli.specs.declared.status.Status.TheVariants.{SourceFault, SinkFault, Memory, Unbuilt}
 
 -- a number behind its name
 abbrev pub counted : List ℕ → ℕ → List ℕ
@@ -25,7 +26,8 @@ why_word whys.Root = codes "root"
 
 abbrev pub fault_line : Fault → List ℕ
 fault_line fault =
-    counted (codes "broken ") (rule_number fault.rule) ++ codes " " ++ rule_name fault.rule ++ counted (codes " page ") fault.page ++ codes "\n"
+    counted (codes "broken ") (rule_number fault.rule) ++ codes " " ++ rule_name fault.rule
+    ++ counted (codes " page ") fault.page ++ codes "\n"
 
 -- what a status writes to the standard error: nothing where all is done
 abbrev pub status_line : Status → List ℕ

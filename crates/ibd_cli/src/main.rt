@@ -1,25 +1,20 @@
-//! Dumps tablespaces of MySQL 5.7: the whole program as one call, and `main`, which hands it the real
+//! Checks and dumps tablespaces of MySQL 5.7: the whole program as one call, and `main`, which hands it the real
 //! objects.
 #![tactic(auto)]
 
-ghost use Rattle.std.specs.Prelude.{◌≡◌, ◌≢◌, ◌<◌, ◌↔◌};
-ghost use Rattle.ibd_cli.specs.Forms.{IsForm, HasNoForm};
+ghost use Rattle.std.specs.Prelude.{◌≡◌, ◌<◌, ◌↔◌};
+ghost use Rattle.ibd_cli.specs.Forms.{IsForm, HasNoForm, AsksNoTable};
 ghost use Rattle.ibd_cli.specs.declared.words.Form.{Form};
 
-mod columns;
+mod check;
 mod command_line;
 mod dump;
-mod page;
 mod report;
-mod root;
-mod rows;
 mod run;
 mod schema_file;
 mod status;
 #[cfg(test)]
 mod tests;
-mod text;
-mod values;
 mod words;
 
 use command_line::read_words;
@@ -50,7 +45,7 @@ fn start<L: Ledger>(rt: &HostRuntime, words: &Words, blank: Blank) -> Status
     requires parts { blank.parts ≡ L.parts }
     requires shared { 0 < blank.parts }
     ensures usage { (result ≡ Status.Usage) ↔ HasNoForm words.now }
-    ensures unbuilt { (form : Form) → IsForm words.now form → form ≢ Form.Dump → result ≡ Status.Unbuilt }
+    ensures unbuilt { (form : Form) → IsForm words.now form → AsksNoTable words.now → result ≡ Status.Unbuilt }
 {
     run(
         rt.alloc(),

@@ -12,7 +12,8 @@ use schema_text::SchemaWhy;
 
 /// Writes the status's line. A fault of this sink changes nothing else.
 pub fn report<E: ByteSink>(err: &mut E, status: Status)
-    ensures text { Reports (E.written err.old) (E.written err.new) (E.faults err.old) (E.faults err.new) (status_line status) }
+    ensures text { Reports (E.written err.old) (E.written err.new) (E.faults err.old) (E.faults err.new)
+        (status_line status) }
     ensures later { E.faults err.old ≤ E.faults err.new }
 {
     let _ = put_status(err, status);

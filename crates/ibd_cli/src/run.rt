@@ -1,18 +1,24 @@
 //! The whole program as one call over the objects that reach outside.
 
-ghost use Rattle.std.specs.Prelude.{◌≡◌, ◌≢◌, ◌↔◌, ◌+◌, ◌≤◌};
-ghost use Rattle.ibd_cli.specs.Forms.{IsForm, HasNoForm};
+ghost use Rattle.std.specs.Prelude.{◌≡◌, ◌≢◌, ◌↔◌};
+ghost use Rattle.ibd_cli.specs.Forms.{IsForm, HasNoForm, AsksNoTable};
 ghost use Rattle.ibd_cli.specs.Lines.{status_line};
 ghost use Rattle.ibd_cli.specs.Causes.{Reports};
-ghost use Rattle.ibd_cli.specs.Run.{Dumps};
+ghost use Rattle.ibd_cli.specs.Answers.{ServesFile};
+ghost use Rattle.ibd_cli.specs.Run.{Serves};
 
-use crate::dump::read_text;
+use crate::check::check_file;
+use crate::dump::dump_file;
 use crate::report::report;
+use crate::schema_file::read_schema;
 use crate::status::Status;
-use crate::words::{Form, Words};
+use crate::words::{Form, Task, Words};
 use page_source::{ByteSink, ByteSource, PageSource, PageStore, Steps};
+use schema_text::Schema;
+use schema_text::laws::{has_one_schema, texts_pass};
 use std::alloc::Global;
 use std::sync::ledger::Ledger;
+use table_check::laws::first_has_one_answer;
 
 /// Does what the words ask for, and answers how it ended. The words are those of the command line
 /// without the program's name; `file` and `schema` are read, `out` and `err` written. `rows` and
@@ -38,28 +44,27 @@ pub fn run<
 ) -> Status
     // The words decide which command it is.
     ensures usage { (result ≡ Status.Usage) ↔ HasNoForm words.now }
-    ensures unbuilt { (form : Form) → IsForm words.now form → form ≢ Form.Dump → result ≡ Status.Unbuilt }
+    ensures unbuilt { (form : Form) → IsForm words.now form → AsksNoTable words.now → result ≡ Status.Unbuilt }
 
     // What a command doesn't name is never called.
-    ensures file { ¬ (IsForm words.now Form.Dump) → file.new ≡ file.old }
-    ensures schema { ¬ (IsForm words.now Form.Dump) → schema.new ≡ schema.old }
-    ensures steps { ¬ (IsForm words.now Form.Dump) → steps.new ≡ steps.old }
-    ensures out { ¬ (IsForm words.now Form.Dump) → out.new ≡ out.old }
+    ensures file { AsksNoTable words.now → file.new ≡ file.old }
+    ensures schema { AsksNoTable words.now → schema.new ≡ schema.old }
+    ensures steps { AsksNoTable words.now → steps.new ≡ steps.old }
+    ensures out { AsksNoTable words.now → out.new ≡ out.old }
     ensures rows { rows.new ≡ rows.old }
     ensures target { target.new ≡ target.old }
 
-    // What a dump does to the objects that it names, and how it ends.
-    ensures dump { IsForm words.now Form.Dump → Dumps F.PageSource Q.ByteSource O.ByteSink file.old file.new
+    // What a command on a table does to the objects that it names, and how it ends.
+    ensures serves { (task : Task) → IsForm words.now (Form.Table task)
+        → Serves F.PageSource Q.ByteSource O.ByteSink task file.old file.new
         schema.old schema.new out.old out.new steps.old steps.new result }
 
-    ensures report { Reports (E.written err.old) (E.written err.new) (E.faults err.old) (E.faults err.new) (status_line result) }
-    ensures content { F.content file.new ≡ F.content file.old }
-    ensures cost { steps.new ≤ steps.old + 2 }
+    ensures report { Reports (E.written err.old) (E.written err.new) (E.faults err.old) (E.faults err.new)
+        (status_line result) }
 {
     let status = match words.form() {
         None => Status::Usage,
-        Some(Form::Dump) => dump(alloc, file, schema, out, steps),
-        Some(Form::Check) => Status::Unbuilt,
+        Some(Form::Table(task)) => serve(alloc, task, file, schema, out, steps),
         Some(Form::Build) => Status::Unbuilt,
         Some(Form::Sample(_)) => Status::Unbuilt,
     };
@@ -67,22 +72,42 @@ pub fn run<
     status
 }
 
-fn dump<F: PageSource, Q: ByteSource, O: ByteSink, L: Ledger>(
+/// Reads the schema text, and then does the task.
+fn serve<F: PageSource, Q: ByteSource, O: ByteSink, L: Ledger>(
     alloc: Global,
+    task: Task,
     file: &mut F,
     schema: &mut Q,
     out: &mut O,
     steps: &mut Steps<L>,
 ) -> Status
-    ensures dump { Dumps F.PageSource Q.ByteSource O.ByteSink file.old file.new
+    ensures serves { Serves F.PageSource Q.ByteSource O.ByteSink task file.old file.new
         schema.old schema.new out.old out.new steps.old steps.new result }
     ensures usage { result ≢ Status.Usage }
 {
-    match read_text(alloc, file, schema, steps) {
-        Ok(text) => match out.put(text.bytes()) {
-            Ok(()) => Status::Done,
-            Err(_) => Status::SinkFault,
-        },
+    // A schema text is that of one table, and a table's checks of a file have one answer.
+    has_one_schema();
+    texts_pass();
+    first_has_one_answer();
+    match read_schema(alloc, schema) {
+        Ok(table) => serve_table(alloc, task, file, &table, out, steps),
         Err(stop) => Status::from(stop),
+    }
+}
+
+fn serve_table<F: PageSource, O: ByteSink, L: Ledger>(
+    alloc: Global,
+    task: Task,
+    file: &mut F,
+    table: &Schema,
+    out: &mut O,
+    steps: &mut Steps<L>,
+) -> Status
+    ensures { ServesFile F.PageSource O.ByteSink task file.old file.new table.now out.old out.new
+        steps.old steps.new result }
+{
+    match task {
+        Task::Check => check_file(alloc, file, table, out, steps),
+        Task::Dump => dump_file(alloc, file, table, out, steps),
     }
 }

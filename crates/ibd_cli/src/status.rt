@@ -1,10 +1,13 @@
 //! How a command ended: its exit status, and its line on the standard error.
 
 ghost use Rattle.std.specs.Prelude.{◌≡◌};
+ghost use Rattle.ibd_cli.specs.Answers.{status_of_schema, status_of_stop, status_of_dump};
 ghost use Rattle.ibd_cli.specs.Lines.{status_number};
 
-use page_source::Fault;
+use crate::schema_file::SchemaStop;
+use page_source::{Fault, Stop};
 use schema_text::SchemaWhy;
+use sql_dump::DumpStop;
 
 /// How a command ended.
 #[derive(Clone, Copy, Debug, PartialEq, Eq)]
@@ -15,7 +18,7 @@ pub enum Status {
     Usage,
     /// The schema text is refused at this line.
     SchemaRefused { line: u32, why: SchemaWhy },
-    /// The file breaks a rule. Nothing was written.
+    /// The file breaks a rule.
     Broken(Fault),
     /// The file or the schema text couldn't be read.
     SourceFault,
@@ -23,7 +26,7 @@ pub enum Status {
     SinkFault,
     /// Memory ran out. Nothing was written.
     Memory,
-    /// The command, the schema or the file is of a kind that isn't served yet. Nothing was written.
+    /// The command isn't served yet. Nothing was written.
     Unbuilt,
 }
 
@@ -41,6 +44,43 @@ impl Status {
             Status::SinkFault => 6,
             Status::Memory => 8,
             Status::Unbuilt => 10,
+        }
+    }
+}
+
+impl From<SchemaStop> for Status {
+    ghost from_gives = { λ stop status. status ≡ status_of_schema stop };
+
+    fn from(stop: SchemaStop) -> Self {
+        match stop {
+            SchemaStop::Refused { line, why } => Status::SchemaRefused { line, why },
+            SchemaStop::Source => Status::SourceFault,
+            SchemaStop::Memory => Status::Memory,
+        }
+    }
+}
+
+impl From<Stop> for Status {
+    ghost from_gives = { λ stop status. status ≡ status_of_stop stop };
+
+    fn from(stop: Stop) -> Self {
+        match stop {
+            Stop::Broken(fault) => Status::Broken(fault),
+            Stop::Source => Status::SourceFault,
+            Stop::Memory => Status::Memory,
+        }
+    }
+}
+
+impl From<DumpStop> for Status {
+    ghost from_gives = { λ stop status. status ≡ status_of_dump stop };
+
+    fn from(stop: DumpStop) -> Self {
+        match stop {
+            DumpStop::Broken(fault) => Status::Broken(fault),
+            DumpStop::Source => Status::SourceFault,
+            DumpStop::Sink => Status::SinkFault,
+            DumpStop::Memory => Status::Memory,
         }
     }
 }

@@ -1,6 +1,7 @@
 //! The words of the command line, and the form that they have.
 
-ghost use Rattle.std.specs.Prelude.{◌≡◌, ◌↔◌, ◌≤◌, [], ◌∷◌, ◌++◌, ℕ, List, length, slice_get, Some, IsTrue, OnOk, OnErr, MatchOption};
+ghost use Rattle.std.specs.Prelude.{◌≡◌, ◌↔◌, ◌≤◌, [], ◌∷◌, ◌++◌, ℕ, List, length, slice_get};
+ghost use Rattle.std.specs.Prelude.{Some, IsTrue, OnOk, OnErr, MatchOption};
 
 use page_source::{ByteList, NoMemory};
 use schema_text::decimal_number;
@@ -22,13 +23,19 @@ impl Model for Words {
     ghost view = { λ w. w.words.items };
 }
 
-/// What the words ask for.
+/// A command on a table.
 #[derive(Clone, Copy, Debug, PartialEq, Eq)]
-pub enum Form {
+pub enum Task {
     /// `check SCHEMA FILE`
     Check,
     /// `dump SCHEMA FILE`
     Dump,
+}
+
+/// What the words ask for.
+#[derive(Clone, Copy, Debug, PartialEq, Eq)]
+pub enum Form {
+    Table(Task),
     /// `build SCHEMA ROWS FILE`
     Build,
     /// `sample N`, with N of 0 to 200,000
@@ -75,9 +82,9 @@ impl Words {
         ensures { MatchOption result (HasNoForm self.now) (λ form. IsForm self.now form) }
     {
         if self.is_command("check", 3) {
-            Some(Form::Check)
+            Some(Form::Table(Task::Check))
         } else if self.is_command("dump", 3) {
-            Some(Form::Dump)
+            Some(Form::Table(Task::Dump))
         } else if self.is_command("build", 4) {
             Some(Form::Build)
         } else {

@@ -18,7 +18,7 @@ pub const HEAD: [Edit; 11] = [
     (&[(0, 38, b"\0\0\0\x18")], "3||broken 4 head-space page 0\n"),
     (
         &[(0, 34, b"\0\0\0\x18"), (0, 38, b"\0\0\0\x18")],
-        "3||broken 25 frame page 3\n",
+        "3||broken 15 inode-frame page 2\n",
     ),
     (&[(0, 54, b"\0\0\0\0")], "3||broken 5 head-flags page 0\n"),
     (&[(0, 54, b"\0\0\x04!")], ALL),
@@ -34,13 +34,16 @@ pub const HEAD: [Edit; 11] = [
 
 /// Edits of the place of the root page.
 pub const ROOT: [Edit; 7] = [
-    (&[(3, 24, b"E\xBE")], "3||broken 27 root-place page 3\n"),
+    (&[(3, 24, b"E\xBE")], "3||broken 26 page-kind page 3\n"),
     (&[(3, 24, b"\0\0")], "3||broken 27 root-place page 3\n"),
     (&[(3, 4, b"\0\0\0\x02")], "3||broken 25 frame page 3\n"),
     (&[(3, 34, b"\0\0\0\x18")], "3||broken 25 frame page 3\n"),
-    (&[(3, 64, b"\0\x01")], "10||unbuilt\n"),
-    (&[(3, 64, b"\x01\0")], "10||unbuilt\n"),
-    (&[(3, 64, b"\0\x01"), (3, 38, b"\0\0")], "10||unbuilt\n"),
+    (&[(3, 64, b"\0\x01")], "3||broken 39 record-kind page 3\n"),
+    (&[(3, 64, b"\x01\0")], "3||broken 32 level page 3\n"),
+    (
+        &[(3, 64, b"\0\x01"), (3, 38, b"\0\0")],
+        "3||broken 33 page-header page 3\n",
+    ),
 ];
 
 /// Edits of the root page, by the rules of an index page and of its minimum mark.
@@ -93,7 +96,7 @@ pub const PAGE: [Edit; 21] = [
 ];
 
 /// Edits of the records, and of what is not looked at.
-pub const ROWS: [Edit; 11] = [
+pub const ROWS: [Edit; 9] = [
     (
         &[(3, 120, b" ")],
         "0|INSERT INTO `t` VALUES (0);\nINSERT INTO `t` VALUES (2147483647);\n|",
@@ -125,12 +128,10 @@ pub const ROWS: [Edit; 11] = [
     ),
     (&[(3, 167, b"?\xC7")], ALL),
     (&[(3, 142, b"\xC0")], ALL),
-    (&[(1, 24, b"\0\0")], ALL),
-    (&[(2, 110, b"\0")], ALL),
 ];
 
 /// Schema texts that decide the answer alone, and that answer.
-pub const SCHEMAS: [(&str, &str); 15] = [
+pub const SCHEMAS: [(&str, &str); 13] = [
     ("", "2||schema line 1 end\n"),
     (
         "table t dynamic\ncolumn id int notnull\nclustered root 3 id",
@@ -165,14 +166,6 @@ pub const SCHEMAS: [(&str, &str); 15] = [
         "2||schema line 4 root\n",
     ),
     (
-        "table t dynamic\ncolumn id int notnull\nclustered root 3 id\nindex i root 4 id\n",
-        "10||unbuilt\n",
-    ),
-    (
-        "table t dynamic\ncolumn id int notnull\nclustered root 3\n",
-        "10||unbuilt\n",
-    ),
-    (
         "table t dynamic\ncolumn a varchar 16384 utf8mb4 notnull\nclustered root 3 a\n",
         "2||schema line 2 number\n",
     ),
@@ -185,4 +178,32 @@ pub const SCHEMAS: [(&str, &str); 15] = [
         "2||schema line 3 key\n",
     ),
     ("x\n", "2||schema line 1 form\n"),
+];
+
+/// Schema texts that go badly with the file with three rows, and the answer.
+pub const OTHER_SCHEMAS: [(&str, &str); 6] = [
+    (
+        "table t compact\ncolumn id int notnull\nclustered root 3 id\n",
+        "3||broken 5 head-flags page 0\n",
+    ),
+    (
+        "table t dynamic\ncolumn id int notnull\nclustered root 4 id\n",
+        "3||broken 27 root-place page 4\n",
+    ),
+    (
+        "table t dynamic\ncolumn id int notnull\nclustered root 6 id\n",
+        "3||broken 27 root-place page 6\n",
+    ),
+    (
+        "table t dynamic\ncolumn id int notnull\nclustered root 3 id\nindex i root 4 id\n",
+        "3||broken 27 root-place page 4\n",
+    ),
+    (
+        "table t dynamic\ncolumn id int notnull\nclustered root 3\n",
+        "3||broken 41 record-room page 3\n",
+    ),
+    (
+        "table t dynamic\ncolumn id bigint notnull\nclustered root 3 id\n",
+        "3||broken 41 record-room page 3\n",
+    ),
 ];

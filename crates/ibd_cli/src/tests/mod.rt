@@ -3,16 +3,17 @@
 ghost use Rattle.std.specs.Prelude.{◌≡◌, ◌<◌};
 
 mod edits;
+mod spaces;
 mod tables;
 mod values;
 mod worked;
 
 use self::edits::{ALL, Edit};
+use self::spaces::Space;
 use self::tables::Table;
 use self::values::Value;
 use self::worked::{
-    FULL, LEAF_KINDS, ONE_INT, THREE_ROWS, TWO_LEVELS, Worked, full_page, one_record, root_page,
-    with_root,
+    FULL, ONE_INT, THREE_ROWS, Worked, full_page, one_record, root_page, with_root,
 };
 use crate::{Status, Words, run};
 use fil_frame::{SumKind, seal_as};
@@ -28,6 +29,11 @@ use std::test::Fail;
 
 /// More than any text that is written here.
 const ROOM: usize = 1000;
+
+/// The words of a dump, and of a check.
+const DUMP: [&str; 3] = ["dump", "s", "f"];
+
+const CHECK: [&str; 3] = ["check", "s", "f"];
 
 /// A command and what it is given. The calls with these numbers fail.
 #[derive(Clone, Copy)]
@@ -46,7 +52,7 @@ impl<'a> Command<'a> {
     /// A dump of the file with the schema of the worked files.
     fn dump(file: &'a [u8]) -> Command<'a> {
         Command {
-            words: &["dump", "s", "f"],
+            words: &DUMP,
             file,
             file_fails: &[],
             schema: ONE_INT.as_bytes(),
@@ -57,13 +63,26 @@ impl<'a> Command<'a> {
         }
     }
 
-    /// The exit status, the standard output and the standard error, with bars between. No call may
-    /// be made of the rows and the target.
-    fn answer(&self, alloc: Global) -> Result<ByteList, NoMemory> {
+    /// A check of the same.
+    fn check(file: &'a [u8]) -> Command<'a> {
+        Command {
+            words: &CHECK,
+            ..Command::dump(file)
+        }
+    }
+
+    /// How it ends, and what it wrote. No call may be made of the rows and the target.
+    fn run(&self, alloc: Global) -> Result<(Status, Outputs), NoMemory> {
         let words = words_of(alloc, self.words)?;
         let mut inputs = self.inputs(alloc)?;
         let mut outputs = self.outputs(alloc)?;
         let status = status::<Brand>(alloc, &words, &mut inputs, &mut outputs, Blank::new(1));
+        Ok((status, outputs))
+    }
+
+    /// The exit status, the standard output and the standard error, with bars between.
+    fn answer(&self, alloc: Global) -> Result<ByteList, NoMemory> {
+        let (status, outputs) = self.run(alloc)?;
         answer_text(alloc, status, outputs.out.bytes(), outputs.err.bytes())
     }
 
@@ -174,23 +193,32 @@ fn expect(rt: &impl Abort, alloc: Global, command: Command, want: &str) -> Resul
     Ok(())
 }
 
-#[test]
-fn dumps_the_worked_files(rt: HostRuntime) -> Result<(), Fail> {
-    let file = Worked::of(&THREE_ROWS).bytes(&rt, rt.alloc())?;
-    expect(&rt, rt.alloc(), Command::dump(file.bytes()), ALL)?;
-    let file = Worked::of(&[]).bytes(&rt, rt.alloc())?;
-    expect(&rt, rt.alloc(), Command::dump(file.bytes()), "0||")?;
-    let two_levels = Worked {
-        kinds: LEAF_KINDS,
-        ..Worked::of(&TWO_LEVELS)
+/// Fails the test where the dump or the check of this file answers something else.
+fn expect_both(
+    rt: &impl Abort,
+    alloc: Global,
+    dump: Command,
+    wants: [&str; 2],
+) -> Result<(), Fail> {
+    let check = Command {
+        words: &CHECK,
+        ..dump
     };
-    let file = two_levels.bytes(&rt, rt.alloc())?;
-    expect(
-        &rt,
-        rt.alloc(),
-        Command::dump(file.bytes()),
-        "10||unbuilt\n",
-    )
+    expect(rt, alloc, dump, wants[0])?;
+    expect(rt, alloc, check, wants[1])
+}
+
+#[test]
+fn serves_sound_files(rt: HostRuntime) -> Result<(), Fail> {
+    for space in spaces::ALL {
+        let file = space.edited(&[]).bytes(&rt, rt.alloc())?;
+        let dump = Command {
+            schema: space.schema.as_bytes(),
+            ..Command::dump(file.bytes())
+        };
+        expect_both(&rt, rt.alloc(), dump, [space.dump, space.check])?;
+    }
+    Ok(())
 }
 
 /// The schema of a table with a key and a column of this type.
@@ -376,39 +404,84 @@ fn full_text(alloc: Global) -> Result<ByteList, NoMemory> {
     Ok(text)
 }
 
-/// Fails the test where a dump of the file with three rows and one of these edits answers something
-/// else.
-fn expect_edits(rt: &impl Abort, alloc: Global, edits: &[Edit]) -> Result<(), Fail> {
+/// Fails the test where a dump of the file with one of these edits answers something else, or a check that is to find
+/// the same rule broken.
+fn expect_edits(rt: &impl Abort, alloc: Global, space: Space, edits: &[Edit]) -> Result<(), Fail> {
     for (edits, want) in edits {
-        let worked = Worked {
-            edits,
-            ..Worked::of(&THREE_ROWS)
+        let file = space.edited(edits).bytes(rt, alloc)?;
+        let dump = Command {
+            schema: space.schema.as_bytes(),
+            ..Command::dump(file.bytes())
         };
-        let file = worked.bytes(rt, alloc)?;
-        let found = Command::dump(file.bytes()).answer(alloc)?;
+        let found = dump.answer(alloc)?;
         assert_eq!(rt; found.bytes(), want.as_bytes(), "{edits:?}");
+        if want.starts_with("3|") {
+            let found = Command {
+                words: &CHECK,
+                ..dump
+            }
+            .answer(alloc)?;
+            assert_eq!(rt; found.bytes(), want.as_bytes(), "{edits:?}");
+        }
     }
     Ok(())
 }
 
 #[test]
 fn checks_the_head(rt: HostRuntime) -> Result<(), Fail> {
-    expect_edits(&rt, rt.alloc(), &edits::HEAD)
+    expect_edits(&rt, rt.alloc(), spaces::ONE_LEAF, &edits::HEAD)
 }
 
 #[test]
-fn checks_the_place_of_the_root(rt: HostRuntime) -> Result<(), Fail> {
-    expect_edits(&rt, rt.alloc(), &edits::ROOT)
+fn checks_the_space(rt: HostRuntime) -> Result<(), Fail> {
+    expect_edits(&rt, rt.alloc(), spaces::ONE_LEAF, &spaces::SPACE_EDITS)
+}
+
+#[test]
+fn checks_the_root(rt: HostRuntime) -> Result<(), Fail> {
+    expect_edits(&rt, rt.alloc(), spaces::ONE_LEAF, &edits::ROOT)
 }
 
 #[test]
 fn checks_the_page(rt: HostRuntime) -> Result<(), Fail> {
-    expect_edits(&rt, rt.alloc(), &edits::PAGE)
+    expect_edits(&rt, rt.alloc(), spaces::ONE_LEAF, &edits::PAGE)
+}
+
+#[test]
+fn checks_a_tree(rt: HostRuntime) -> Result<(), Fail> {
+    expect_edits(&rt, rt.alloc(), spaces::LEAVES, &spaces::LEAF_EDITS)
+}
+
+#[test]
+fn checks_a_second_tree(rt: HostRuntime) -> Result<(), Fail> {
+    expect_edits(&rt, rt.alloc(), spaces::INDEXED, &spaces::INDEX_EDITS)
+}
+
+#[test]
+fn checks_a_chain(rt: HostRuntime) -> Result<(), Fail> {
+    expect_edits(&rt, rt.alloc(), spaces::CHAINED, &spaces::CHAIN_EDITS)
+}
+
+#[test]
+fn checks_an_unreached_page(rt: HostRuntime) -> Result<(), Fail> {
+    expect_edits(&rt, rt.alloc(), spaces::UNREACHED, &spaces::UNREACHED_EDITS)
 }
 
 #[test]
 fn dumps_edited_records(rt: HostRuntime) -> Result<(), Fail> {
-    expect_edits(&rt, rt.alloc(), &edits::ROWS)
+    expect_edits(&rt, rt.alloc(), spaces::ONE_LEAF, &edits::ROWS)
+}
+
+/// The segments of the second index are named by no root of a schema without it.
+#[test]
+fn misses_an_index(rt: HostRuntime) -> Result<(), Fail> {
+    let file = spaces::INDEXED.edited(&[]).bytes(&rt, rt.alloc())?;
+    let dump = Command {
+        schema: spaces::WITHOUT_INDEX.as_bytes(),
+        ..Command::dump(file.bytes())
+    };
+    let want = "3||broken 46 segment-unnamed page 2\n";
+    expect_both(&rt, rt.alloc(), dump, [want, want])
 }
 
 /// The file with the lowest bit of byte `at` of page `n` changed.
@@ -427,9 +500,11 @@ fn flipped(alloc: Global, file: &[u8], n: u16, at: u16) -> Result<ByteList, Fail
 /// The flush LSN is in no sum, and page 0 has to tell its space before its frame can be judged.
 fn want_flipped(n: u16, at: u16) -> &'static str {
     match (n, at) {
-        (0 | 3, 26..=33) => ALL,
+        (_, 26..=33) => ALL,
         (0, 34..=37) => "3||broken 4 head-space page 0\n",
         (0, _) => "3||broken 2 head-frame page 0\n",
+        (1, _) => "3||broken 25 frame page 1\n",
+        (2, _) => "3||broken 15 inode-frame page 2\n",
         (3, _) => "3||broken 25 frame page 3\n",
         _ => ALL,
     }
@@ -498,20 +573,21 @@ fn reads_files_of_any_size(rt: HostRuntime) -> Result<(), Fail> {
 
 #[test]
 fn serves_no_other_words(rt: HostRuntime) -> Result<(), Fail> {
-    let commands: [(&[&str], &str); 16] = [
+    let commands: [(&[&str], &str); 17] = [
         (&[], "1||usage\n"),
         (&["dump"], "1||usage\n"),
         (&["dump", "s"], "1||usage\n"),
         (&["dump", "s", "f", "g"], "1||usage\n"),
         (&["Dump", "s", "f"], "1||usage\n"),
         (&["check", "s"], "1||usage\n"),
+        (&["check", "s", "f", "g"], "1||usage\n"),
+        (&["cheque", "s", "f"], "1||usage\n"),
         (&["build", "s", "r"], "1||usage\n"),
         (&["sample"], "1||usage\n"),
         (&["sample", "07"], "1||usage\n"),
         (&["sample", "200001"], "1||usage\n"),
         (&["sample", "-1"], "1||usage\n"),
         (&["sample", "1", "2"], "1||usage\n"),
-        (&["check", "s", "f"], "10||unbuilt\n"),
         (&["build", "s", "r", "f"], "10||unbuilt\n"),
         (&["sample", "0"], "10||unbuilt\n"),
         (&["sample", "200000"], "10||unbuilt\n"),
@@ -533,12 +609,12 @@ fn serves_no_other_words(rt: HostRuntime) -> Result<(), Fail> {
 #[test]
 fn reads_the_schema_first(rt: HostRuntime) -> Result<(), Fail> {
     for (schema, want) in edits::SCHEMAS {
-        let command = Command {
+        let dump = Command {
             schema: schema.as_bytes(),
             file_fails: &[1],
             ..Command::dump(b"")
         };
-        expect(&rt, rt.alloc(), command, want)?;
+        expect_both(&rt, rt.alloc(), dump, [want, want])?;
     }
     Ok(())
 }
@@ -546,41 +622,143 @@ fn reads_the_schema_first(rt: HostRuntime) -> Result<(), Fail> {
 #[test]
 fn refuses_a_long_schema(rt: HostRuntime) -> Result<(), Fail> {
     let long = Vec::from_elem(rt.alloc(), b'x', 70_000)?;
-    let command = Command {
+    let dump = Command {
         schema: &long,
         file_fails: &[1],
         ..Command::dump(b"")
     };
-    expect(&rt, rt.alloc(), command, "2||schema line 1 size\n")
+    let want = "2||schema line 1 size\n";
+    expect_both(&rt, rt.alloc(), dump, [want, want])
 }
 
 #[test]
-fn tells_which_object_failed(rt: HostRuntime) -> Result<(), Fail> {
+fn checks_the_file_by_its_schema(rt: HostRuntime) -> Result<(), Fail> {
     let file = Worked::of(&THREE_ROWS).bytes(&rt, rt.alloc())?;
-    let source = "5||source\n";
-    // The calls of the file, of the schema and of the output that fail, and the output's room.
-    let cases: [([&[u64]; 3], usize, &str); 9] = [
-        ([&[1], &[], &[]], ROOM, source),
-        ([&[2], &[], &[]], ROOM, source),
-        ([&[3], &[], &[]], ROOM, source),
-        ([&[], &[1], &[]], ROOM, source),
-        ([&[], &[2], &[]], ROOM, source),
-        ([&[], &[], &[1]], ROOM, "6||sink\n"),
-        ([&[], &[], &[]], 0, "6||sink\n"),
-        ([&[], &[], &[]], 93, "6||sink\n"),
-        ([&[4], &[3], &[2]], 94, ALL),
-    ];
-    for ([file_fails, schema_fails, out_fails], room, want) in cases {
-        let command = Command {
-            file_fails,
-            schema_fails,
-            room,
-            out_fails,
+    for (schema, want) in edits::OTHER_SCHEMAS {
+        let dump = Command {
+            schema: schema.as_bytes(),
             ..Command::dump(file.bytes())
         };
-        expect(&rt, rt.alloc(), command, want)?;
+        expect_both(&rt, rt.alloc(), dump, [want, want])?;
     }
     Ok(())
+}
+
+/// An object whose calls can fail.
+#[derive(Clone, Copy, Debug, PartialEq, Eq)]
+enum Object {
+    File,
+    Schema,
+    Out,
+}
+
+impl Object {
+    /// The status and the line that blame it.
+    fn blame(self) -> (Status, &'static str) {
+        match self {
+            Object::File | Object::Schema => (Status::SourceFault, "source\n"),
+            Object::Out => (Status::SinkFault, "sink\n"),
+        }
+    }
+
+    /// The command, in which these calls of the object fail.
+    fn failing<'a>(self, command: Command<'a>, calls: &'a [u64]) -> Command<'a> {
+        match self {
+            Object::File => Command {
+                file_fails: calls,
+                ..command
+            },
+            Object::Schema => Command {
+                schema_fails: calls,
+                ..command
+            },
+            Object::Out => Command {
+                out_fails: calls,
+                ..command
+            },
+        }
+    }
+}
+
+/// Fails the test where the command ends otherwise, or wrote what is no part of this text.
+fn expect_part(
+    rt: &impl Abort,
+    alloc: Global,
+    command: Command,
+    object: Object,
+    whole: &str,
+) -> Result<(), Fail> {
+    let (status, outputs) = command.run(alloc)?;
+    let (blame, line) = object.blame();
+    assert_eq!(rt; status, blame);
+    assert_eq!(rt; outputs.err.bytes(), line.as_bytes());
+    assert!(rt; whole.as_bytes().starts_with(outputs.out.bytes()));
+    Ok(())
+}
+
+/// Each of the first calls of the object fails in turn, of which there are so many at least.
+fn expect_each_call(
+    rt: &impl Abort,
+    alloc: Global,
+    command: Command,
+    object: Object,
+    whole: &str,
+    least: u64,
+) -> Result<(), Fail> {
+    for call in 1..=least {
+        let calls = [call];
+        let failing = object.failing(command, &calls);
+        expect_part(rt, alloc, failing, object, whole)?;
+    }
+    Ok(())
+}
+
+/// The line of a check of the file with three rows, and the lines of its dump.
+const CHECKED: &str = "pages=6 used=4 rows=3 deleted=0 unreached=0\n";
+
+const DUMPED: &str =
+    "INSERT INTO `t` VALUES (-1);\nINSERT INTO `t` VALUES (0);\nINSERT INTO `t` VALUES (2147483647);\n";
+
+#[test]
+fn tells_which_object_failed(rt: HostRuntime) -> Result<(), Fail> {
+    let alloc = rt.alloc();
+    let file = Worked::of(&THREE_ROWS).bytes(&rt, alloc)?;
+    let check = Command::check(file.bytes());
+    let dump = Command::dump(file.bytes());
+    // The size and each used page are read, the text of the schema and its end, and each number is put, or all rows at
+    // once.
+    expect_each_call(&rt, alloc, check, Object::File, CHECKED, 5)?;
+    expect_each_call(&rt, alloc, check, Object::Schema, CHECKED, 2)?;
+    expect_each_call(&rt, alloc, check, Object::Out, CHECKED, 11)?;
+    expect_each_call(&rt, alloc, dump, Object::File, DUMPED, 6)?;
+    expect_each_call(&rt, alloc, dump, Object::Schema, DUMPED, 2)?;
+    expect_each_call(&rt, alloc, dump, Object::Out, DUMPED, 1)?;
+    let later = [1000];
+    for object in [Object::File, Object::Schema, Object::Out] {
+        expect(&rt, alloc, object.failing(dump, &later), ALL)?;
+    }
+    Ok(())
+}
+
+#[test]
+fn fills_the_output(rt: HostRuntime) -> Result<(), Fail> {
+    let alloc = rt.alloc();
+    let file = Worked::of(&THREE_ROWS).bytes(&rt, alloc)?;
+    for (words, whole) in [(CHECK, CHECKED), (DUMP, DUMPED)] {
+        for room in 0..whole.len() {
+            let command = Command {
+                words: &words,
+                room,
+                ..Command::dump(file.bytes())
+            };
+            expect_part(&rt, alloc, command, Object::Out, whole)?;
+        }
+    }
+    let full = Command {
+        room: DUMPED.len(),
+        ..Command::dump(file.bytes())
+    };
+    expect(&rt, alloc, full, ALL)
 }
 
 #[test]

@@ -105,7 +105,7 @@ pub const DELETED: [Table; 7] = [
             (3, 162, b"\x9C@\x02\0\0\x18\xFF\xC6\x80\0\0\x02"),
             (3, 187, b"ok"),
         ],
-        "10||unbuilt\n",
+        "3||broken 48 chain-place page 3\n",
     ),
     (
         "table t dynamic\ncolumn id int notnull\ncolumn note text notnull\nclustered root 3 id\n",

@@ -297,13 +297,13 @@ pub const LENGTHS_BROKEN: [Value; 5] = [
         "mediumtext notnull",
         b"\x14\xC0",
         b"xxxxxxxxxxxxxxxxxxxx",
-        "10||unbuilt\n",
+        "3||broken 47 value page 3\n",
     ),
     (
         "varchar 300 notnull",
         b"\x14\xC0",
         b"xxxxxxxxxxxxxxxxxxxx",
-        "10||unbuilt\n",
+        "3||broken 47 value page 3\n",
     ),
     (
         "text notnull",

@@ -22,12 +22,9 @@ const ROOT: usize = 3;
 /// The bytes of a worked file.
 const FILE_SIZE: usize = 6 * PAGE_SIZE;
 
-/// The types where pages 4 and 5 are leaves.
-pub const LEAF_KINDS: [u16; 6] = [8, 5, 3, 17855, 17855, 17855];
+pub const NO_PAGE: &[u8] = b"\xFF\xFF\xFF\xFF\0\0\xFF\xFF\xFF\xFF\0\0";
 
-const NO_PAGE: &[u8] = b"\xFF\xFF\xFF\xFF\0\0\xFF\xFF\xFF\xFF\0\0";
-
-const MAGIC: &[u8] = b"\x05\xD6\x69\xD2";
+pub const MAGIC: &[u8] = b"\x05\xD6\x69\xD2";
 
 /// A table without rows.
 const EMPTY: [Piece; 25] = [

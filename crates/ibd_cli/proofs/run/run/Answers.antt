@@ -1,18 +1,60 @@
-use Rattle.std.proofs.Common.{◌≡◌, ◌∙◌, sym}
-use Rattle.ibd_cli.specs.declared.words.Form.TheVariants.{Check, Dump, Build}
-use Rattle.ibd_cli.proofs.WordLists.{only_dump}
+use Rattle.ibd_cli.specs.declared.words.Form.TheVariants.{Table}
+use Rattle.ibd_cli.proofs.WordLists.{same_task, never_build, never_sample, asks_table}
 use Rattle.ibd_cli.proofs.run.run.Goals as goal
-use Rattle.ibd_cli.proofs.run.run.Goals.{in-None, in-Some-Dump, in-Some-Check, in-Some-Build, in-Some-Sample}
+use Rattle.ibd_cli.proofs.run.run.Goals.{in-None, in-Some-Table, in-Some-Build, in-Some-Sample}
 
-pub returns-clause-dump : goal.returns-clause-dump
-returns-clause-dump g c = λ is_dump.
+pub returns-clause-unbuilt : goal.returns-clause-unbuilt
+returns-clause-unbuilt g c = λ form is none.
     elim c.match-form.branch [
-      | in-None w ↦ absurd (w.in-None.ensures Dump is_dump)
-      | in-Some-Dump w ↦ rw (w.status-is, w.file-is, w.schema-is, w.out-is, w.steps-is) w.dump-status.ensures.dump
-      | in-Some-Check w ↦
-          let e : Check ≡ Dump = sym w.in-Some-Check.field-0-is ∙ only_dump _ _ w.in-Some-Check.ensures is_dump in absurd (cc)
-      | in-Some-Build w ↦
-          let e : Build ≡ Dump = sym w.in-Some-Build.field-0-is ∙ only_dump _ _ w.in-Some-Build.ensures is_dump in absurd (cc)
-      | in-Some-Sample w ↦
-          let e : _ ≡ Dump = sym w.in-Some-Sample.field-0-is ∙ only_dump _ _ w.in-Some-Sample.ensures is_dump in absurd (cc)
+      | in-None w ↦ absurd (w.in-None.ensures form is)
+      | in-Some-Table w ↦ absurd (asks_table _ _ _ none w.in-Some-Table.field-0-is w.in-Some-Table.ensures)
+      | in-Some-Build w ↦ w.status-is
+      | in-Some-Sample w ↦ w.status-is
+    ]
+
+pub returns-clause-file : goal.returns-clause-file
+returns-clause-file g c = λ none.
+    elim c.match-form.branch [
+      | in-None w ↦ w.file-is
+      | in-Some-Table w ↦ absurd (asks_table _ _ _ none w.in-Some-Table.field-0-is w.in-Some-Table.ensures)
+      | in-Some-Build w ↦ w.file-is
+      | in-Some-Sample w ↦ w.file-is
+    ]
+
+pub returns-clause-schema : goal.returns-clause-schema
+returns-clause-schema g c = λ none.
+    elim c.match-form.branch [
+      | in-None w ↦ w.schema-is
+      | in-Some-Table w ↦ absurd (asks_table _ _ _ none w.in-Some-Table.field-0-is w.in-Some-Table.ensures)
+      | in-Some-Build w ↦ w.schema-is
+      | in-Some-Sample w ↦ w.schema-is
+    ]
+
+pub returns-clause-steps : goal.returns-clause-steps
+returns-clause-steps g c = λ none.
+    elim c.match-form.branch [
+      | in-None w ↦ w.steps-is
+      | in-Some-Table w ↦ absurd (asks_table _ _ _ none w.in-Some-Table.field-0-is w.in-Some-Table.ensures)
+      | in-Some-Build w ↦ w.steps-is
+      | in-Some-Sample w ↦ w.steps-is
+    ]
+
+pub returns-clause-out : goal.returns-clause-out
+returns-clause-out g c = λ none.
+    elim c.match-form.branch [
+      | in-None w ↦ w.out-is
+      | in-Some-Table w ↦ absurd (asks_table _ _ _ none w.in-Some-Table.field-0-is w.in-Some-Table.ensures)
+      | in-Some-Build w ↦ w.out-is
+      | in-Some-Sample w ↦ w.out-is
+    ]
+
+pub returns-clause-serves : goal.returns-clause-serves
+returns-clause-serves g c = λ task is_task.
+    elim c.match-form.branch [
+      | in-None w ↦ absurd (w.in-None.ensures (Table task) is_task)
+      | in-Some-Table w ↦
+          let e = same_task _ _ _ task w.in-Some-Table.field-0-is w.in-Some-Table.ensures is_task in
+          rw (w.status-is, w.file-is, w.schema-is, w.out-is, w.steps-is) (rw e at w.serve-status.ensures.serves)
+      | in-Some-Build w ↦ absurd (never_build _ _ task w.in-Some-Build.field-0-is w.in-Some-Build.ensures is_task)
+      | in-Some-Sample w ↦ absurd (never_sample _ _ _ task w.in-Some-Sample.field-0-is w.in-Some-Sample.ensures is_task)
     ]

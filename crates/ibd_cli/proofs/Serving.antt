@@ -1,0 +1,220 @@
+-- What a command on a table does, by how far it came.
+use Rattle.std.proofs.Common.{◌≡◌, ℕ, List, [], Option, Some, None, Err, IfSome}
+use Rattle.std.proofs.Common.{refl, sym, ap, subst, inl, inr, arith}
+use Rattle.std.proofs.lemmas.List.{append-nil}
+use Rattle.page_source.specs.declared.objects.PageSource.{Ghosts as FileOf}
+use Rattle.page_source.specs.declared.objects.ByteSource.{Ghosts as SourceOf}
+use Rattle.page_source.specs.declared.objects.ByteSink.{Ghosts as SinkOf}
+use Rattle.page_source.specs.declared.rule.Fault.{Fault}
+use Rattle.page_source.specs.Faults.{Rose}
+use Rattle.page_source.specs.Objects.{GrowsByPart}
+use Rattle.page_source.proofs.Told.{told0, told1}
+use Rattle.schema_text.specs.TableDef.{TableDef}
+use Rattle.schema_text.specs.Grammar.{IsTextOf}
+use Rattle.schema_text.specs.declared.errors.SchemaWhy.{SchemaWhy}
+use Rattle.table_check.specs.First.{First}
+use Rattle.table_check.specs.Laws.{FirstHasOneAnswer}
+use Rattle.ibd_cli.specs.declared.schema_file.SchemaStop.{SchemaStop}
+use Rattle.ibd_cli.specs.declared.schema_file.SchemaStop.TheVariants.{Refused, Source, Memory}
+use Rattle.ibd_cli.specs.declared.status.Status.{Status}
+use Rattle.ibd_cli.specs.declared.status.Status.TheVariants as statuses
+use Rattle.ibd_cli.specs.declared.words.Task.{Task}
+use Rattle.ibd_cli.specs.declared.words.Task.TheVariants.{Check, Dump}
+use Rattle.ibd_cli.specs.Reading.{IsReadUpTo}
+use Rattle.ibd_cli.specs.Outcome.{IsRefusedText, Told, Gives}
+use Rattle.ibd_cli.specs.Run.{EndsAs, ReadsInputs, LeavesUnread, Leaves, Serves}
+use Rattle.ibd_cli.specs.Answers.{status_of_schema, ReadsSchema, EndsUnread, Ends, IsOfFile, ServesFile}
+use Rattle.ibd_cli.proofs.OneAnswer.{HasOneAnswer}
+use Rattle.ibd_cli.proofs.Outcomes.{no_table, one_refusal, refused_gives, ends_as, sound_of}
+
+-- what holds of a told content holds where it is told
+at_told : {X : Type 0} (P : X → Type 0) (o : Option X) (x : X) → o ≡ Some x → IfSome o P → P x
+at_told {X = X} P o x is holds = subst (λ (p : Option X). IfSome p P) is holds
+
+-- the schema text was refused, or couldn't be read
+pub record Stopped {Q : Type 0} (q : SourceOf Q) (schema schema_now : Q) (stop : SchemaStop) : Type 0 where
+  pub reads : IfSome (q.left schema) (λ text. ReadsSchema text (q.left schema_now) (Err stop))
+  pub read : IfSome (q.left schema) (λ text. IsReadUpTo 65537 text (q.left schema_now))
+  pub cause : stop ≡ Source → Rose (q.faults schema) (q.faults schema_now)
+
+refused_as : (text : List ℕ) (left : Option (List ℕ)) (stop : SchemaStop) (line : ℕ) (why : SchemaWhy)
+    → status_of_schema stop ≡ statuses.SchemaRefused line why → ReadsSchema text left (Err stop)
+    → IsRefusedText text line why
+refused_as text left (Refused l w) line why is reads =
+    let e : l ≡ line = cc in let f : w ≡ why = cc in
+    subst (λ (n : ℕ). IsRefusedText text n why) e (subst (IsRefusedText text l) f reads)
+refused_as text left Source line why is reads = absurd (cc)
+refused_as text left Memory line why is reads = absurd (cc)
+
+stopped_alone : (text : List ℕ) (one : HasOneAnswer text) (left : Option (List ℕ)) (stop : SchemaStop)
+    → ReadsSchema text left (Err stop) → (line : ℕ) (why : SchemaWhy) → IsRefusedText text line why
+    → EndsAs (statuses.SchemaRefused line why) (status_of_schema stop)
+stopped_alone text one left (Refused l w) reads line why refused = one_refusal text one l line w why reads refused
+stopped_alone text one left Source reads line why refused = tt
+stopped_alone text one left Memory reads line why refused = tt
+
+stopped_gives : (task : Task) (told : Told) (one : HasOneAnswer told.schema) (left : Option (List ℕ))
+    (stop : SchemaStop) → ReadsSchema told.schema left (Err stop) → (given : Status) (output : List ℕ)
+    → Gives task told given output → EndsAs given (status_of_schema stop)
+stopped_gives task told one left (Refused l w) reads given output gives =
+    refused_gives task told one l w reads given output gives
+stopped_gives task told one left Source reads given output gives = tt
+stopped_gives task told one left Memory reads given output gives = tt
+
+never_broken : (stop : SchemaStop) (fault : Fault) → status_of_schema stop ≡ statuses.Broken fault → ⊥
+never_broken (Refused l w) fault is = cc
+never_broken Source fault is = cc
+never_broken Memory fault is = cc
+
+never_sink : (stop : SchemaStop) → status_of_schema stop ≡ statuses.SinkFault → ⊥
+never_sink (Refused l w) is = cc
+never_sink Source is = cc
+never_sink Memory is = cc
+
+pub never_usage : (stop : SchemaStop) → status_of_schema stop ≡ statuses.Usage → ⊥
+never_usage (Refused l w) is = cc
+never_usage Source is = cc
+never_usage Memory is = cc
+
+is_source : (stop : SchemaStop) → status_of_schema stop ≡ statuses.SourceFault → stop ≡ Source
+is_source (Refused l w) is = absurd (cc)
+is_source Source is = refl
+is_source Memory is = absurd (cc)
+
+inputs_stopped : {F Q : Type 0} (all : (text : List ℕ) → HasOneAnswer text) (f : FileOf F) (q : SourceOf Q)
+    (task : Task) (file : F) (schema schema_now : Q) (steps : ℕ) (stop : SchemaStop) → Stopped q schema schema_now stop
+    → ReadsInputs f q task file file schema schema_now steps steps (status_of_schema stop)
+inputs_stopped all f q task file schema schema_now steps stop stopped =
+    let left = q.left schema_now in
+    record {
+      read = stopped.read;
+      refused = λ line why is.
+          (told1 (q.left schema) (λ text reads. refused_as text left stop line why is reads) stopped.reads, refl, refl);
+      untouched = λ text told none. (refl, refl);
+      alone = λ text line why told refused.
+          stopped_alone text (all text) left stop (at_told _ (q.left schema) text told stopped.reads) line why refused;
+      broken = λ fault is. absurd (never_broken stop fault is);
+      complete = λ told given output tells gives.
+          stopped_gives task told (all told.schema) left stop
+          (at_told _ (q.left schema) told.schema tells.schema_text stopped.reads) given output gives;
+      source = λ is. inr (stopped.cause (is_source stop is));
+      content = refl;
+      cost = record { told = told0 (f.content file) (λ content. omega arith); always = omega arith };
+    }
+
+-- nothing is a part of each text
+no_part : (old : Option (List ℕ)) (text : List ℕ) → GrowsByPart old old text
+no_part None text = refl
+no_part (Some old) text = (0, omega arith, ap Some (sym (append-nil old)))
+
+unread_before : (task : Task) (told : Told) (old : Option (List ℕ)) → LeavesUnread task told old old
+unread_before Check told old = refl
+unread_before Dump told old = ((λ output gives. (output, gives, no_part old output)), (λ none. refl))
+
+leaves_stopped : (task : Task) (told : Told) (stop : SchemaStop) (old left : Option (List ℕ))
+    → ReadsSchema told.schema left (Err stop) → Leaves task told (status_of_schema stop) old old left
+leaves_stopped task told (Refused line why) old left reads = ((reads, refl), refl)
+leaves_stopped task told Source old left reads = unread_before task told old
+leaves_stopped task told Memory old left reads = refl
+
+-- the schema text ended it
+pub serves_stopped : {F Q O : Type 0} (all : (text : List ℕ) → HasOneAnswer text) (f : FileOf F) (q : SourceOf Q)
+    (o : SinkOf O) (task : Task) (file : F) (schema schema_now : Q) (out : O) (steps : ℕ) (stop : SchemaStop)
+    → Stopped q schema schema_now stop
+    → Serves f q o task file file schema schema_now out out steps steps (status_of_schema stop)
+serves_stopped all f q o task file schema schema_now out steps stop stopped =
+    record {
+      inputs = inputs_stopped all f q task file schema schema_now steps stop stopped;
+      leaves = λ told tells.
+          leaves_stopped task told stop (o.written out) (q.left schema_now)
+          (at_told _ (q.left schema) told.schema tells.schema_text stopped.reads);
+      unwritten = λ before. refl;
+      sink = λ is. absurd (never_sink stop is);
+    }
+
+-- the text was read to its end, and is that of a table
+pub record HasTable {Q : Type 0} (q : SourceOf Q) (schema schema_now : Q) (table : TableDef) : Type 0 where
+  pub reads : IfSome (q.left schema) (λ text. IsTextOf table text × (q.left schema_now ≡ Some []))
+  pub read : IfSome (q.left schema) (λ text. IsReadUpTo 65537 text (q.left schema_now))
+
+broken_as : (task : Task) (file : List ℕ) (table : TableDef) (status : Status) (old new : Option (List ℕ))
+    (fault : Fault) → status ≡ statuses.Broken fault → Ends task file table status old new
+    → First file table (Some fault)
+broken_as task file table status old new fault is ends =
+    (subst (λ (s : Status). Ends task file table s old new) is ends).0
+
+inputs_served : {F Q O : Type 0} (all : (text : List ℕ) → HasOneAnswer text) (sole : FirstHasOneAnswer) (f : FileOf F)
+    (q : SourceOf Q) (o : SinkOf O) (task : Task) (file file_now : F) (schema schema_now : Q) (out out_now : O)
+    (steps steps_now : ℕ) (table : TableDef) (status : Status) → HasTable q schema schema_now table
+    → ServesFile f o task file file_now table out out_now steps steps_now status
+    → ReadsInputs f q task file file_now schema schema_now steps steps_now status
+inputs_served all sole f q o task file file_now schema schema_now out out_now steps steps_now table status has served =
+    let old = o.written out in
+    let new = o.written out_now in
+    record {
+      read = has.read;
+      refused = λ line why is. absurd (subst IsOfFile is served.of_file);
+      untouched = λ text told none. absurd (none table (at_told _ (q.left schema) text told has.reads).0);
+      alone = λ text line why told refused.
+          absurd (no_table text (all text) line why table refused (at_told _ (q.left schema) text told has.reads).0);
+      broken = λ fault is.
+          told1 (f.content file)
+          (λ content ends. (table, broken_as task content table status old new fault is ends)) served.ends;
+      complete = λ told given output tells gives.
+          ends_as sole task told (all told.schema) table
+          (at_told _ (q.left schema) told.schema tells.schema_text has.reads).0 status old new
+          (at_told _ (f.content file) told.file tells.content served.ends) given output gives;
+      source = λ is. inl (served.source is);
+      content = served.content;
+      cost = served.cost;
+    }
+
+unread_behind : (task : Task) (told : Told) (one : HasOneAnswer told.schema) (table : TableDef)
+    → IsTextOf table told.schema → (old new : Option (List ℕ)) → EndsUnread task told.file table old new
+    → LeavesUnread task told old new
+unread_behind Check told one table is old new ends = ends
+unread_behind Dump told one table is old new ends = (
+  (λ output gives.
+      let part = ends.0 (sound_of Dump told one table is output gives) in
+      (part.0, (table, is, part.1), part.2)),
+  (λ none.
+      ends.1 (λ sound.
+      let part = ends.0 sound in none part.0 (table, is, part.1))),
+)
+
+leaves_served : (task : Task) (told : Told) (one : HasOneAnswer told.schema) (table : TableDef)
+    → IsTextOf table told.schema → (status : Status) (old new left : Option (List ℕ)) → left ≡ Some []
+    → Ends task told.file table status old new → Leaves task told status old new left
+leaves_served task told one table is statuses.Done old new left end ends =
+    ((ends.0, (table, is, ends.1), ends.2), end)
+leaves_served task told one table is statuses.Usage old new left end ends = absurd ends
+leaves_served task told one table is (statuses.SchemaRefused line why) old new left end ends = absurd ends
+leaves_served task told one table is (statuses.Broken fault) old new left end ends =
+    (((table, is, ends.0), refl), ends.1)
+leaves_served task told one table is statuses.SourceFault old new left end ends =
+    unread_behind task told one table is old new ends
+leaves_served task told one table is statuses.SinkFault old new left end ends = (ends.0, (table, is, ends.1), ends.2)
+leaves_served task told one table is statuses.Memory old new left end ends = ends
+leaves_served task told one table is statuses.Unbuilt old new left end ends = absurd ends
+
+-- the file ended it
+pub serves_file : {F Q O : Type 0} (all : (text : List ℕ) → HasOneAnswer text) (sole : FirstHasOneAnswer) (f : FileOf F)
+    (q : SourceOf Q) (o : SinkOf O) (task : Task) (file file_now : F) (schema schema_now : Q) (out out_now : O)
+    (steps steps_now : ℕ) (table : TableDef) (status : Status) → HasTable q schema schema_now table
+    → ServesFile f o task file file_now table out out_now steps steps_now status
+    → Serves f q o task file file_now schema schema_now out out_now steps steps_now status
+serves_file all sole f q o task file file_now schema schema_now out out_now steps steps_now table status has served =
+    record {
+      inputs =
+          inputs_served all sole f q o task file file_now schema schema_now out out_now steps steps_now table status has
+          served;
+      leaves = λ told tells.
+          let reads = at_told _ (q.left schema) told.schema tells.schema_text has.reads in
+          leaves_served task told (all told.schema) table reads.0 status (o.written out) (o.written out_now)
+          (q.left schema_now) reads.1 (at_told _ (f.content file) told.file tells.content served.ends);
+      unwritten = served.unwritten;
+      sink = served.sink;
+    }
+
+pub file_never_usage : (status : Status) → IsOfFile status → status ≡ statuses.Usage → ⊥
+file_never_usage status is same = subst IsOfFile same is

@@ -1,0 +1,32 @@
+use Rattle.std.proofs.Common.{Err, ap}
+use Rattle.ibd_cli.proofs.OneAnswer.{one_answer}
+use Rattle.ibd_cli.proofs.Serving.{serves_stopped, serves_file, never_usage, file_never_usage}
+use Rattle.ibd_cli.proofs.run.serve.Goals as goal
+
+pub returns-in-Ok-clause-serves : goal.returns-in-Ok-clause-serves
+returns-in-Ok-clause-serves g c =
+    serves_file
+    (one_answer c.has_one_schema.ensures.texts c.texts_pass.ensures.pass c.texts_pass.ensures.one_answer)
+    c.first_has_one_answer.ensures g.F.PageSource g.Q.ByteSource g.O.ByteSink c.args.task c.args.file.now
+    c.serve_table.new.file c.args.schema.now c.read_schema.new.source c.args.out.now c.serve_table.new.out
+    c.args.steps.now c.serve_table.new.steps c.in-Ok.table c.serve_table.result
+    (record { reads = c.in-Ok.ensures.exact; read = c.in-Ok.ensures.read }) c.serve_table.ensures
+
+pub returns-in-Ok-clause-usage : goal.returns-in-Ok-clause-usage
+returns-in-Ok-clause-usage g c = file_never_usage c.serve_table.result c.serve_table.ensures.of_file
+
+pub returns-in-Err-clause-serves : goal.returns-in-Err-clause-serves
+returns-in-Err-clause-serves g c =
+    rw c.from.ensures
+    (serves_stopped
+    (one_answer c.has_one_schema.ensures.texts c.texts_pass.ensures.pass c.texts_pass.ensures.one_answer)
+    g.F.PageSource g.Q.ByteSource g.O.ByteSink c.args.task c.args.file.now c.args.schema.now
+    c.read_schema.new.source c.args.out.now c.args.steps.now c.in-Err.stop
+    (record {
+      reads = c.in-Err.ensures.exact;
+      read = c.in-Err.ensures.read;
+      cause = λ is. c.in-Err.ensures.cause (ap Err is);
+    }))
+
+pub returns-in-Err-clause-usage : goal.returns-in-Err-clause-usage
+returns-in-Err-clause-usage g c = rw c.from.ensures (never_usage c.in-Err.stop)
