@@ -1,5 +1,6 @@
 -- Which decimals bytes spell.
-use Rattle.std.proofs.Common.{◌≡◌, ◌≢◌, ℕ, zero, suc, ◌+◌, ◌-◌, ◌*◌, ◌^◌, ◌<◌, ◌≤◌, List, [], ◌∷◌, length, slice_index, sum, ltb, refl, sym, ap, ◌∙◌, subst, inl, inr, arith}
+use Rattle.std.proofs.Common.{◌≡◌, ◌≢◌, ℕ, zero, suc, ◌+◌, ◌-◌, ◌*◌, ◌^◌, ◌<◌, ◌≤◌, List, [], ◌∷◌, length, slice_index}
+use Rattle.std.proofs.Common.{sum, ltb, refl, sym, ap, ◌∙◌, subst, inl, inr, arith}
 use Rattle.std.specs.Prelude.{Some, None, false, ℤ, pos, negsuc, ◌-ℤ◌, nat_abs, bit_xor, if◌then◌else◌}
 use Rattle.std.proofs.lemmas.Bool.{cases_lt}
 use Rattle.std.proofs.lemmas.Bool.Decides.{nat_tests}
@@ -12,11 +13,13 @@ use Rattle.column_values.specs.declared.value.Value.{Value}
 use Rattle.column_values.specs.declared.value.Value.TheVariants as values
 use Rattle.column_values.specs.Types.{IsColumnType}
 use Rattle.column_values.specs.Lengths.{decimal_groups, decimal_length}
-use Rattle.column_values.specs.Decimals.{grouped, complemented, with_top_turned, signed_groups, decimal_bytes, SpellsDecimal, FindsUnits}
+use Rattle.column_values.specs.Decimals.{grouped, complemented, with_top_turned, signed_groups, decimal_bytes}
+use Rattle.column_values.specs.Decimals.{SpellsDecimal, FindsUnits}
 use Rattle.column_values.specs.Spell.{Spell, IsSpelled}
 use Rattle.column_values.proofs.DecimalLengths.{decimal_length_is}
 use Rattle.column_values.proofs.Numbers.{flipped_low, flipped_high}
-use Rattle.column_values.proofs.Groups.{few_groups, sum-groups, length-grouped, are_grouped, ungrouped, ungrouped-grouped, grouped_head, decimal_length_sum}
+use Rattle.column_values.proofs.Groups.{few_groups, sum-groups, length-grouped, are_grouped, ungrouped}
+use Rattle.column_values.proofs.Groups.{ungrouped-grouped, grouped_head, decimal_length_sum}
 
 pub turned_low : (b : ℕ) → b < 128 → bit_xor b 128 ≡ 128 + b
 turned_low b low = flipped_low 7 b low

@@ -1,5 +1,6 @@
 -- The order of fields and of keys is a total one up to equality.
-use Rattle.std.proofs.Common.{◌≡◌, ℕ, ◌+◌, ◌-◌, ◌≤◌, max, List, [], ◌∷◌, ◌++◌, length, replicate, Some, None, refl, sym, ap, ◌∙◌, arith, append_assoc}
+use Rattle.std.proofs.Common.{◌≡◌, ℕ, ◌+◌, ◌-◌, ◌≤◌, max, List, [], ◌∷◌, ◌++◌, length, replicate, Some, None, refl, sym}
+use Rattle.std.proofs.Common.{ap, ◌∙◌, arith, append_assoc}
 use Rattle.std.specs.Prelude.{Option}
 use Rattle.std.specs.declared.cmp.Ordering.{Ordering}
 use Rattle.std.specs.declared.cmp.Ordering.TheVariants.{Less, Equal, Greater}
@@ -11,7 +12,8 @@ use Rattle.std.proofs.lemmas.List.{replicate-append-replicate}
 use Rattle.column_values.specs.declared.kind.ColumnType.TheVariants as types
 use Rattle.column_values.specs.declared.field.FieldType.{FieldType}
 use Rattle.column_values.specs.declared.field.FieldType.TheVariants as fields
-use Rattle.column_values.specs.Order.{bytes_cmp, filled, text_cmp, field_cmp, cell_cmp, Key, key_cmp, IsBelow, AreEqualKeys}
+use Rattle.column_values.specs.Order.{bytes_cmp, filled, text_cmp, field_cmp, cell_cmp, Key, key_cmp, IsBelow}
+use Rattle.column_values.specs.Order.{AreEqualKeys}
 use Rattle.column_values.proofs.TextOrder.{length-filled}
 use Rattle.column_values.specs.Laws.{IsStrict, IsTransitive, IsReflexive, Symmetric, Agrees, Splits, IsTotal}
 

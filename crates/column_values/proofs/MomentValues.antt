@@ -1,5 +1,6 @@
 -- The bytes of dates, moments and years.
-use Rattle.std.proofs.Common.{◌≡◌, ℕ, zero, suc, ◌+◌, ◌-◌, ◌*◌, ◌/◌, ◌^◌, ◌<◌, ◌≤◌, eqb, true, false, List, ◌++◌, length, drop, refl, sym, ap, ◌∙◌, inl, inr, arith, length-append}
+use Rattle.std.proofs.Common.{◌≡◌, ℕ, zero, suc, ◌+◌, ◌-◌, ◌*◌, ◌/◌, ◌^◌, ◌<◌, ◌≤◌, eqb, true, false, List, ◌++◌}
+use Rattle.std.proofs.Common.{length, drop, refl, sym, ap, ◌∙◌, inl, inr, arith, length-append}
 use Rattle.byteorder.specs.Numbers.{length-bytes_high_first}
 use Rattle.std.proofs.lemmas.Bool.{cases_lt}
 use Rattle.std.proofs.lemmas.Bool.Decides.{nat_tests}
@@ -9,7 +10,8 @@ use Rattle.page_source.specs.Pages.{num, be_bytes, AreBytes}
 use Rattle.column_values.specs.declared.kind.ColumnType.TheVariants as types
 use Rattle.column_values.specs.declared.value.Value.TheVariants as values
 use Rattle.column_values.specs.Lengths.{fraction_length}
-use Rattle.column_values.specs.Moments.{fraction_unit, fraction_bytes, IsFraction, SpellsFraction, IsMoment, packed_moment, IsTimestamp, IsYear, year_of, year_byte}
+use Rattle.column_values.specs.Moments.{fraction_unit, fraction_bytes, IsFraction, SpellsFraction, IsMoment}
+use Rattle.column_values.specs.Moments.{packed_moment, IsTimestamp, IsYear, year_of, year_byte}
 use Rattle.column_values.specs.Spell.{packed_date, IsSpelled, IsValueOf}
 use Rattle.column_values.proofs.Bytes.{are_be_bytes, num-be_bytes}
 use Rattle.column_values.proofs.IntegerValues.{num-written, num-below}

@@ -1,5 +1,7 @@
 -- One spelling for each value, and one value for each spelling.
-use Rattle.std.proofs.Common.{◌≡◌, ℕ, zero, suc, ◌+◌, ◌-◌, ◌*◌, ◌/◌, ◌^◌, ◌<◌, ◌≤◌, Bool, true, false, eqb, List, [], ◌∷◌, ◌++◌, length, take, drop, replicate, slice_index, refl, sym, ap, ◌∙◌, subst, inl, inr, arith}
+use Rattle.std.proofs.Common.{◌≡◌, ℕ, zero, suc, ◌+◌, ◌-◌, ◌*◌, ◌/◌, ◌^◌, ◌<◌, ◌≤◌, Bool, true, false, eqb, List, []}
+use Rattle.std.proofs.Common.{◌∷◌, ◌++◌, length, take, drop, replicate, slice_index, refl, sym, ap, ◌∙◌, subst, inl}
+use Rattle.std.proofs.Common.{inr, arith}
 use Rattle.std.specs.Prelude.{ℤ, pos, negsuc, ◌+ℤ◌, nat_abs}
 use Rattle.std.proofs.lemmas.Bool.{cases_lt}
 use Rattle.std.proofs.lemmas.Bool.Decides.{nat_tests}
@@ -14,7 +16,8 @@ use Rattle.column_values.specs.declared.value.Value.{Value}
 use Rattle.column_values.specs.declared.value.Value.TheVariants as values
 use Rattle.column_values.specs.Types.{IsColumnType}
 use Rattle.column_values.specs.Lengths.{fraction_length, decimal_groups}
-use Rattle.column_values.specs.Moments.{fraction_unit, fraction_bytes, SpellsFraction, SpellsDateTime, packed_moment, year_of}
+use Rattle.column_values.specs.Moments.{fraction_unit, fraction_bytes, SpellsFraction, SpellsDateTime, packed_moment}
+use Rattle.column_values.specs.Moments.{year_of}
 use Rattle.column_values.specs.Decimals.{grouped, complemented, signed_groups}
 use Rattle.column_values.specs.Spell.{int_of, int_bytes, packed_date, SpellsDate, SpellsChar, Spell, spelling_of}
 use Rattle.column_values.specs.Laws.{HasOneSpelling, HasOneValue, SpellingSpells}

@@ -1,5 +1,6 @@
 -- What a reader of a text keeps stands for the bytes that were read.
-use Rattle.std.proofs.Common.{◌≡◌, ℕ, suc, ◌+◌, ◌<◌, ◌≤◌, List, [], ◌∷◌, ◌++◌, length, take, get_or, refl, sym, ap, ◌∙◌, subst, inl, inr, arith, append_assoc, length-append}
+use Rattle.std.proofs.Common.{◌≡◌, ℕ, suc, ◌+◌, ◌<◌, ◌≤◌, List, [], ◌∷◌, ◌++◌, length, take, get_or, refl, sym, ap, ◌∙◌}
+use Rattle.std.proofs.Common.{subst, inl, inr, arith, append_assoc, length-append}
 use Rattle.std.specs.List.{concat}
 use Rattle.std.proofs.lemmas.List.{append-nil, take_more}
 use Rattle.std.specs.Prelude.{Option, Some, None}
@@ -9,8 +10,10 @@ use Rattle.column_values.specs.declared.utf8.Joined.{Joined}
 use Rattle.column_values.specs.declared.utf8.Progress.{Progress}
 use Rattle.column_values.specs.declared.utf8.Joined.TheVariants.{Whole, Front, Neither}
 use Rattle.column_values.specs.Characters.{IsCharacter, HasCharacters}
-use Rattle.column_values.specs.Utf8Reader.{State, Bad, Good, Reader, Any, Limited, IsPending, IsCut, StandsFor, WasFed, CountsUpTo, CanFeed, IsAtEnd, TakesText}
-use Rattle.column_values.specs.Utf8View.{pending_bytes, state_of, reader_of, IsFront, Joins, state_after, StepsTo, CanStep}
+use Rattle.column_values.specs.Utf8Reader.{State, Bad, Good, Reader, Any, Limited, IsPending, IsCut, StandsFor, WasFed}
+use Rattle.column_values.specs.Utf8Reader.{CountsUpTo, CanFeed, IsAtEnd, TakesText}
+use Rattle.column_values.specs.Utf8View.{pending_bytes, state_of, reader_of, IsFront, Joins, state_after, StepsTo}
+use Rattle.column_values.specs.Utf8View.{CanStep}
 use Rattle.column_values.proofs.Utf8Texts.{before, same_cut, front_pending}
 
 -- one character more

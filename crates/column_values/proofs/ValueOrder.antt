@@ -1,5 +1,6 @@
 -- Bytes of moments, years and decimals order as their values do.
-use Rattle.std.proofs.Common.{◌≡◌, ℕ, suc, ◌+◌, ◌-◌, ◌*◌, ◌/◌, ◌%◌, ◌^◌, ◌<◌, ◌≤◌, eqb, true, false, List, [], ◌∷◌, ◌++◌, length, take, drop, slice_index, sum, refl, sym, ap, ◌∙◌, subst, inl, inr, arith}
+use Rattle.std.proofs.Common.{◌≡◌, ℕ, suc, ◌+◌, ◌-◌, ◌*◌, ◌/◌, ◌%◌, ◌^◌, ◌<◌, ◌≤◌, eqb, true, false, List, [], ◌∷◌}
+use Rattle.std.proofs.Common.{◌++◌, length, take, drop, slice_index, sum, refl, sym, ap, ◌∙◌, subst, inl, inr, arith}
 use Rattle.std.specs.Prelude.{ℤ, pos, negsuc, nat_abs, bit_xor}
 use Rattle.std.specs.declared.cmp.Ordering.{Ordering}
 use Rattle.std.specs.declared.cmp.Ordering.TheVariants.{Less, Equal, Greater}
@@ -15,14 +16,18 @@ use Rattle.column_values.specs.declared.kind.ColumnType.TheVariants as types
 use Rattle.column_values.specs.declared.value.Value.TheVariants as values
 use Rattle.column_values.specs.Types.{IsColumnType}
 use Rattle.column_values.specs.Lengths.{group_length, fraction_length, decimal_groups}
-use Rattle.column_values.specs.Moments.{fraction_unit, SpellsFraction, SpellsDateTime, SpellsTimestamp, packed_moment, year_of}
+use Rattle.column_values.specs.Moments.{fraction_unit, SpellsFraction, SpellsDateTime, SpellsTimestamp, packed_moment}
+use Rattle.column_values.specs.Moments.{year_of}
 use Rattle.column_values.specs.Decimals.{grouped, complemented, with_top_turned, signed_groups, SpellsDecimal}
 use Rattle.column_values.specs.Order.{bytes_cmp}
 use Rattle.column_values.specs.Laws.{value_cmp, OrdersValues}
-use Rattle.column_values.proofs.Bytes.{cmp-less, cmp-equal, cmp-greater, cmp-digits, worth, num-worth, num-take, worth_orders, worth-be_bytes, are_be_bytes}
+use Rattle.column_values.proofs.Bytes.{cmp-less, cmp-equal, cmp-greater, cmp-digits, worth, num-worth, num-take}
+use Rattle.column_values.proofs.Bytes.{worth_orders, worth-be_bytes, are_be_bytes}
 use Rattle.column_values.proofs.Spellings.{some_unit}
-use Rattle.column_values.proofs.Groups.{Few, few_groups, some_power, first_digits, last_digits, group_fits, power_parts, are_grouped, length-grouped, sum-groups}
-use Rattle.column_values.proofs.DecimalValues.{turned_back, signed_low, signed_high, are_signed, length-signed, decimal_size, top_twice, turned_low, turned_high}
+use Rattle.column_values.proofs.Groups.{Few, few_groups, some_power, first_digits, last_digits, group_fits, power_parts}
+use Rattle.column_values.proofs.Groups.{are_grouped, length-grouped, sum-groups}
+use Rattle.column_values.proofs.DecimalValues.{turned_back, signed_low, signed_high, are_signed, length-signed}
+use Rattle.column_values.proofs.DecimalValues.{decimal_size, top_twice, turned_low, turned_high}
 
 then_assoc : (a b c : Ordering) → ordering_then (ordering_then a b) c ≡ ordering_then a (ordering_then b c)
 then_assoc Less b c = refl

@@ -1,5 +1,6 @@
 -- The bytes of decimals (decimal).
-use Rattle.std.specs.Prelude.{◌≡◌, ◌≢◌, ℕ, suc, ◌-◌, ◌/◌, ◌%◌, ◌^◌, ◌<◌, ℤ, pos, negsuc, nat_abs, List, [], ◌∷◌, ◌++◌, map, sum, bit_xor, Option, Some, None}
+use Rattle.std.specs.Prelude.{◌≡◌, ◌≢◌, ℕ, suc, ◌-◌, ◌/◌, ◌%◌, ◌^◌, ◌<◌, ℤ, pos, negsuc, nat_abs, List, [], ◌∷◌, ◌++◌}
+use Rattle.std.specs.Prelude.{map, sum, bit_xor, Option, Some, None}
 use Rattle.page_source.specs.Pages.{be_bytes}
 use Rattle.column_values.specs.Lengths.{group_length, decimal_groups}
 

@@ -1,5 +1,6 @@
 -- The bytes of moments and of years (my_time).
-use Rattle.std.specs.Prelude.{◌≡◌, ℕ, ◌+◌, ◌-◌, ◌*◌, ◌/◌, ◌%◌, ◌^◌, ◌<◌, ◌≤◌, ◌==◌, ◌⊎◌, if◌then◌else◌, List, length, drop, Option, Some, None}
+use Rattle.std.specs.Prelude.{◌≡◌, ℕ, ◌+◌, ◌-◌, ◌*◌, ◌/◌, ◌%◌, ◌^◌, ◌<◌, ◌≤◌, ◌==◌, ◌⊎◌, if◌then◌else◌, List, length}
+use Rattle.std.specs.Prelude.{drop, Option, Some, None}
 use Rattle.page_source.specs.Pages.{num, be_bytes}
 use Rattle.column_values.specs.Lengths.{fraction_length}
 

@@ -1,5 +1,7 @@
 -- Which bytes spell which value of a type.
-use Rattle.std.specs.Prelude.{◌≡◌, ◌≢◌, ℕ, ◌+◌, ◌-◌, ◌*◌, ◌^◌, ◌<◌, ◌≤◌, ⊤, Bool, true, false, ℤ, pos, ◌+ℤ◌, ◌-ℤ◌, ◌<ℤ◌, ◌≤ℤ◌, nat_abs, List, [], ◌++◌, length, replicate, slice_index, bit_xor, Option, Some, None, Result, Ok, Err}
+use Rattle.std.specs.Prelude.{◌≡◌, ◌≢◌, ℕ, ◌+◌, ◌-◌, ◌*◌, ◌^◌, ◌<◌, ◌≤◌, ⊤, Bool, true, false, ℤ, pos, ◌+ℤ◌, ◌-ℤ◌, ◌<ℤ◌}
+use Rattle.std.specs.Prelude.{◌≤ℤ◌, nat_abs, List, [], ◌++◌, length, replicate, slice_index, bit_xor, Option, Some}
+use Rattle.std.specs.Prelude.{None, Result, Ok, Err}
 use Rattle.byteorder.specs.Endian.{twos_complement}
 use Rattle.page_source.specs.Pages.{num, be_bytes, AreBytes}
 use Rattle.column_values.specs.declared.kind.ColumnType.{ColumnType}
@@ -10,7 +12,8 @@ use Rattle.column_values.specs.declared.value.ValueError.{ValueError}
 use Rattle.column_values.specs.declared.value.ValueError.TheVariants.{BadValue, Memory}
 use Rattle.column_values.specs.Types.{HoldsText}
 use Rattle.column_values.specs.Characters.{IsCharacterText, IsTextUpTo}
-use Rattle.column_values.specs.Moments.{SpellsDateTime, SpellsTimestamp, SpellsYear, packed_moment, fraction_bytes, year_byte}
+use Rattle.column_values.specs.Moments.{SpellsDateTime, SpellsTimestamp, SpellsYear, packed_moment, fraction_bytes}
+use Rattle.column_values.specs.Moments.{year_byte}
 use Rattle.column_values.specs.Decimals.{SpellsDecimal, decimal_bytes}
 
 -- the number of an integer's bytes, less the worth of their top bit where it is signed

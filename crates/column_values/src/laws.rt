@@ -3,7 +3,8 @@
 
 ghost use Rattle.std.specs.Prelude.{List};
 ghost use Rattle.column_values.specs.declared.field.FieldType.{FieldType};
-ghost use Rattle.column_values.specs.Laws.{IsStrict, IsTransitive, IsReflexive, Symmetric, Agrees, Splits, IsTotal, HasOneSpelling, HasOneValue, SpellingSpells, OrdersValues};
+ghost use Rattle.column_values.specs.Laws.{IsStrict, IsTransitive, IsReflexive, Symmetric, Agrees, Splits, IsTotal};
+ghost use Rattle.column_values.specs.Laws.{HasOneSpelling, HasOneValue, SpellingSpells, OrdersValues};
 
 /// The keys of any fields have a strict order, up to equality.
 pub fn keys_have_an_order()

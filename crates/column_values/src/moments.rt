@@ -3,7 +3,8 @@
 ghost use Rattle.std.specs.Prelude.{◌≡◌, ◌≤◌, ◌<◌, ◌^◌, ◌↔◌, ◌++◌, List, length, IsTrue, OnOk};
 ghost use Rattle.column_values.specs.declared.kind.ColumnType.{ColumnType};
 ghost use Rattle.column_values.specs.Lengths.{fraction_length};
-ghost use Rattle.column_values.specs.Moments.{FindsFraction, IsFraction, IsMoment, IsTimestamp, IsYear, fraction_unit, fraction_bytes};
+ghost use Rattle.column_values.specs.Moments.{FindsFraction, IsFraction, IsMoment, IsTimestamp, IsYear, fraction_unit};
+ghost use Rattle.column_values.specs.Moments.{fraction_bytes};
 ghost use Rattle.column_values.specs.Spell.{Finds, Encodes};
 
 use crate::big_endian::{number_at, push_number};

@@ -2,7 +2,8 @@
 
 ghost use Rattle.std.specs.Prelude.{◌≡◌, ℕ, ◌+◌, ◌<◌, ◌≤◌, ◌↔◌, ◌++◌, ◌∷◌, [], List, length, IsTrue};
 ghost use Rattle.column_values.specs.Characters.{IsFurther, IsStartOfThree, IsStartOfFour, IsCharacter, IsTextUpTo};
-ghost use Rattle.column_values.specs.Utf8Reader.{Any, IsFed, CanFeed, IsAtEnd, CountsUpTo, WasFed, TakesText, new_reader};
+ghost use Rattle.column_values.specs.Utf8Reader.{Any, IsFed, CanFeed, IsAtEnd, CountsUpTo, WasFed, TakesText};
+ghost use Rattle.column_values.specs.Utf8Reader.{new_reader};
 ghost use Rattle.column_values.specs.Utf8View.{pending_bytes, state_of, Joins, StepsTo, CanStep};
 
 use std::marker::Model;

@@ -112,7 +112,8 @@ on_page page origin fields ends k d below =
     subst IsOnPage (sym here) (record { rising = omega arith; inside = omega (arith, more, most, ends) })
 
 -- where each field lies in a record that was read
-pub lie_below : (page : List ℕ) (origin : ℕ) (fields : Fields) (reading : Reading) → IsReading page origin fields reading
+pub lie_below : (page : List ℕ) (origin : ℕ) (fields : Fields) (reading : Reading)
+    → IsReading page origin fields reading
     → All (LiesBelow reading.end) reading.places
 unfolding places_of place_of record_end
 lie_below page origin fields reading read = rw (read.holds, read.ends) (λ k d below.

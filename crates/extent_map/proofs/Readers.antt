@@ -1,12 +1,14 @@
 -- What is read of the extents of a file.
-use Rattle.std.proofs.Common.{◌≡◌, ℕ, ◌+◌, ◌*◌, ◌/◌, ◌%◌, ◌^◌, ◌<◌, ◌≤◌, Bool, true, false, eqb, List, [], ◌∷◌, length, map, Option, Some, slice_get, unwrap_or, get_or, refl, sym, ◌∙◌, ap, arith}
+use Rattle.std.proofs.Common.{◌≡◌, ℕ, ◌+◌, ◌*◌, ◌/◌, ◌%◌, ◌^◌, ◌<◌, ◌≤◌, Bool, true, false, eqb, List, [], ◌∷◌, length}
+use Rattle.std.proofs.Common.{map, Option, Some, slice_get, unwrap_or, get_or, refl, sym, ◌∙◌, ap, arith}
 use Rattle.std.specs.List.{range_with_len}
 use Rattle.std.proofs.lemmas.List.FromFn.{length-map-range_with_len, get_or-map-range_with_len}
 use Rattle.std.proofs.lemmas.Option.{slice_get_within, unwrap_or-slice_get}
 use Rattle.page_source.specs.Pages.{page_of}
 use Rattle.space_header.specs.Header.{limit_of}
 use Rattle.extent_map.specs.declared.extent.Extent.{Extent}
-use Rattle.extent_map.specs.Extents.{extent_at, extent_of, extents_of, extent_count, extent_nodes, AreExtents, IsDescribed, is_used}
+use Rattle.extent_map.specs.Extents.{extent_at, extent_of, extents_of, extent_count, extent_nodes, AreExtents}
+use Rattle.extent_map.specs.Extents.{IsDescribed, is_used}
 use Rattle.extent_map.proofs.Used.{not_used_past}
 use Rattle.extent_map.proofs.Masks.{bit, mask_bit}
 use Rattle.extent_map.proofs.Uses.{use_of, used_is_mask, used_is_bit}

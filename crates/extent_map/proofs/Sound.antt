@@ -2,7 +2,8 @@
 use Rattle.std.proofs.Common.{◌≡◌, ℕ, ◌+◌, ◌*◌, ◌/◌, ◌%◌, ◌<◌, List, None, subst, arith}
 use Rattle.extent_map.specs.Head.{HeaderChecks, HeadChecks, IsHead}
 use Rattle.extent_map.specs.Extents.{extent_count}
-use Rattle.extent_map.specs.Descriptors.{ExtentChecks, IsExtent, DescriptorChecks, AllDescriptorChecks, descriptor_pages, extents_on}
+use Rattle.extent_map.specs.Descriptors.{ExtentChecks, IsExtent, DescriptorChecks, AllDescriptorChecks}
+use Rattle.extent_map.specs.Descriptors.{descriptor_pages, extents_on}
 use Rattle.extent_map.specs.Laws.{HasDescriptors}
 
 pub head_sound : (file : List ℕ) (flags : ℕ) → HeadChecks file flags None → IsHead file flags

@@ -1,5 +1,6 @@
 -- The checks of the descriptor pages, page by page.
-use Rattle.std.proofs.Common.{◌≡◌, ℕ, zero, suc, ◌+◌, ◌*◌, ◌<◌, List, ◌∷◌, ◌++◌, map, Some, None, sym, ◌∙◌, ap, inl, inr, arith, below_more}
+use Rattle.std.proofs.Common.{◌≡◌, ℕ, zero, suc, ◌+◌, ◌*◌, ◌<◌, List, ◌∷◌, ◌++◌, map, Some, None, sym, ◌∙◌, ap, inl}
+use Rattle.std.proofs.Common.{inr, arith, below_more}
 use Rattle.std.specs.List.{range_with_len}
 use Rattle.page_source.specs.declared.rule.Fault.{Fault}
 use Rattle.page_source.specs.declared.checks.Stop.{Stop}
@@ -9,7 +10,8 @@ use Rattle.page_source.specs.Verdict.{AllBelow, Each}
 use Rattle.space_header.specs.declared.header.SpaceHeader.{SpaceHeader}
 use Rattle.space_header.specs.Header.{size_of, limit_of, header_of}
 use Rattle.extent_map.specs.Head.{HasHeader}
-use Rattle.extent_map.specs.Descriptors.{descriptor_pages, DescriptorPageChecks, DescriptorChecks, AllDescriptorChecks, ExtentCheckOn, extents_on}
+use Rattle.extent_map.specs.Descriptors.{descriptor_pages, DescriptorPageChecks, DescriptorChecks, AllDescriptorChecks}
+use Rattle.extent_map.specs.Descriptors.{ExtentCheckOn, extents_on}
 
 pub header_size : (file : List ℕ) (header : SpaceHeader) → HasHeader file header → size_of file ≡ header.size
 unfolding header_of

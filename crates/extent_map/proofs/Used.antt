@@ -1,11 +1,13 @@
 -- The used pages of an extent.
-use Rattle.std.proofs.Common.{◌≡◌, ℕ, suc, ◌+◌, ◌*◌, ◌/◌, ◌<◌, ◌≤◌, false, List, length, Contains, refl, sym, ◌∙◌, subst, inl, inr, arith}
+use Rattle.std.proofs.Common.{◌≡◌, ℕ, suc, ◌+◌, ◌*◌, ◌/◌, ◌<◌, ◌≤◌, false, List, length, Contains, refl, sym, ◌∙◌}
+use Rattle.std.proofs.Common.{subst, inl, inr, arith}
 use Rattle.std.proofs.lemmas.List.Sums.{length-filter, count_by-le-length}
 use Rattle.std.proofs.lemmas.List.FromFn.{length-range_with_len, length-map-range_with_len, get_or-map-range_with_len}
 use lib.ListN.{get_or-eq_default}
 use Rattle.std.proofs.lemmas.Bool.Decides.{leb_tells}
 use Rattle.page_source.specs.Lists.{flag_in}
-use Rattle.page_source.proofs.Members.{range_has, range_only, range_distinct, distinct_filter, contains_filter, filter_contains}
+use Rattle.page_source.proofs.Members.{range_has, range_only, range_distinct, distinct_filter, contains_filter}
+use Rattle.page_source.proofs.Members.{filter_contains}
 use Rattle.space_header.specs.Header.{limit_of}
 use Rattle.extent_map.specs.Extents.{is_used, IsUsed, extent_pages, used_in, is_fragment_page, fragment_flags}
 use Rattle.extent_map.specs.Laws.{AreUsedPages}

@@ -1,5 +1,7 @@
 -- The used pages of an extent, by the bits of its descriptor.
-use Rattle.std.proofs.Common.{◌≡◌, ℕ, zero, suc, ◌+◌, ◌-◌, ◌*◌, ◌/◌, ◌%◌, ◌^◌, ◌<◌, ◌≤◌, ◌↔◌, IsTrue, Bool, true, false, cond, nat_lt, List, ◌∷◌, length, get_or, All, Contains, filter, refl, sym, ◌∙◌, ap, inl, inr, arith}
+use Rattle.std.proofs.Common.{◌≡◌, ℕ, zero, suc, ◌+◌, ◌-◌, ◌*◌, ◌/◌, ◌%◌, ◌^◌, ◌<◌, ◌≤◌, ◌↔◌, IsTrue, Bool, true, false}
+use Rattle.std.proofs.Common.{cond, nat_lt, List, ◌∷◌, length, get_or, All, Contains, filter, refl, sym, ◌∙◌, ap, inl}
+use Rattle.std.proofs.Common.{inr, arith}
 use Rattle.std.specs.List.{range_with_len}
 use Rattle.std.proofs.lemmas.Bool.{false≢true}
 use Rattle.std.proofs.lemmas.Bool.Decides.{leb_tells}
@@ -7,7 +9,8 @@ use Rattle.std.proofs.lemmas.List.Elements.{All-contains, All-contains_itself}
 use Rattle.page_source.specs.Pages.{page_of}
 use Rattle.space_header.specs.Header.{limit_of}
 use Rattle.extent_map.specs.declared.extent.Extent.{Extent}
-use Rattle.extent_map.specs.Extents.{is_bit_clear, used_mask, extent_at, extent_of, extent_count, descriptor_page, descriptor_byte, is_used, IsUsed, extent_pages, used_in, used_count, IsDescribed}
+use Rattle.extent_map.specs.Extents.{is_bit_clear, used_mask, extent_at, extent_of, extent_count, descriptor_page}
+use Rattle.extent_map.specs.Extents.{descriptor_byte, is_used, IsUsed, extent_pages, used_in, used_count, IsDescribed}
 use Rattle.extent_map.specs.Descriptors.{FitsUse}
 use Rattle.std.proofs.Math.Nat.{pow-succ'}
 use Rattle.extent_map.proofs.Masks.{bit, mask, mask_sum, mask_below, below_mask, mask_full, mask_bit, bit_set}

@@ -1,11 +1,13 @@
 -- The bitmap that is written says which pages are used, and a descriptor that was written is read again.
-use Rattle.std.proofs.Common.{◌≡◌, ℕ, zero, suc, ◌+◌, ◌-◌, ◌*◌, ◌/◌, ◌%◌, ◌^◌, ◌<◌, ◌≤◌, eqb, List, ◌++◌, length, map, get_or, refl, sym, ◌∙◌, ap, add-zero, arith}
+use Rattle.std.proofs.Common.{◌≡◌, ℕ, zero, suc, ◌+◌, ◌-◌, ◌*◌, ◌/◌, ◌%◌, ◌^◌, ◌<◌, ◌≤◌, eqb, List, ◌++◌, length, map}
+use Rattle.std.proofs.Common.{get_or, refl, sym, ◌∙◌, ap, add-zero, arith}
 use Rattle.std.specs.List.{range_with_len}
 use Rattle.std.proofs.lemmas.Nat.{pow-add}
 use Rattle.std.proofs.Math.Nat.{div-div-eq-div-mul, pow-succ'}
 use Rattle.std.proofs.lemmas.List.FromFn.{length-map-range_with_len, get_or-map-range_with_len}
 use Rattle.page_source.specs.Pages.{num, be_bytes, with_bytes}
-use Rattle.page_source.proofs.Written.{get_or-with_bytes_before, get_or-with_bytes_at, num_from_bytes, with_bytes-next, length-with_bytes}
+use Rattle.page_source.proofs.Written.{get_or-with_bytes_before, get_or-with_bytes_at, num_from_bytes, with_bytes-next}
+use Rattle.page_source.proofs.Written.{length-with_bytes}
 use Rattle.space_header.specs.declared.address.Node.{Node}
 use Rattle.space_header.specs.Header.{address_at, node_at}
 use Rattle.space_header.specs.Writing.{node_bytes, address_bytes}
@@ -30,20 +32,25 @@ pub byte_made : (used i : ℕ) → (let x = used / 2 ^ (4 * i) in 255 - (x % 16 
     + x % 16 / 4 % 2 * 16 + x % 16 / 8 * 64)) ≡ bitmap_byte used i
 unfolding bitmap_byte
 byte_made used i =
-    four_bits (used / 2 ^ (4 * i)) _ _ _ _ (ap (λ (a : ℕ). used / 2 ^ a) (add-zero (4 * i))) (further used (4 * i) 1 2 refl) (further used (4 * i) 2 4 refl)
+    four_bits (used / 2 ^ (4 * i)) _ _ _ _ (ap (λ (a : ℕ). used / 2 ^ a) (add-zero (4 * i)))
+    (further used (4 * i) 1 2 refl) (further used (4 * i) 2 4 refl)
     (further used (4 * i) 3 8 refl)
 
 -- a bit of such a byte
-first_bit : (x b c d : ℕ) → (0 + (3 - x % 2) * 1 + (3 - b % 2) * 4 + (3 - c % 2) * 16 + (3 - d % 2) * 64) / 1 % 2 ≡ 1 - x % 2
+first_bit : (x b c d : ℕ) → (0 + (3 - x % 2) * 1 + (3 - b % 2) * 4 + (3 - c % 2) * 16 +
+    (3 - d % 2) * 64) / 1 % 2 ≡ 1 - x % 2
 first_bit x b c d = omega arith
 
-second_bit : (x b c d : ℕ) → (0 + (3 - x % 2) * 1 + (3 - b % 2) * 4 + (3 - c % 2) * 16 + (3 - d % 2) * 64) / 4 % 2 ≡ 1 - b % 2
+second_bit : (x b c d : ℕ) → (0 + (3 - x % 2) * 1 + (3 - b % 2) * 4 + (3 - c % 2) * 16 +
+    (3 - d % 2) * 64) / 4 % 2 ≡ 1 - b % 2
 second_bit x b c d = omega arith
 
-third_bit : (x b c d : ℕ) → (0 + (3 - x % 2) * 1 + (3 - b % 2) * 4 + (3 - c % 2) * 16 + (3 - d % 2) * 64) / 16 % 2 ≡ 1 - c % 2
+third_bit : (x b c d : ℕ) → (0 + (3 - x % 2) * 1 + (3 - b % 2) * 4 + (3 - c % 2) * 16 +
+    (3 - d % 2) * 64) / 16 % 2 ≡ 1 - c % 2
 third_bit x b c d = omega arith
 
-fourth_bit : (x b c d : ℕ) → (0 + (3 - x % 2) * 1 + (3 - b % 2) * 4 + (3 - c % 2) * 16 + (3 - d % 2) * 64) / 64 % 2 ≡ 1 - d % 2
+fourth_bit : (x b c d : ℕ) → (0 + (3 - x % 2) * 1 + (3 - b % 2) * 4 + (3 - c % 2) * 16 +
+    (3 - d % 2) * 64) / 64 % 2 ≡ 1 - d % 2
 fourth_bit x b c d = omega arith
 
 -- the first of the two bits of a page is clear where it is used
@@ -151,7 +158,8 @@ extent_written page at x inside =
 
 pub extent_read : (page : List ℕ) (at : ℕ) (x : Extent) → at + 40 ≤ length page → x.used < 2 ^ 64
     → num page at 8 ≡ x.id → node_at (with_bytes page (at + 8) (node_bytes x.node)) (at + 8) ≡ x.node
-    → num (with_bytes (with_bytes page (at + 8) (node_bytes x.node)) (at + 20) (be_bytes 4 x.state)) (at + 20) 4 ≡ x.state
+    → num (with_bytes (with_bytes page (at + 8) (node_bytes x.node)) (at + 20) (be_bytes 4 x.state))
+    (at + 20) 4 ≡ x.state
     → extent_at (with_fields page at x) at ≡ x
 unfolding extent_at
 extent_read page at x inside fits id node state =

@@ -1,6 +1,7 @@
 -- The checks of the descriptor pages and of the extents on each.
 use Rattle.std.specs.Prelude.{◌≡◌, ℕ, ◌+◌, ◌-◌, ◌*◌, ◌/◌, ◌%◌, ◌<◌, ◌≤◌, min, true, List, All, Option}
-use Rattle.page_source.specs.declared.rule.Rule.TheVariants.{XdesFrame, XdesType, ExtentState, ExtentUse, ExtentPastEnd, ExtentSystem}
+use Rattle.page_source.specs.declared.rule.Rule.TheVariants.{XdesFrame, XdesType, ExtentState, ExtentUse, ExtentPastEnd}
+use Rattle.page_source.specs.declared.rule.Rule.TheVariants.{ExtentSystem}
 use Rattle.page_source.specs.declared.rule.Fault.{Fault}
 use Rattle.page_source.specs.Pages.{page_of}
 use Rattle.page_source.specs.Verdict.{Then, Where, Each}
@@ -8,7 +9,8 @@ use Rattle.page_source.specs.Answers.{Holds}
 use Rattle.fil_frame.specs.Kinds.{descriptor_kind}
 use Rattle.fil_frame.specs.Frame.{Framed, kind_of}
 use Rattle.space_header.specs.Header.{size_of, limit_of}
-use Rattle.extent_map.specs.Extents.{extent_count, extent_state, descriptor_page, used_in, used_count, is_fragment_extent, IsUsed}
+use Rattle.extent_map.specs.Extents.{extent_count, extent_state, descriptor_page, used_in, used_count}
+use Rattle.extent_map.specs.Extents.{is_fragment_extent, IsUsed}
 
 -- FREE, FREE_FRAG, FULL_FRAG and FSEG
 abbrev pub IsState : ℕ → Type 0

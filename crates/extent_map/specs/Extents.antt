@@ -1,5 +1,6 @@
 -- Extents of 64 pages, and the descriptors that say which of their pages are used (fsp0fsp).
-use Rattle.std.specs.Prelude.{◌≡◌, ℕ, ◌+◌, ◌*◌, ◌/◌, ◌%◌, ◌^◌, ◌<◌, Bool, true, ◌&&◌, ◌||◌, not, nat_lt, ◌==◌, if◌then◌else◌, List, length, map, filter, sum_by, slice_index}
+use Rattle.std.specs.Prelude.{◌≡◌, ℕ, ◌+◌, ◌*◌, ◌/◌, ◌%◌, ◌^◌, ◌<◌, Bool, true, ◌&&◌, ◌||◌, not, nat_lt, ◌==◌}
+use Rattle.std.specs.Prelude.{if◌then◌else◌, List, length, map, filter, sum_by, slice_index}
 use Rattle.std.specs.List.{range_with_len}
 use Rattle.page_source.specs.Pages.{page_of, num}
 use Rattle.space_header.specs.declared.address.Node.{Node}

@@ -1,6 +1,7 @@
 -- What holds of page 0 before anything else is read (fsp0fsp).
 use Rattle.std.specs.Prelude.{◌≡◌, ℕ, ◌+◌, ◌%◌, ◌<◌, ◌≤◌, ◌⊎◌, List, Option}
-use Rattle.page_source.specs.declared.rule.Rule.TheVariants.{FileSize, HeadFrame, HeadType, HeadSpace, HeadFlags, HeadSize, HeadLimit}
+use Rattle.page_source.specs.declared.rule.Rule.TheVariants.{FileSize, HeadFrame, HeadType, HeadSpace, HeadFlags}
+use Rattle.page_source.specs.declared.rule.Rule.TheVariants.{HeadSize, HeadLimit}
 use Rattle.page_source.specs.declared.rule.Fault.{Fault}
 use Rattle.page_source.specs.Pages.{page_of, page_count}
 use Rattle.page_source.specs.Verdict.{Then}

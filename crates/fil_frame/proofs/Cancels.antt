@@ -1,11 +1,13 @@
 -- A list keeps its state as shifted copies of another are added to it, if the states of the shifts cancel out.
-use Rattle.std.proofs.Common.{◌≡◌, ℕ, zero, suc, ◌+◌, ◌/◌, ◌%◌, ◌^◌, ◌<◌, ◌≤◌, List, [], ◌∷◌, map, fold, bit_xor, refl, sym, ◌∙◌, ap, arith}
+use Rattle.std.proofs.Common.{◌≡◌, ℕ, zero, suc, ◌+◌, ◌/◌, ◌%◌, ◌^◌, ◌<◌, ◌≤◌, List, [], ◌∷◌, map, fold, bit_xor, refl}
+use Rattle.std.proofs.Common.{sym, ◌∙◌, ap, arith}
 use Rattle.std.specs.List.{range_with_len, AllByRecursion}
 use Rattle.std.specs.Int.Bits.{xor_self, xor_zero_r}
 use Rattle.fil_frame.specs.Crc.{crc_step, crc_state}
 use Rattle.fil_frame.specs.Sparse.{zero_bytes, xor_sum, Cancel, exponents}
 use Rattle.fil_frame.proofs.Linear.{xor_cross, xor_both, crc_step-xor, byte-xor}
-use Rattle.fil_frame.proofs.States.{state_of, state_of-xor, state_of-zeros, state_of-before, state_of-behind, zero_bytes-none}
+use Rattle.fil_frame.proofs.States.{state_of, state_of-xor, state_of-zeros, state_of-before, state_of-behind}
+use Rattle.fil_frame.proofs.States.{zero_bytes-none}
 
 pub cancel_1 : Cancel (exponents 1)
 unfolding zero_bytes xor_sum crc_state

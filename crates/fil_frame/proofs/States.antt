@@ -1,5 +1,6 @@
 -- The states after the values of a function.
-use Rattle.std.proofs.Common.{◌≡◌, ℕ, zero, suc, ◌+◌, ◌<◌, ◌≤◌, List, [], ◌∷◌, length, get_or, take, bit_xor, refl, sym, ◌∙◌, ap, add-zero, add-one, zero-add, arith}
+use Rattle.std.proofs.Common.{◌≡◌, ℕ, zero, suc, ◌+◌, ◌<◌, ◌≤◌, List, [], ◌∷◌, length, get_or, take, bit_xor, refl, sym}
+use Rattle.std.proofs.Common.{◌∙◌, ap, add-zero, add-one, zero-add, arith}
 use Rattle.std.proofs.lemmas.List.{take_all}
 use Rattle.std.proofs.Math.Nat.{add-suc, suc-add}
 use Rattle.std.specs.Int.Bits.{xor_zero_l, xor_zero_r}

@@ -1,11 +1,13 @@
 -- The states after bytes, by the tables.
-use Rattle.std.proofs.Common.{◌≡◌, ℕ, zero, suc, ◌+◌, ◌/◌, ◌%◌, ◌^◌, ◌<◌, List, [], ◌∷◌, length, replicate, get_or, map, fold, bit_xor, refl, sym, ◌∙◌, ap, add-one, arith}
+use Rattle.std.proofs.Common.{◌≡◌, ℕ, zero, suc, ◌+◌, ◌/◌, ◌%◌, ◌^◌, ◌<◌, List, [], ◌∷◌, length, replicate, get_or, map}
+use Rattle.std.proofs.Common.{fold, bit_xor, refl, sym, ◌∙◌, ap, add-one, arith}
 use Rattle.std.specs.List.{range_with_len}
 use Rattle.std.specs.Int.Bits.{xor_zero_l, xor_zero_r}
 use Rattle.std.proofs.Math.Nat.{div-one}
 use Rattle.std.proofs.lemmas.Nat.{shr-shr}
 use Rattle.std.proofs.lemmas.List.FromFn.{get_or-map-range_with_len, length-map-range_with_len}
-use Rattle.fil_frame.specs.declared.tables.TheConstants.{TABLE_0, TABLE_1, TABLE_2, TABLE_3, TABLE_4, TABLE_5, TABLE_6, TABLE_7}
+use Rattle.fil_frame.specs.declared.tables.TheConstants.{TABLE_0, TABLE_1, TABLE_2, TABLE_3, TABLE_4, TABLE_5, TABLE_6}
+use Rattle.fil_frame.specs.declared.tables.TheConstants.{TABLE_7}
 use Rattle.fil_frame.specs.Crc.{byte_bits, crc_step, crc_state}
 use Rattle.fil_frame.specs.Sparse.{zero_bytes}
 use Rattle.fil_frame.specs.Tables.{table_entry, IsTable}

@@ -1,17 +1,21 @@
 -- The state after eight bytes, by eight look-ups.
-use Rattle.std.proofs.Common.{◌≡◌, ℕ, suc, ◌+◌, ◌*◌, ◌/◌, ◌%◌, ◌^◌, ◌<◌, List, [], ◌∷◌, length, get_or, bit_xor, sym, ◌∙◌, ap, arith, rules}
+use Rattle.std.proofs.Common.{◌≡◌, ℕ, suc, ◌+◌, ◌*◌, ◌/◌, ◌%◌, ◌^◌, ◌<◌, List, [], ◌∷◌, length, get_or, bit_xor, sym}
+use Rattle.std.proofs.Common.{◌∙◌, ap, arith, rules}
 use Rattle.std.specs.List.{AllByRecursion}
 use Rattle.std.specs.Int.Bits.{xor_assoc, xor_zero_r}
 use Rattle.std.proofs.lemmas.Slice.Eq.{text_from_reads}
 use Rattle.std.proofs.lemmas.Nat.{xor_shr, xor_mod, shr-shr}
-use Rattle.fil_frame.specs.declared.tables.TheConstants.{TABLE_0, TABLE_1, TABLE_2, TABLE_3, TABLE_4, TABLE_5, TABLE_6, TABLE_7}
+use Rattle.fil_frame.specs.declared.tables.TheConstants.{TABLE_0, TABLE_1, TABLE_2, TABLE_3, TABLE_4, TABLE_5, TABLE_6}
+use Rattle.fil_frame.specs.declared.tables.TheConstants.{TABLE_7}
 use Rattle.fil_frame.specs.Crc.{crc_state}
 use Rattle.fil_frame.specs.Sparse.{zero_bytes}
 use Rattle.fil_frame.specs.Tables.{table_entry}
 use Rattle.fil_frame.proofs.CrcLemmas.{crc_state-append}
 use Rattle.fil_frame.proofs.Linear.{xor_both}
 use Rattle.fil_frame.proofs.Cancels.{zero_bytes-xor}
-use Rattle.fil_frame.proofs.TableLemmas.{is_table_0, is_table_1, is_table_2, is_table_3, is_table_4, is_table_5, is_table_6, is_table_7, zero_byte, one_byte, zero_bytes-first, table_entry-zeros}
+use Rattle.fil_frame.proofs.TableLemmas.{is_table_0, is_table_1, is_table_2, is_table_3, is_table_4, is_table_5}
+use Rattle.fil_frame.proofs.TableLemmas.{is_table_6, is_table_7, zero_byte, one_byte, zero_bytes-first}
+use Rattle.fil_frame.proofs.TableLemmas.{table_entry-zeros}
 
 -- the number of bytes, the lowest first
 abbrev pub low_first : List ℕ → ℕ

@@ -1,5 +1,7 @@
 -- A walk along a list of inode pages, one step on.
-use Rattle.std.proofs.Common.{◌≡◌, ℕ, ◌+◌, ◌<◌, Bool, true, List, [], ◌∷◌, ◌++◌, length, set, map, flat_map, Option, Some, None, refl, sym, ◌∙◌, ap, subst, inl, inr, arith, append_assoc, append-nil, add-one, zero-add}
+use Rattle.std.proofs.Common.{◌≡◌, ℕ, ◌+◌, ◌<◌, Bool, true, List, [], ◌∷◌, ◌++◌, length, set, map, flat_map, Option}
+use Rattle.std.proofs.Common.{Some, None, refl, sym, ◌∙◌, ap, subst, inl, inr, arith, append_assoc, append-nil, add-one}
+use Rattle.std.proofs.Common.{zero-add}
 use Rattle.std.proofs.lemmas.List.FromFn.{map-range_with_len_more}
 use Rattle.std.proofs.lemmas.Bool.{cases_lt}
 use Rattle.page_source.specs.declared.rule.Fault.{Fault}
@@ -17,7 +19,8 @@ use Rattle.std.proofs.lemmas.List.{map-append}
 use Rattle.std.proofs.lemmas.Simd.{map-map}
 use Rattle.std.proofs.lemmas.List.Concat.{flat_map-append}
 use Rattle.page_source.specs.Pages.{page_of}
-use Rattle.inode_segments.specs.Inodes.{step_address, stepped_pages, page_node, inode_byte, used_places, places_on, used_on, inodes_on, inode_of}
+use Rattle.inode_segments.specs.Inodes.{step_address, stepped_pages, page_node, inode_byte, used_places, places_on}
+use Rattle.inode_segments.specs.Inodes.{used_on, inodes_on, inode_of}
 use Rattle.inode_segments.specs.InodeChecks.{EndsAt, EndsAfter, StepAt, StepChecks, InodeListChecks}
 use Rattle.inode_segments.specs.Walk.{IsAt, Held, Grew}
 use Rattle.inode_segments.specs.Kept.{InodesView}

@@ -1,5 +1,7 @@
 -- Both lists of inode pages, by the walk along each.
-use Rattle.std.proofs.Common.{◌≡◌, ℕ, ◌<◌, Bool, true, false, List, [], ◌++◌, length, get_or, map, flat_map, replicate, Contains, Option, Some, None, IfSome, Result, Ok, Err, OnOk, sym, ◌∙◌, ap, subst, inl, inr, arith}
+use Rattle.std.proofs.Common.{◌≡◌, ℕ, ◌<◌, Bool, true, false, List, [], ◌++◌, length, get_or, map, flat_map, replicate}
+use Rattle.std.proofs.Common.{Contains, Option, Some, None, IfSome, Result, Ok, Err, OnOk, sym, ◌∙◌, ap, subst, inl}
+use Rattle.std.proofs.Common.{inr, arith}
 use Rattle.std.proofs.lemmas.Bool.{cases_lt, false≢true}
 use Rattle.std.proofs.lemmas.List.{map-append, get_or-replicate, get_or_past, length-replicate}
 use Rattle.std.proofs.lemmas.List.Concat.{flat_map-append}
@@ -12,7 +14,8 @@ use Rattle.page_source.proofs.Members.{contains_none}
 use Rattle.space_header.specs.declared.address.Base.{Base}
 use Rattle.space_header.specs.declared.header.SpaceHeader.{SpaceHeader}
 use Rattle.space_header.specs.Header.{head_of, size_of}
-use Rattle.inode_segments.specs.Inodes.{list_pages, full_pages, free_pages, inode_pages, inodes_on, inode_of, segments, inodes_of}
+use Rattle.inode_segments.specs.Inodes.{list_pages, full_pages, free_pages, inode_pages, inodes_on, inode_of, segments}
+use Rattle.inode_segments.specs.Inodes.{inodes_of}
 use Rattle.inode_segments.specs.InodeChecks.{InodeListChecks, InodeListsChecks, SegmentChecks, AllInodeChecks}
 use Rattle.inode_segments.specs.Kept.{InodesView, AreKept, none_kept}
 use Rattle.inode_segments.specs.Walk.{DescribesFile, Grew}

@@ -1,5 +1,6 @@
 -- The checks of the segments find nothing exactly where their inodes are sound.
-use Rattle.std.proofs.Common.{◌≡◌, ℕ, zero, suc, ◌<◌, List, [], ◌∷◌, length, get_or, take, map, All, None, refl, sym, ◌∙◌, ap, subst, arith, get_or-take}
+use Rattle.std.proofs.Common.{◌≡◌, ℕ, zero, suc, ◌<◌, List, [], ◌∷◌, length, get_or, take, map, All, None, refl, sym}
+use Rattle.std.proofs.Common.{◌∙◌, ap, subst, arith, get_or-take}
 use lib.ListN.{get_or-map}
 use Rattle.std.proofs.lemmas.List.{length-map, length-take-le}
 use Rattle.page_source.specs.Lists.{AreDistinct}

@@ -1,5 +1,7 @@
 -- The segments that are kept, one after another.
-use Rattle.std.proofs.Common.{◌≡◌, ℕ, ◌+◌, ◌<◌, ◌↔◌, ◌||◌, ◌==◌, Bool, true, false, not, eq-eqb, List, [], ◌∷◌, ◌++◌, length, get_or, map, take, Some, None, Contains, slice_get, unwrap_or, refl, sym, ◌∙◌, ap, subst, inl, inr, arith}
+use Rattle.std.proofs.Common.{◌≡◌, ℕ, ◌+◌, ◌<◌, ◌↔◌, ◌||◌, ◌==◌, Bool, true, false, not, eq-eqb, List, [], ◌∷◌, ◌++◌}
+use Rattle.std.proofs.Common.{length, get_or, map, take, Some, None, Contains, slice_get, unwrap_or, refl, sym, ◌∙◌, ap}
+use Rattle.std.proofs.Common.{subst, inl, inr, arith}
 use lib.ListN.{get_or-map}
 use Rattle.std.proofs.lemmas.Bool.{cases_lt, or_cases, false≢true}
 use Rattle.std.proofs.lemmas.Bool.Decides.{eqb_tells}

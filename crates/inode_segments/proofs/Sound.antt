@@ -1,14 +1,17 @@
 -- The checks of the inode lists find nothing exactly where these are sound.
-use Rattle.std.proofs.Common.{◌≡◌, ℕ, ◌<◌, ◌≤◌, Bool, true, false, List, [], ◌++◌, length, get_or, All, Contains, None, refl, sym, ◌∙◌, subst, ⊎_elim, arith}
+use Rattle.std.proofs.Common.{◌≡◌, ℕ, ◌<◌, ◌≤◌, Bool, true, false, List, [], ◌++◌, length, get_or, All, Contains, None}
+use Rattle.std.proofs.Common.{refl, sym, ◌∙◌, subst, ⊎_elim, arith}
 use Rattle.std.proofs.lemmas.List.Elements.{Contains-append_cases, Contains-append_left, Contains-get_or}
 use Rattle.page_source.specs.Pages.{page_of}
 use Rattle.space_header.specs.declared.address.Base.{Base}
 use Rattle.space_header.specs.Header.{IsNull, head_of, size_of}
 use Rattle.space_header.specs.Linked.{Linked}
 use Rattle.inode_segments.specs.Inodes.{step_address, stepped_pages, page_node, page_address, used_places, full_pages}
-use Rattle.inode_segments.specs.InodeChecks.{step_before, IsAddress, IsFilled, IsInodePage, InodeListChecks, InodeListsChecks, AllInodeChecks, AreInodes}
+use Rattle.inode_segments.specs.InodeChecks.{step_before, IsAddress, IsFilled, IsInodePage, InodeListChecks}
+use Rattle.inode_segments.specs.InodeChecks.{InodeListsChecks, AllInodeChecks, AreInodes}
 use Rattle.inode_segments.proofs.Ids.{magic_sound, ids_sound, distinct_sound, segment_checks}
-use Rattle.inode_segments.proofs.Steps.{Step, step_holds, step_checks, stepped_at, stepped_length, linked_by_steps, by_list}
+use Rattle.inode_segments.proofs.Steps.{Step, step_holds, step_checks, stepped_at, stepped_length, linked_by_steps}
+use Rattle.inode_segments.proofs.Steps.{by_list}
 
 -- a list whose checks hold
 pub record ListHolds (file : List ℕ) (is_fragment : ℕ → Bool) (full : Bool) (earlier : List ℕ)

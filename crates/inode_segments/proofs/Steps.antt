@@ -1,5 +1,6 @@
 -- The steps along a list of inode pages, and the list that they link.
-use Rattle.std.proofs.Common.{◌≡◌, ℕ, zero, suc, ◌+◌, ◌<◌, ◌≤◌, Bool, List, ◌++◌, length, get_or, map, Option, Some, None, refl, sym, ◌∙◌, ap, subst, inl, inr, arith}
+use Rattle.std.proofs.Common.{◌≡◌, ℕ, zero, suc, ◌+◌, ◌<◌, ◌≤◌, Bool, List, ◌++◌, length, get_or, map, Option, Some}
+use Rattle.std.proofs.Common.{None, refl, sym, ◌∙◌, ap, subst, inl, inr, arith}
 use Rattle.std.specs.List.{range_with_len}
 use Rattle.std.proofs.lemmas.Bool.{cases_lt}
 use Rattle.std.proofs.lemmas.List.FromFn.{length-map-range_with_len, get_or-map-range_with_len}
@@ -12,7 +13,8 @@ use Rattle.space_header.specs.declared.address.Base.{Base}
 use Rattle.space_header.specs.Header.{IsNull}
 use Rattle.space_header.specs.Linked.{PointsTo, Leads, Linked}
 use Rattle.inode_segments.specs.Inodes.{step_address, stepped_pages, page_node, page_address, used_places}
-use Rattle.inode_segments.specs.InodeChecks.{step_before, IsAddress, IsStep, IsFilled, IsInodePage, InodePageChecks, StepAt, StepChecks}
+use Rattle.inode_segments.specs.InodeChecks.{step_before, IsAddress, IsStep, IsFilled, IsInodePage, InodePageChecks}
+use Rattle.inode_segments.specs.InodeChecks.{StepAt, StepChecks}
 
 pub stepped_length : (file : List ℕ) (base : Base) (k : ℕ) → length (stepped_pages file base k) ≡ k
 unfolding stepped_pages

@@ -1,7 +1,9 @@
 -- The checks of the inode lists and of the inodes. `is_fragment` says of a page that it is a used page
 -- of a fragment extent and no system page.
-use Rattle.std.specs.Prelude.{◌≡◌, ℕ, zero, suc, ◌<◌, Bool, true, false, List, [], ◌++◌, length, map, All, Contains, Option, Some, None}
-use Rattle.page_source.specs.declared.rule.Rule.TheVariants.{InodeList, InodeFrame, InodeType, InodeFill, SegmentMagic, SegmentId}
+use Rattle.std.specs.Prelude.{◌≡◌, ℕ, zero, suc, ◌<◌, Bool, true, false, List, [], ◌++◌, length, map, All, Contains}
+use Rattle.std.specs.Prelude.{Option, Some, None}
+use Rattle.page_source.specs.declared.rule.Rule.TheVariants.{InodeList, InodeFrame, InodeType, InodeFill, SegmentMagic}
+use Rattle.page_source.specs.declared.rule.Rule.TheVariants.{SegmentId}
 use Rattle.page_source.specs.declared.rule.Fault.{Fault}
 use Rattle.page_source.specs.Pages.{page_of}
 use Rattle.page_source.specs.Verdict.{Then, EachOf, Along}
@@ -14,7 +16,8 @@ use Rattle.space_header.specs.declared.header.SpaceHeader.{SpaceHeader}
 use Rattle.space_header.specs.Header.{node_at, head_of, size_of, IsNull}
 use Rattle.page_source.specs.Lists.{AreDistinct}
 use Rattle.space_header.specs.Linked.{Linked}
-use Rattle.inode_segments.specs.Inodes.{step_address, stepped_pages, page_node, page_address, used_places, full_pages, free_pages, segments, inode_of, segment_id}
+use Rattle.inode_segments.specs.Inodes.{step_address, stepped_pages, page_node, page_address, used_places, full_pages}
+use Rattle.inode_segments.specs.Inodes.{free_pages, segments, inode_of, segment_id}
 
 -- the address of the step before, and the page that holds the address of a step
 abbrev pub step_before : List ℕ → Base → ℕ → Option Address

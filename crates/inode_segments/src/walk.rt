@@ -7,7 +7,8 @@ ghost use Rattle.page_source.specs.Checks.{Answers, Finds};
 ghost use Rattle.page_source.specs.Calls.{OfFile, StopsOver};
 ghost use Rattle.space_header.specs.Header.{node_at, size_of};
 ghost use Rattle.inode_segments.specs.Inodes.{page_node, list_pages};
-ghost use Rattle.inode_segments.specs.InodeChecks.{IsAddress, IsFilled, IsStep, InodePageChecks, StepAt, InodeListChecks, InodeListsChecks, inode_list};
+ghost use Rattle.inode_segments.specs.InodeChecks.{IsAddress, IsFilled, IsStep, InodePageChecks, StepAt};
+ghost use Rattle.inode_segments.specs.InodeChecks.{InodeListChecks, InodeListsChecks, inode_list};
 ghost use Rattle.inode_segments.specs.Kept.{AreKept, none_kept};
 ghost use Rattle.inode_segments.specs.Walk.{DescribesFile, Grew};
 

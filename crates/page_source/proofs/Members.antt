@@ -1,6 +1,9 @@
 -- Members of lists by recursion, lists without repeat, and how many members they can have.
-use Rattle.std.proofs.Common.{◌≡◌, ◌≢◌, ◌⊎◌, ℕ, zero, suc, ◌+◌, ◌<◌, ◌≤◌, Bool, true, false, cond, not, eqb, List, [], ◌∷◌, ◌++◌, length, get_or, All, Contains, filter, flat_map, refl, sym, ◌∙◌, ap, subst, inl, inr, arith, add-one, add-zero, zero-add, length-append, append-nil}
-use Rattle.std.proofs.lemmas.List.Elements.{All-contains, filter-append, Contains-append_cases, Contains-append_left, Contains-append_right, Contains-get_or}
+use Rattle.std.proofs.Common.{◌≡◌, ◌≢◌, ◌⊎◌, ℕ, zero, suc, ◌+◌, ◌<◌, ◌≤◌, Bool, true, false, cond, not, eqb, List, []}
+use Rattle.std.proofs.Common.{◌∷◌, ◌++◌, length, get_or, All, Contains, filter, flat_map, refl, sym, ◌∙◌, ap, subst}
+use Rattle.std.proofs.Common.{inl, inr, arith, add-one, add-zero, zero-add, length-append, append-nil}
+use Rattle.std.proofs.lemmas.List.Elements.{All-contains, filter-append, Contains-append_cases, Contains-append_left}
+use Rattle.std.proofs.lemmas.List.Elements.{Contains-append_right, Contains-get_or}
 use Rattle.std.specs.List.{range_with_len}
 use Rattle.std.proofs.lemmas.List.FromFn.{length-range_with_len}
 use Rattle.std.proofs.lemmas.Bool.Decides.{Decides-eqb, eqb_tells}
@@ -15,7 +18,8 @@ contains_here x xs = (0, omega arith, refl)
 pub contains_there : {X : Type 0} (x : X) (xs : List X) (y : X) → Contains xs y → Contains (x ∷ xs) y
 contains_there x xs y h = (suc h.0, omega (arith, h.1), h.2)
 
-place_cases : {X : Type 0} (x : X) (xs : List X) (y : X) (k : ℕ) → k < length (x ∷ xs) → get_or (x ∷ xs) k y ≡ y → (x ≡ y) ⊎ Contains xs y
+place_cases : {X : Type 0} (x : X) (xs : List X) (y : X) (k : ℕ) → k < length (x ∷ xs) → get_or (x ∷ xs) k y ≡ y
+    → (x ≡ y) ⊎ Contains xs y
 place_cases x xs y zero h e = inl e
 place_cases x xs y (suc k) h e = inr (k, omega arith, e)
 
@@ -37,7 +41,8 @@ get_same [] k d e h = absurd (omega arith)
 get_same (x ∷ xs) zero d e h = refl
 get_same (x ∷ xs) (suc k) d e h = get_same xs k d e (omega arith)
 
-distinct_at : (x : ℕ) (xs : List ℕ) → ¬ (Contains xs x) → AreDistinct xs → (i j d : ℕ) → i < j → j < length (x ∷ xs) → get_or (x ∷ xs) i d ≢ get_or (x ∷ xs) j d
+distinct_at : (x : ℕ) (xs : List ℕ) → ¬ (Contains xs x) → AreDistinct xs → (i j d : ℕ) → i < j → j < length (x ∷ xs)
+    → get_or (x ∷ xs) i d ≢ get_or (x ∷ xs) j d
 distinct_at x xs n h i zero d l m e = absurd (omega arith)
 distinct_at x xs n h zero (suc j) d l m e = n (j, omega arith, get_same xs j x d (omega arith) ∙ sym e)
 distinct_at x xs n h (suc i) (suc j) d l m e = h i j d (omega arith) (omega arith) e
@@ -51,46 +56,65 @@ without x xs = filter (λ y. not (eqb y x)) xs
 
 without_length : (x : ℕ) (ys : List ℕ) → length (without x ys) ≤ length ys
 without_length x [] = omega arith
-without_length x (y ∷ ys) = elim (eqb y x) as (λ b. length (cond (not b) (y ∷ without x ys) (without x ys)) ≤ length (y ∷ ys)) [ true ↦ omega (arith, without_length x ys) | false ↦ omega (arith, without_length x ys) ]
+without_length x (y ∷ ys) = elim (eqb y x) as (λ b. length (cond (not b) (y ∷ without x ys) (without x ys)) ≤ length
+    (y ∷ ys)) [ true ↦ omega (arith, without_length x ys) | false ↦ omega (arith, without_length x ys) ]
 
 without_less : (x : ℕ) (ys : List ℕ) → Contains ys x → suc (length (without x ys)) ≤ length ys
 without_less x [] h = absurd (contains_none x h)
 without_less x (y ∷ ys) h = elim (contains_cases y ys x h) [
   | inl e ↦ let t : eqb y x ≡ true = (Decides-eqb y x).1 e in rw t (omega (arith, without_length x ys))
-  | inr k ↦ elim (eqb y x) as (λ b. suc (length (cond (not b) (y ∷ without x ys) (without x ys))) ≤ length (y ∷ ys)) [ true ↦ omega (arith, without_less x ys k) | false ↦ omega (arith, without_less x ys k) ]
+  | inr k ↦ elim (eqb y x) as (λ b. suc (length (cond (not b) (y ∷ without x ys) (without x ys))) ≤ length
+      (y ∷ ys)) [ true ↦ omega (arith, without_less x ys k) | false ↦ omega (arith, without_less x ys k) ]
 ]
 
 -- what passes a test stands in the filtered list, and only that
-pub contains_filter : {X : Type 0} (p : X → Bool) (ys : List X) (z : X) → Contains ys z → p z ≡ true → Contains (filter p ys) z
+pub contains_filter : {X : Type 0} (p : X → Bool) (ys : List X) (z : X) → Contains ys z → p z ≡ true
+    → Contains (filter p ys) z
 contains_filter p [] z h e = absurd (contains_none z h)
 contains_filter {X = X} p (y ∷ ys) z h e = elim (contains_cases y ys z h) [
-  | inl q ↦ let t : p y ≡ true = ap p q ∙ e in rw t (subst (λ w. Contains (y ∷ filter p ys) w) q (contains_here y (filter p ys)))
-  | inr k ↦ elim (p y) as (λ b. Contains (cond b (y ∷ filter p ys) (filter p ys)) z) [ true ↦ contains_there y (filter p ys) z (contains_filter p ys z k e) | false ↦ contains_filter p ys z k e ]
+  | inl q ↦ let t : p y ≡ true = ap p q ∙ e in
+      rw t (subst (λ w. Contains (y ∷ filter p ys) w) q (contains_here y (filter p ys)))
+  | inr k ↦ elim (p y) as (λ b. Contains (cond b (y ∷ filter p ys) (filter p ys)) z) [
+    | true ↦
+        contains_there y (filter p ys) z (contains_filter p ys z k e)
+    | false ↦ contains_filter p ys z k e
+  ]
 ]
 
 -- a list without repeat in another one isn't the longer one
-pub distinct_fits : (xs ys : List ℕ) → AreDistinct xs → ((n : ℕ) → Contains xs n → Contains ys n) → length xs ≤ length ys
+pub distinct_fits : (xs ys : List ℕ) → AreDistinct xs → ((n : ℕ) → Contains xs n → Contains ys n)
+    → length xs ≤ length ys
 distinct_fits [] ys d h = omega arith
 distinct_fits (x ∷ xs) ys d h =
     let less : suc (length (without x ys)) ≤ length ys = without_less x ys (h x (contains_here x xs)) in
     let rest : length xs ≤ length (without x ys) =
     distinct_fits xs (without x ys) (distinct_tail x xs d) (λ n c.
     contains_filter (λ y. not (eqb y x)) ys n (h n (contains_there x xs n c))
-    (elim (eqb_tells n x) [ inl q ↦ absurd (distinct_head x xs d (subst (λ m. Contains xs m) q.1 c)) | inr q ↦ ap not q.0 ])) in
+    (elim (eqb_tells n x) [
+      | inl q ↦ absurd (distinct_head x xs d (subst (λ m. Contains xs m) q.1 c))
+      | inr q ↦
+          ap not q.0
+    ])) in
     omega arith
 
 is_member : (xs : List ℕ) (n : ℕ) → Contains xs n ⊎ (¬ (Contains xs n))
 is_member [] n = inr (contains_none n)
 is_member (x ∷ xs) n = elim (eqb_tells x n) [
   | inl q ↦ inl (rw q.1 (contains_here n xs))
-  | inr q ↦ elim (is_member xs n) [ inl c ↦ inl (contains_there x xs n c) | inr m ↦ inr (λ c. elim (contains_cases x xs n c) [ inl e ↦ q.1 e | inr k ↦ m k ]) ]
+  | inr q ↦ elim (is_member xs n) [
+    | inl c ↦ inl (contains_there x xs n c)
+    | inr m ↦
+        inr (λ c. elim (contains_cases x xs n c) [ inl e ↦ q.1 e | inr k ↦ m k ])
+  ]
 ]
 
 -- a list without repeat in another one that is no longer has all of its members
-pub distinct_fills : (xs ys : List ℕ) → AreDistinct xs → ((n : ℕ) → Contains xs n → Contains ys n) → length ys ≤ length xs → (n : ℕ) → Contains ys n → Contains xs n
+pub distinct_fills : (xs ys : List ℕ) → AreDistinct xs → ((n : ℕ) → Contains xs n → Contains ys n)
+    → length ys ≤ length xs → (n : ℕ) → Contains ys n → Contains xs n
 distinct_fills xs ys d h l n c = elim (is_member xs n) [
   | inl m ↦ m
-  | inr m ↦ absurd (let more : suc (length xs) ≤ length ys = distinct_fits (n ∷ xs) ys (distinct_cons n xs m d) (λ z k. elim (contains_cases n xs z k) [ inl e ↦ subst (λ w. Contains ys w) e c | inr q ↦ h z q ]) in omega arith)
+  | inr m ↦ absurd (let more : suc (length xs) ≤ length ys = distinct_fits (n ∷ xs) ys (distinct_cons n xs m d)
+      (λ z k. elim (contains_cases n xs z k) [ inl e ↦ subst (λ w. Contains ys w) e c | inr q ↦ h z q ]) in omega arith)
 ]
 
 -- the numbers of a range
@@ -117,10 +141,12 @@ range_contains n k h = let r = range_only 0 n k h in omega (arith, r.1)
 -- so many different numbers below a bound are at most the bound
 pub distinct_below : (xs : List ℕ) (n : ℕ) → AreDistinct xs → All (λ x. x < n) xs → length xs ≤ n
 distinct_below xs n d h =
-    subst (λ m. length xs ≤ m) (length-range_with_len 0 n) (distinct_fits xs (range_with_len 0 n) d (λ k c. contains_range n k (All-contains (λ x. x < n) xs k h c)))
+    subst (λ m. length xs ≤ m) (length-range_with_len 0 n)
+    (distinct_fits xs (range_with_len 0 n) d (λ k c. contains_range n k (All-contains (λ x. x < n) xs k h c)))
 
 -- and nothing else does
-filter_step : {X : Type 0} (p : X → Bool) (b : Bool) (y : X) (ys : List X) (z : X) → p y ≡ b → Contains (cond b (y ∷ filter p ys) (filter p ys)) z
+filter_step : {X : Type 0} (p : X → Bool) (b : Bool) (y : X) (ys : List X) (z : X) → p y ≡ b
+    → Contains (cond b (y ∷ filter p ys) (filter p ys)) z
     → (Contains (filter p ys) z → Contains ys z × (p z ≡ true)) → Contains (y ∷ ys) z × (p z ≡ true)
 filter_step p true y ys z e h rest = elim (contains_cases y (filter p ys) z h) [
   | inl q ↦ (subst (λ w. Contains (y ∷ ys) w) q (contains_here y ys), ap p (sym q) ∙ e)
@@ -128,7 +154,8 @@ filter_step p true y ys z e h rest = elim (contains_cases y (filter p ys) z h) [
 ]
 filter_step p false y ys z e h rest = let r = rest h in (contains_there y ys z r.0, r.1)
 
-pub filter_contains : {X : Type 0} (p : X → Bool) (ys : List X) (z : X) → Contains (filter p ys) z → Contains ys z × (p z ≡ true)
+pub filter_contains : {X : Type 0} (p : X → Bool) (ys : List X) (z : X) → Contains (filter p ys) z
+    → Contains ys z × (p z ≡ true)
 filter_contains p [] z h = absurd (contains_none z h)
 filter_contains p (y ∷ ys) z h = filter_step p (p y) y ys z refl h (filter_contains p ys z)
 
@@ -143,7 +170,8 @@ distinct_filter p (y ∷ ys) d =
 
 pub range_distinct : (a n : ℕ) → AreDistinct (range_with_len a n)
 range_distinct a zero = distinct_none
-range_distinct a (suc n) = distinct_cons a (range_with_len (a + 1) n) (λ c. let r = range_only (a + 1) n a c in absurd (omega (arith, r.0))) (range_distinct (a + 1) n)
+range_distinct a (suc n) = distinct_cons a (range_with_len (a + 1) n) (λ c. let r = range_only (a + 1) n a c in
+    absurd (omega (arith, r.0))) (range_distinct (a + 1) n)
 
 pub distinct_range : (n : ℕ) → AreDistinct (range_with_len 0 n)
 distinct_range n = range_distinct 0 n
@@ -156,21 +184,26 @@ same_length xs ys d e h =
     omega arith
 
 -- a list without repeat in another has the same members where it has the same length
-pub same_members : (xs ys : List ℕ) → AreDistinct xs → ((n : ℕ) → Contains xs n → Contains ys n) → length xs ≡ length ys → HaveSameMembers xs ys
+pub same_members : (xs ys : List ℕ) → AreDistinct xs → ((n : ℕ) → Contains xs n → Contains ys n) → length xs ≡ length ys
+    → HaveSameMembers xs ys
 same_members xs ys d h e = λ n. (h n, λ c. distinct_fills xs ys d h (omega arith) n c)
 
 range_push : (a n : ℕ) → range_with_len a (suc n) ≡ range_with_len a n ++ (a + n) ∷ []
 range_push a zero = rw add-zero refl
-range_push a (suc n) = ap (λ xs. a ∷ xs) (range_push (a + 1) n ∙ ap (λ k. range_with_len (a + 1) n ++ k ∷ []) (omega arith))
+range_push a (suc n) = ap (λ xs. a ∷ xs) (range_push (a + 1) n
+    ∙ ap (λ k. range_with_len (a + 1) n ++ k ∷ []) (omega arith))
 
 pub range_more : (n : ℕ) → range_with_len 0 (n + 1) ≡ range_with_len 0 n ++ n ∷ []
-range_more n = ap (λ k. range_with_len 0 k) (add-one n) ∙ (range_push 0 n ∙ ap (λ k. range_with_len 0 n ++ k ∷ []) (zero-add n))
+range_more n = ap (λ k. range_with_len 0 k) (add-one n)
+    ∙ (range_push 0 n ∙ ap (λ k. range_with_len 0 n ++ k ∷ []) (zero-add n))
 
 -- one more number of a range that passes a test, or doesn't
-pub count_more_yes : (p : ℕ → Bool) (n : ℕ) → p n ≡ true → length (filter p (range_with_len 0 (n + 1))) ≡ length (filter p (range_with_len 0 n)) + 1
+pub count_more_yes : (p : ℕ → Bool) (n : ℕ) → p n ≡ true
+    → length (filter p (range_with_len 0 (n + 1))) ≡ length (filter p (range_with_len 0 n)) + 1
 count_more_yes p n e = rw (range_more n, filter-append p (range_with_len 0 n) (n ∷ []), e, length-append) refl
 
-pub count_more_no : (p : ℕ → Bool) (n : ℕ) → p n ≡ false → length (filter p (range_with_len 0 (n + 1))) ≡ length (filter p (range_with_len 0 n))
+pub count_more_no : (p : ℕ → Bool) (n : ℕ) → p n ≡ false
+    → length (filter p (range_with_len 0 (n + 1))) ≡ length (filter p (range_with_len 0 n))
 count_more_no p n e = rw (range_more n, filter-append p (range_with_len 0 n) (n ∷ []), e, append-nil) refl
 
 -- a member of a list that is put together of pieces is one of a piece
@@ -183,10 +216,12 @@ pub contains_flat_map : {X : Type 0} (f : X → List ℕ) (xs : List X) (n : ℕ
 contains_flat_map f [] n h = absurd (contains_none n h)
 contains_flat_map f (x ∷ xs) n h = elim (Contains-append_cases (f x) (flat_map f xs) n h) [
   | inl here ↦ record { piece = x; among = contains_here x xs; member = here }
-  | inr there ↦ let r = contains_flat_map f xs n there in record { piece = r.piece; among = contains_there x xs r.piece r.among; member = r.member }
+  | inr there ↦ let r = contains_flat_map f xs n there in
+      record { piece = r.piece; among = contains_there x xs r.piece r.among; member = r.member }
 ]
 
-pub flat_map_contains : {X : Type 0} (f : X → List ℕ) (xs : List X) (x : X) (n : ℕ) → Contains xs x → Contains (f x) n → Contains (flat_map f xs) n
+pub flat_map_contains : {X : Type 0} (f : X → List ℕ) (xs : List X) (x : X) (n : ℕ) → Contains xs x → Contains (f x) n
+    → Contains (flat_map f xs) n
 flat_map_contains f [] x n c m = absurd (contains_none x c)
 flat_map_contains f (y ∷ ys) x n c m = elim (contains_cases y ys x c) [
   | inl e ↦ Contains-append_left (f y) (flat_map f ys) n (subst (λ z. Contains (f z) n) (sym e) m)

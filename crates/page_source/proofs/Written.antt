@@ -1,5 +1,7 @@
 -- What is read of a page after bytes were written on it: what was written, and elsewhere what stood there.
-use Rattle.std.proofs.Common.{◌≡◌, ℕ, zero, suc, ◌+◌, ◌-◌, ◌<◌, ◌≤◌, Bool, true, ◌&&◌, ◌||◌, nat_le, IsTrue, inl, inr, List, [], ◌∷◌, ◌++◌, length, get_or, take, drop, slice_range, length-append, append_assoc, refl, sym, ap, ◌∙◌, arith}
+use Rattle.std.proofs.Common.{◌≡◌, ℕ, zero, suc, ◌+◌, ◌-◌, ◌<◌, ◌≤◌, Bool, true, ◌&&◌, ◌||◌, nat_le, IsTrue, inl, inr}
+use Rattle.std.proofs.Common.{List, [], ◌∷◌, ◌++◌, length, get_or, take, drop, slice_range, length-append, append_assoc}
+use Rattle.std.proofs.Common.{refl, sym, ap, ◌∙◌, arith}
 use Rattle.std.proofs.lemmas.Bool.{and_parts, or_cases, leb-true}
 use Rattle.std.proofs.Math.Seq.{take_at, drop_at}
 use Rattle.std.proofs.lemmas.List.{places, same_lists, drop-drop, length-take-le}
@@ -129,7 +131,8 @@ num_in_written page at bytes i place width there inside written =
     rw there (num-with_bytes_at page at bytes i width inside written)
 
 -- two writes, the second one right behind the first
-pub with_bytes-next : (page : List ℕ) (at next : ℕ) (xs ys : List ℕ) → next ≡ at + length xs → at + length xs ≤ length page
+pub with_bytes-next : (page : List ℕ) (at next : ℕ) (xs ys : List ℕ) → next ≡ at + length xs
+    → at + length xs ≤ length page
     → with_bytes (with_bytes page at xs) next ys ≡ with_bytes page at (xs ++ ys)
 unfolding with_bytes
 with_bytes-next page at next xs ys there inside =

@@ -1,12 +1,15 @@
 -- The date of a day's number, by counting the years and the months that began by then.
-use Rattle.std.proofs.Common.{◌≡◌, ℕ, zero, suc, ◌+◌, ◌-◌, ◌<◌, ◌≤◌, inl, inr, Bool, true, false, cond, nat_le, refl, sym, ap, ◌∙◌, add-zero, ℤ, pos, negsuc, unsigned_abs, arith}
+use Rattle.std.proofs.Common.{◌≡◌, ℕ, zero, suc, ◌+◌, ◌-◌, ◌<◌, ◌≤◌, inl, inr, Bool, true, false, cond, nat_le, refl}
+use Rattle.std.proofs.Common.{sym, ap, ◌∙◌, add-zero, ℤ, pos, negsuc, unsigned_abs, arith}
 use Rattle.std.specs.List.{range_with_len, count_by}
 use Rattle.std.proofs.lemmas.List.Sums.{sum_by-cons}
 use Rattle.std.proofs.lemmas.Bool.{cases_lt, le-leb, lt-leb}
 use Rattle.jiff_core.specs.Calendar.{days_in_year, days_of_months, day_count, days_from_civil, IsCivilDate}
 use Rattle.jiff_core.proofs.SignedLemmas.{signed_arith}
 use Rattle.jiff_core.proofs.MarchLemmas.{day_count-early}
-use Rattle.jiff_core.proofs.CalendarLemmas.{days_from_civil-day_count, day_count-lt_year, days_of_months-zero, days_of_months_more, days_of_months_mono, day_of_year_bound, day_count-day_of_year, day_count-later_year, day_count-epoch}
+use Rattle.jiff_core.proofs.CalendarLemmas.{days_from_civil-day_count, day_count-lt_year, days_of_months-zero}
+use Rattle.jiff_core.proofs.CalendarLemmas.{days_of_months_more, days_of_months_mono, day_of_year_bound}
+use Rattle.jiff_core.proofs.CalendarLemmas.{day_count-day_of_year, day_count-later_year, day_count-epoch}
 use Rattle.row_text.specs.Calendar.{day_number, year_of_day, month_of_day, day_of_day}
 
 -- a test that the first numbers of a range pass, and no later one

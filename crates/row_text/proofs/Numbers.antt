@@ -1,5 +1,6 @@
 -- Digits from the last one on.
-use Rattle.std.proofs.Common.{◌≡◌, ℕ, zero, suc, ◌+◌, ◌/◌, ◌^◌, ◌<◌, List, [], ◌∷◌, length, drop, slice_set, refl, sym, ap, ◌∙◌, ◌-◌, ◌%◌, arith}
+use Rattle.std.proofs.Common.{◌≡◌, ℕ, zero, suc, ◌+◌, ◌/◌, ◌^◌, ◌<◌, List, [], ◌∷◌, length, drop, slice_set, refl, sym}
+use Rattle.std.proofs.Common.{ap, ◌∙◌, ◌-◌, ◌%◌, arith}
 use Rattle.std.proofs.Math.Nat.{div-div-eq-div-mul, pow-succ', mul_comm}
 use Rattle.row_text.specs.Digits.{last_digits}
 

@@ -1,11 +1,13 @@
 -- A value as it stands in a line.
-use Rattle.std.specs.Prelude.{ℕ, ◌-◌, ◌/◌, ◌%◌, ◌^◌, ◌==◌, if◌then◌else◌, List, [], ◌∷◌, ◌++◌, length, flat_map, codes, decimal, All, ◌≡◌, Bool, not}
+use Rattle.std.specs.Prelude.{ℕ, ◌-◌, ◌/◌, ◌%◌, ◌^◌, ◌==◌, if◌then◌else◌, List, [], ◌∷◌, ◌++◌, length, flat_map, codes}
+use Rattle.std.specs.Prelude.{decimal, All, ◌≡◌, Bool, not}
 use Rattle.std.specs.Fmt.{signed_decimal}
 use Rattle.hex.specs.Hex.{encode_lower}
 use Rattle.column_values.specs.declared.kind.ColumnType.{ColumnType}
 use Rattle.column_values.specs.declared.kind.ColumnType.TheVariants as types
 use Rattle.column_values.specs.declared.value.Value.{Value}
-use Rattle.column_values.specs.declared.value.Value.TheVariants.{Null, Signed, Unsigned, Date, Text, Bytes, DateTime, Timestamp, Year, Decimal}
+use Rattle.column_values.specs.declared.value.Value.TheVariants.{Null, Signed, Unsigned, Date, Text, Bytes, DateTime}
+use Rattle.column_values.specs.declared.value.Value.TheVariants.{Timestamp, Year, Decimal}
 use Rattle.row_text.specs.Digits.{two_digits, four_digits, behind_point, decimal_text}
 use Rattle.row_text.specs.Calendar.{year_of_day, month_of_day, day_of_day}
 

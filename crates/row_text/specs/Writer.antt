@@ -2,7 +2,8 @@
 use Rattle.std.specs.Prelude.{ℕ, suc, Bool, true, false, ◌==◌, if◌then◌else◌, List, [], ◌∷◌, ◌++◌, codes}
 use Rattle.hex.specs.Hex.{encode_lower}
 use Rattle.column_values.specs.declared.kind.ColumnType.{ColumnType}
-use Rattle.column_values.specs.declared.kind.ColumnType.TheVariants.{Varchar, Varbinary, Text, Blob, Utf8Varchar, Utf8Text}
+use Rattle.column_values.specs.declared.kind.ColumnType.TheVariants.{Varchar, Varbinary, Text, Blob, Utf8Varchar}
+use Rattle.column_values.specs.declared.kind.ColumnType.TheVariants.{Utf8Text}
 use Rattle.schema_text.specs.TableDef.{TableDef}
 use Rattle.row_text.specs.Values.{quoted, escaped_text}
 use Rattle.row_text.specs.Line.{comma}

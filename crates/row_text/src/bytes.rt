@@ -3,7 +3,8 @@
 ghost use Rattle.std.specs.Prelude.{◌≡◌, position, IsNone};
 ghost use Rattle.hex.specs.Hex.{encode_lower};
 ghost use Rattle.page_source.specs.Calls.{Puts};
-ghost use Rattle.row_text.specs.Values.{IsPlain, is_escaped, escape_letter, escaped_text, quoted, hex_text, hex_or_empty};
+ghost use Rattle.row_text.specs.Values.{IsPlain, is_escaped, escape_letter, escaped_text, quoted, hex_text};
+ghost use Rattle.row_text.specs.Values.{hex_or_empty};
 
 use page_source::{ByteSink, Failed, put_pieces};
 

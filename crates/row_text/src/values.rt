@@ -6,7 +6,8 @@ ghost use Rattle.column_values.specs.Types.{IsColumnType, HoldsText};
 ghost use Rattle.column_values.specs.Spell.{IsSpelling, IsValueOf, Spell};
 ghost use Rattle.page_source.specs.Calls.{Puts};
 ghost use Rattle.row_text.specs.Digits.{behind_point, decimal_text, sign_text};
-ghost use Rattle.row_text.specs.Values.{fraction_digits, scale_of, quoted, date_text, day_text, moment_text, timestamp_text, value_text};
+ghost use Rattle.row_text.specs.Values.{fraction_digits, scale_of, quoted, date_text, day_text, moment_text};
+ghost use Rattle.row_text.specs.Values.{timestamp_text, value_text};
 
 use crate::bytes::{put_bytes, put_hex_number, put_quoted};
 use crate::calendar::date_of_day;

@@ -6,7 +6,8 @@ ghost use Rattle.column_values.specs.declared.value.Value.{Value};
 ghost use Rattle.column_values.specs.Types.{IsColumnType};
 ghost use Rattle.column_values.specs.Spell.{IsSpelling, Spell};
 ghost use Rattle.row_text.specs.Values.{value_text};
-ghost use Rattle.row_text.specs.Writer.{Writer, line_open, line_close, before_value, with_value, is_long, is_text, long_open, long_part, long_close};
+ghost use Rattle.row_text.specs.Writer.{Writer, line_open, line_close, before_value, with_value, is_long, is_text};
+ghost use Rattle.row_text.specs.Writer.{long_open, long_part, long_close};
 
 use crate::bytes::{put_escaped, put_hex};
 use crate::values::put_spelled;

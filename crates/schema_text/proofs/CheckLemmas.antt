@@ -1,9 +1,12 @@
 -- The first check that fails, and all that hold.
 use Rattle.std.proofs.Common.{◌≡◌, ◌<◌, ◌≤◌, length, All, Some, None, inl, inr, refl, arith}
-use Rattle.schema_text.specs.declared.errors.SchemaWhy.TheVariants.{Form, Name, Number, Count, Twice, Unknown, Key, Root}
+use Rattle.schema_text.specs.declared.errors.SchemaWhy.TheVariants.{Form, Name, Number, Count, Twice, Unknown, Key}
+use Rattle.schema_text.specs.declared.errors.SchemaWhy.TheVariants.{Root}
 use Rattle.schema_text.specs.TableDef.{TableDef}
 use Rattle.schema_text.specs.Grammar.{IsName}
-use Rattle.schema_text.specs.Refusals.{Line, word, type_part, IsColumnForm, IsTypePart, IsNewColumn, ColumnChecks, IndexLine, IsRootWord, HasCounts, HasNewNames, IsDeclared, HasKey, IsNewRoot, KeyChecks}
+use Rattle.schema_text.specs.Refusals.{Line, word, type_part, IsColumnForm, IsTypePart, IsNewColumn, ColumnChecks}
+use Rattle.schema_text.specs.Refusals.{IndexLine, IsRootWord, HasCounts, HasNewNames, IsDeclared, HasKey, IsNewRoot}
+use Rattle.schema_text.specs.Refusals.{KeyChecks}
 
 pub column_form : (t : TableDef) (line : Line) → ((length t.indexes ≡ 0) × IsColumnForm line → ⊥)
     → ColumnChecks t line (Some Form)

@@ -1,5 +1,6 @@
 -- What is read of a column line.
-use Rattle.std.proofs.Common.{◌≡◌, ◌≢◌, ℕ, ◌-◌, ◌<◌, ◌≤◌, Bool, true, false, List, [], ◌∷◌, ◌++◌, length, get_or, All, Option, Some, None, inl, inr, sym, ap, ◌∙◌, subst}
+use Rattle.std.proofs.Common.{◌≡◌, ◌≢◌, ℕ, ◌-◌, ◌<◌, ◌≤◌, Bool, true, false, List, [], ◌∷◌, ◌++◌, length, get_or, All}
+use Rattle.std.proofs.Common.{Option, Some, None, inl, inr, sym, ap, ◌∙◌, subst}
 use Rattle.std.specs.Prelude.{Any, codes}
 use Rattle.std.proofs.lemmas.Slice.Eq.{bytes_eq-Decides}
 use Rattle.column_values.specs.declared.kind.ColumnType.{ColumnType}
@@ -8,7 +9,8 @@ use Rattle.schema_text.specs.declared.table.Format.TheVariants.{Compact, Dynamic
 use Rattle.schema_text.specs.declared.table.Column.{Column}
 use Rattle.schema_text.specs.TableDef.{TableDef}
 use Rattle.schema_text.specs.Grammar.{IsName, type_words, nullity_word, format_word}
-use Rattle.schema_text.specs.Refusals.{Line, word, type_part, last_word, is_column_line, IsTypeForm, IsTypePart, IsNullityWord, IsFormatWord, IsColumnForm, IsNewColumn}
+use Rattle.schema_text.specs.Refusals.{Line, word, type_part, last_word, is_column_line, IsTypeForm, IsTypePart}
+use Rattle.schema_text.specs.Refusals.{IsNullityWord, IsFormatWord, IsColumnForm, IsNewColumn}
 use Rattle.schema_text.specs.Parts.{IsPart}
 use Rattle.schema_text.specs.Cuts.{IsTypeRead, IsColumnRead}
 use Rattle.schema_text.proofs.TypeLemmas.{column_line_is}

@@ -1,19 +1,28 @@
 -- The fields of an index, one after the other.
-use Rattle.std.proofs.Common.{◌≡◌, ◌==◌, ℕ, zero, suc, ◌+◌, ◌<◌, ◌≤◌, Bool, true, false, cond, not, List, [], ◌∷◌, ◌++◌, length, map, take, drop, get_or, filter, All, Option, Some, None, inl, inr, refl, sym, ap, ◌∙◌, subst, arith}
+use Rattle.std.proofs.Common.{◌≡◌, ◌==◌, ℕ, zero, suc, ◌+◌, ◌<◌, ◌≤◌, Bool, true, false, cond, not, List, [], ◌∷◌, ◌++◌}
+use Rattle.std.proofs.Common.{length, map, take, drop, get_or, filter, All, Option, Some, None, inl, inr, refl, sym, ap}
+use Rattle.std.proofs.Common.{◌∙◌, subst, arith}
 use Rattle.std.specs.Prelude.{slice_get}
 use Rattle.std.specs.List.{list_any, cons_option, range_with_len}
-use Rattle.std.proofs.lemmas.List.{append_assoc, append-nil, map-append, take_more, length-append, length-take-le, get_or_default, get_or_append_left, get_or_past, take-append-drop, take_at}
+use Rattle.std.proofs.lemmas.List.{append_assoc, append-nil, map-append, take_more, length-append, length-take-le}
+use Rattle.std.proofs.lemmas.List.{get_or_default, get_or_append_left, get_or_past, take-append-drop, take_at}
 use Rattle.std.proofs.lemmas.Bool.{cases_lt, false≢true}
-use Rattle.std.proofs.lemmas.List.Elements.{All-nil, All-cons, All-head, All-tail, All-map, All-weaker, All-append, filter-append, filter_map-append}
+use Rattle.std.proofs.lemmas.List.Elements.{All-nil, All-cons, All-head, All-tail, All-map, All-weaker, All-append}
+use Rattle.std.proofs.lemmas.List.Elements.{filter-append, filter_map-append}
 use Rattle.std.proofs.lemmas.Option.{slice_get-get_or}
 use Rattle.std.proofs.lemmas.Bool.Decides.{nat_tests}
 use Rattle.column_values.specs.declared.field.Field.{Field}
 use Rattle.column_values.specs.declared.field.FieldType.TheVariants.{Child}
-use Rattle.column_values.specs.Types.{IsColumnType, AreListed, AreFields, CanFollow, IsFieldKind, is_big, nullable_count, child_field}
+use Rattle.column_values.specs.Types.{IsColumnType, AreListed, AreFields, CanFollow, IsFieldKind, is_big}
+use Rattle.column_values.specs.Types.{nullable_count, child_field}
 use Rattle.schema_text.specs.declared.table.Column.{Column}
 use Rattle.schema_text.specs.TableDef.{TableDef, index_at}
 use Rattle.schema_text.specs.Grammar.{IsTable, IsKeyOf}
-use Rattle.schema_text.specs.IndexFields.{kept_field, leaving_field, row_id_field, trx_id_field, roll_pointer_field, columns_at, positions_without, clustered_positions, other_positions, kept_at, kept_fields, leaving_at, row_key, clustered_key, row_reference, clustered_rest, secondary_fields, key_fields, rest_fields, leaf_fields, node_fields}
+use Rattle.schema_text.specs.IndexFields.{kept_field, leaving_field, row_id_field, trx_id_field, roll_pointer_field}
+use Rattle.schema_text.specs.IndexFields.{columns_at, positions_without, clustered_positions, other_positions, kept_at}
+use Rattle.schema_text.specs.IndexFields.{kept_fields, leaving_at, row_key, clustered_key, row_reference}
+use Rattle.schema_text.specs.IndexFields.{clustered_rest, secondary_fields, key_fields, rest_fields, leaf_fields}
+use Rattle.schema_text.specs.IndexFields.{node_fields}
 
 abbrev among : List ℕ → ℕ → Bool
 among others i = list_any (λ j. j == i) others

@@ -1,5 +1,6 @@
 -- A text whose lines are all good, and the table that they spell.
-use Rattle.std.proofs.Common.{◌≡◌, ℕ, zero, suc, ◌+◌, ◌-◌, ◌≤◌, Bool, true, false, List, [], ◌∷◌, ◌++◌, length, map, take, get_or, All, Option, Some, None, inl, inr, refl, sym, ap, ◌∙◌, subst, arith}
+use Rattle.std.proofs.Common.{◌≡◌, ℕ, zero, suc, ◌+◌, ◌-◌, ◌≤◌, Bool, true, false, List, [], ◌∷◌, ◌++◌, length, map}
+use Rattle.std.proofs.Common.{take, get_or, All, Option, Some, None, inl, inr, refl, sym, ap, ◌∙◌, subst, arith}
 use Rattle.std.specs.Prelude.{position, bytes_eq, codes, flat_map, MatchBool}
 use Rattle.std.proofs.Common.{eqb, ◌||◌}
 use Rattle.std.specs.List.{list_any, slice_split, join_with_byte}
@@ -13,13 +14,17 @@ use Rattle.schema_text.specs.declared.table.IndexDef.{IndexDef}
 use Rattle.schema_text.specs.TableDef.{TableDef, with_column, with_index}
 use Rattle.schema_text.specs.Grammar.{line_feed, line_of, IsTextOf, nullity_word, schema_words, schema_text}
 use Rattle.schema_text.specs.Parts.{IsPart}
-use Rattle.schema_text.specs.Refusals.{Line, word, words_of, lines_of, rest_of, FirstChecks, LineChecks, EndsWell, SchemaChecks, last_word, is_column_line, is_clustered_line, is_index_line, IsNullityWord, IndexLine, clustered_line, index_line, KeyChecks, ColumnChecks, ClusteredLineChecks, IndexLineChecks, NextChecks, AreLinesOf}
+use Rattle.schema_text.specs.Refusals.{Line, word, words_of, lines_of, rest_of, FirstChecks, LineChecks, EndsWell}
+use Rattle.schema_text.specs.Refusals.{SchemaChecks, last_word, is_column_line, is_clustered_line, is_index_line}
+use Rattle.schema_text.specs.Refusals.{IsNullityWord, IndexLine, clustered_line, index_line, KeyChecks, ColumnChecks}
+use Rattle.schema_text.specs.Refusals.{ClusteredLineChecks, IndexLineChecks, NextChecks, AreLinesOf}
 use Rattle.schema_text.specs.Cuts.{IsAmong, IsPlaceOf, ArePlacesOf, IsIndexRead}
 use Rattle.schema_text.proofs.PartLemmas.{part_is_table, no_member}
 use Rattle.schema_text.proofs.TextLemmas.{joined_words, some_pieces, not_clustered}
 use Rattle.schema_text.proofs.NameLemmas.{not_missed}
 use Rattle.schema_text.proofs.ColumnCheckLemmas.{column_read}
-use Rattle.schema_text.proofs.IndexLemmas.{next_index, clustered_line_is, index_line_is, column_added, clustered_added, index_added}
+use Rattle.schema_text.proofs.IndexLemmas.{next_index, clustered_line_is, index_line_is, column_added, clustered_added}
+use Rattle.schema_text.proofs.IndexLemmas.{index_added}
 
 -- a table with the line
 abbrev Grown : TableDef → Line → Type 0

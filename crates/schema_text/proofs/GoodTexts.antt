@@ -1,20 +1,26 @@
 -- A schema's text passes its checks, line after line.
-use Rattle.std.proofs.Common.{◌≡◌, ℕ, zero, suc, ◌+◌, ◌-◌, ◌<◌, ◌≤◌, true, false, List, [], ◌∷◌, ◌++◌, length, map, take, drop, get_or, All, Option, None, inl, inr, refl, sym, ap, ◌∙◌, subst, arith}
+use Rattle.std.proofs.Common.{◌≡◌, ℕ, zero, suc, ◌+◌, ◌-◌, ◌<◌, ◌≤◌, true, false, List, [], ◌∷◌, ◌++◌, length, map}
+use Rattle.std.proofs.Common.{take, drop, get_or, All, Option, None, inl, inr, refl, sym, ap, ◌∙◌, subst, arith}
 use Rattle.std.specs.Prelude.{IfSome}
 use Rattle.std.specs.List.{list_any}
 use Rattle.std.proofs.lemmas.Bool.{cases_lt}
-use Rattle.std.proofs.lemmas.List.{append_assoc, get_or_at, get_or_default, get_or_append_left, get_or-drop, get_or-take, length-append, length-drop, length-take-le, take-append-le, take_all, take_at, take_more}
+use Rattle.std.proofs.lemmas.List.{append_assoc, get_or_at, get_or_default, get_or_append_left, get_or-drop}
+use Rattle.std.proofs.lemmas.List.{get_or-take, length-append, length-drop, length-take-le, take-append-le, take_all}
+use Rattle.std.proofs.lemmas.List.{take_at, take_more}
 use Rattle.std.proofs.lemmas.Option.{slice_get-get_or}
 use Rattle.page_source.specs.Verdict.{AllBelow}
 use Rattle.schema_text.specs.declared.table.Column.{Column}
 use Rattle.schema_text.specs.declared.table.IndexDef.{IndexDef}
 use Rattle.schema_text.specs.TableDef.{TableDef, with_column, with_index, index_columns}
-use Rattle.schema_text.specs.Grammar.{table_words, column_words, clustered_words, index_words, schema_words, IsName, IsTable, IsTextOf}
+use Rattle.schema_text.specs.Grammar.{table_words, column_words, clustered_words, index_words, schema_words, IsName}
+use Rattle.schema_text.specs.Grammar.{IsTable, IsTextOf}
 use Rattle.schema_text.specs.Parts.{IsPart, IsNextColumn, IsNextIndex}
-use Rattle.schema_text.specs.Refusals.{Line, lines_of, rest_of, is_clustered_line, FirstChecks, NextChecks, AreLinesOf, LineChecks, SchemaChecks}
+use Rattle.schema_text.specs.Refusals.{Line, lines_of, rest_of, is_clustered_line, FirstChecks, NextChecks, AreLinesOf}
+use Rattle.schema_text.specs.Refusals.{LineChecks, SchemaChecks}
 use Rattle.schema_text.proofs.ColumnCheckLemmas.{is_format}
 use Rattle.schema_text.proofs.NextLines.{column_passes, clustered_passes, index_passes}
-use Rattle.schema_text.proofs.PartLemmas.{part_begun, part_with_column, part_with_index, words_begun, words_with_column, words_with_first, words_with_more, length-schema_words}
+use Rattle.schema_text.proofs.PartLemmas.{part_begun, part_with_column, part_with_index, words_begun, words_with_column}
+use Rattle.schema_text.proofs.PartLemmas.{words_with_first, words_with_more, length-schema_words}
 use Rattle.schema_text.proofs.ReadBack.{no_column}
 use Rattle.schema_text.proofs.ReadLemmas.{first_good}
 use Rattle.schema_text.proofs.ReadingLemmas.{next_good}

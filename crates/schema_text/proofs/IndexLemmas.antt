@@ -1,5 +1,6 @@
 -- The index that a line states, once its checks hold.
-use Rattle.std.proofs.Common.{◌≡◌, ◌≢◌, ℕ, zero, suc, ◌<◌, ◌≤◌, Bool, true, false, List, [], ◌∷◌, ◌++◌, length, map, drop, get_or, All, Option, Some, None, refl, sym, ap, ◌∙◌, subst, arith}
+use Rattle.std.proofs.Common.{◌≡◌, ◌≢◌, ℕ, zero, suc, ◌<◌, ◌≤◌, Bool, true, false, List, [], ◌∷◌, ◌++◌, length, map}
+use Rattle.std.proofs.Common.{drop, get_or, All, Option, Some, None, refl, sym, ap, ◌∙◌, subst, arith}
 use Rattle.std.proofs.Common.{cond, ltb}
 use Rattle.std.proofs.lemmas.List.{get_or_default}
 use Rattle.std.proofs.Common.{◌^◌, IsTrue, not}
@@ -16,9 +17,11 @@ use Rattle.std.proofs.lemmas.Slice.Eq.{bytes_eq-Decides}
 use Rattle.schema_text.specs.declared.table.Column.{Column}
 use Rattle.schema_text.specs.declared.table.IndexDef.{IndexDef}
 use Rattle.schema_text.specs.TableDef.{TableDef, with_column, with_index}
-use Rattle.schema_text.proofs.PartLemmas.{part_with_column, part_with_index, words_with_column, words_with_first, words_with_more}
+use Rattle.schema_text.proofs.PartLemmas.{part_with_column, part_with_index, words_with_column, words_with_first}
+use Rattle.schema_text.proofs.PartLemmas.{words_with_more}
 use Rattle.schema_text.specs.Grammar.{IsName, column_words, clustered_words, index_words, schema_words}
-use Rattle.schema_text.specs.Refusals.{AreLinesOf, Line, word, IndexLine, KeyChecks, IsNewRoot, column_named, columns_named}
+use Rattle.schema_text.specs.Refusals.{AreLinesOf, Line, word, IndexLine, KeyChecks, IsNewRoot, column_named}
+use Rattle.schema_text.specs.Refusals.{columns_named}
 use Rattle.schema_text.specs.Parts.{IsPart, IsNextColumn, IsNextIndex}
 use Rattle.schema_text.specs.Cuts.{IsPlaceOf, ArePlacesOf, IsIndexRead}
 

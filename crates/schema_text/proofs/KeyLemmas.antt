@@ -1,7 +1,9 @@
 -- The columns of a key, one after the other.
-use Rattle.std.proofs.Common.{◌≡◌, ℕ, ◌+◌, ◌-◌, ◌<◌, ◌≤◌, Bool, true, false, List, [], ◌∷◌, ◌++◌, length, take, drop, get_or, All, Option, Some, None, refl, sym, ap, ◌∙◌, subst, sum_by, arith}
+use Rattle.std.proofs.Common.{◌≡◌, ℕ, ◌+◌, ◌-◌, ◌<◌, ◌≤◌, Bool, true, false, List, [], ◌∷◌, ◌++◌, length, take, drop}
+use Rattle.std.proofs.Common.{get_or, All, Option, Some, None, refl, sym, ap, ◌∙◌, subst, sum_by, arith}
 use Rattle.std.specs.List.{cons_option, AllZip}
-use Rattle.std.proofs.lemmas.List.{get_or-drop, get_or_at, length-drop, take_more, drop_more, take-append-drop, take_all, length-append}
+use Rattle.std.proofs.lemmas.List.{get_or-drop, get_or_at, length-drop, take_more, drop_more, take-append-drop}
+use Rattle.std.proofs.lemmas.List.{take_all, length-append}
 use Rattle.std.proofs.lemmas.List.Elements.{All-nil, All-push, filter_map-append}
 use Rattle.std.proofs.lemmas.List.Sums.{sum_by-append}
 use Rattle.column_values.specs.Types.{greatest_length}

@@ -1,5 +1,6 @@
 -- The line of a column or an index that may be the next one passes its checks.
-use Rattle.std.proofs.Common.{◌≡◌, ◌≢◌, ℕ, ◌<◌, ◌≤◌, true, false, List, [], ◌∷◌, length, map, get_or, All, Some, None, inl, refl, sym, ap, ◌∙◌, subst, arith}
+use Rattle.std.proofs.Common.{◌≡◌, ◌≢◌, ℕ, ◌<◌, ◌≤◌, true, false, List, [], ◌∷◌, length, map, get_or, All, Some, None}
+use Rattle.std.proofs.Common.{inl, refl, sym, ap, ◌∙◌, subst, arith}
 use Rattle.std.specs.Prelude.{AllPairs, bytes_eq, codes, decimal, position, slice_get}
 use Rattle.std.specs.List.{filter_map}
 use Rattle.std.proofs.lemmas.Bool.{lt-ltb}
@@ -8,13 +9,17 @@ use Rattle.std.proofs.lemmas.List.{get_or_default, length-append}
 use Rattle.std.proofs.lemmas.List.Elements.{All-head, All-tail}
 use Rattle.std.proofs.lemmas.Option.{slice_get-get_or}
 use Rattle.column_values.specs.declared.kind.ColumnType.{ColumnType}
-use Rattle.column_values.specs.declared.kind.ColumnType.TheVariants.{Int, Date, Char, Varchar, Binary, Varbinary, Text, Blob, Utf8Varchar, Utf8Text, DateTime, Timestamp, Year, Decimal}
+use Rattle.column_values.specs.declared.kind.ColumnType.TheVariants.{Int, Date, Char, Varchar, Binary, Varbinary, Text}
+use Rattle.column_values.specs.declared.kind.ColumnType.TheVariants.{Blob, Utf8Varchar, Utf8Text, DateTime, Timestamp}
+use Rattle.column_values.specs.declared.kind.ColumnType.TheVariants.{Year, Decimal}
 use Rattle.schema_text.specs.declared.table.Column.{Column}
 use Rattle.schema_text.specs.declared.table.IndexDef.{IndexDef}
 use Rattle.schema_text.specs.TableDef.{TableDef, index_columns}
-use Rattle.schema_text.specs.Grammar.{type_words, nullity_word, column_words, column_names, clustered_words, index_words, FitsKey}
+use Rattle.schema_text.specs.Grammar.{type_words, nullity_word, column_words, column_names, clustered_words}
+use Rattle.schema_text.specs.Grammar.{index_words, FitsKey}
 use Rattle.schema_text.specs.Parts.{IsPart, IsNextColumn, IsNextIndex}
-use Rattle.schema_text.specs.Refusals.{Line, type_part, IsTypePart, IsDeclared, IndexLine, KeyChecks, ClusteredLineChecks, IndexLineChecks, NextChecks, columns_named}
+use Rattle.schema_text.specs.Refusals.{Line, type_part, IsTypePart, IsDeclared, IndexLine, KeyChecks}
+use Rattle.schema_text.specs.Refusals.{ClusteredLineChecks, IndexLineChecks, NextChecks, columns_named}
 use Rattle.schema_text.specs.Cuts.{IsPlaceOf, ArePlacesOf}
 use Rattle.schema_text.proofs.CheckLemmas.{column_good, key_good}
 use Rattle.schema_text.proofs.ColumnCheckLemmas.{is_nullity}

@@ -1,15 +1,22 @@
 -- The checks of a text have one answer.
-use Rattle.std.proofs.Common.{◌≡◌, ℕ, zero, suc, ◌+◌, ◌<◌, ◌≤◌, Bool, true, false, List, [], length, take, get_or, All, Option, Some, None, Result, Ok, Err, refl, sym, ap, ◌∙◌, subst, drop}
+use Rattle.std.proofs.Common.{◌≡◌, ℕ, zero, suc, ◌+◌, ◌<◌, ◌≤◌, Bool, true, false, List, [], length, take, get_or, All}
+use Rattle.std.proofs.Common.{Option, Some, None, Result, Ok, Err, refl, sym, ap, ◌∙◌, subst, drop}
 use Rattle.std.specs.Prelude.{MatchBool}
 use Rattle.page_source.specs.Verdict.{Check, Then, Each}
 use Rattle.page_source.proofs.Unique.{IsUnique, Check-unique, Then-unique, Each-unique, some_is_not_none}
 use Rattle.schema_text.specs.declared.errors.SchemaWhy.{SchemaWhy}
-use Rattle.schema_text.specs.declared.errors.SchemaWhy.TheVariants.{Size, End, Form, Name, Number, Count, Twice, Unknown, Key, Root}
+use Rattle.schema_text.specs.declared.errors.SchemaWhy.TheVariants.{Size, End, Form, Name, Number, Count, Twice}
+use Rattle.schema_text.specs.declared.errors.SchemaWhy.TheVariants.{Unknown, Key, Root}
 use Rattle.schema_text.specs.declared.errors.SchemaError.{SchemaError}
 use Rattle.schema_text.specs.declared.errors.SchemaError.TheVariants.{Refused, Memory}
 use Rattle.schema_text.specs.TableDef.{TableDef}
 use Rattle.schema_text.specs.Grammar.{IsName, IsTextOf}
-use Rattle.schema_text.specs.Refusals.{BadLine, Line, word, type_part, lines_of, is_column_line, is_clustered_line, is_index_line, IsTypePart, IsTableForm, IsColumnForm, IsClusteredForm, IsIndexForm, IsNewColumn, IndexLine, clustered_line, index_line, IsRootWord, HasCounts, HasNewNames, IsDeclared, HasKey, IsNewRoot, FirstChecks, ColumnChecks, KeyChecks, ClusteredLineChecks, IndexLineChecks, NextChecks, BehindChecks, AtLine, LineChecks, EndsWell, SchemaChecks, ReadsAs}
+use Rattle.schema_text.specs.Refusals.{BadLine, Line, word, type_part, lines_of, is_column_line, is_clustered_line}
+use Rattle.schema_text.specs.Refusals.{is_index_line, IsTypePart, IsTableForm, IsColumnForm, IsClusteredForm}
+use Rattle.schema_text.specs.Refusals.{IsIndexForm, IsNewColumn, IndexLine, clustered_line, index_line, IsRootWord}
+use Rattle.schema_text.specs.Refusals.{HasCounts, HasNewNames, IsDeclared, HasKey, IsNewRoot, FirstChecks, ColumnChecks}
+use Rattle.schema_text.specs.Refusals.{KeyChecks, ClusteredLineChecks, IndexLineChecks, NextChecks, BehindChecks}
+use Rattle.schema_text.specs.Refusals.{AtLine, LineChecks, EndsWell, SchemaChecks, ReadsAs}
 use Rattle.schema_text.specs.Laws.{IsReadBack}
 use Rattle.schema_text.proofs.GoodTexts.{text_passes}
 use Rattle.schema_text.proofs.OneSchema.{one_schema, one_table}

@@ -1,5 +1,6 @@
 -- A table that gets one more column or index, and the lines that spell it.
-use Rattle.std.proofs.Common.{◌≡◌, ◌≢◌, ℕ, zero, suc, ◌+◌, ◌≤◌, false, List, [], ◌∷◌, ◌++◌, length, map, take, drop, All, refl, sym, ap, ◌∙◌, subst, arith}
+use Rattle.std.proofs.Common.{◌≡◌, ◌≢◌, ℕ, zero, suc, ◌+◌, ◌≤◌, false, List, [], ◌∷◌, ◌++◌, length, map, take, drop}
+use Rattle.std.proofs.Common.{All, refl, sym, ap, ◌∙◌, subst, arith}
 use Rattle.std.specs.Prelude.{slice_get, AllPairs, IfSome}
 use Rattle.std.proofs.lemmas.List.{append_assoc, append-nil, length-append}
 use Rattle.std.proofs.lemmas.List.Elements.{All-nil, All-push}
@@ -9,7 +10,8 @@ use Rattle.schema_text.specs.declared.table.Format.{Format}
 use Rattle.schema_text.specs.declared.table.Column.{Column}
 use Rattle.schema_text.specs.declared.table.IndexDef.{IndexDef}
 use Rattle.schema_text.specs.TableDef.{TableDef, index_columns, with_column, with_index}
-use Rattle.schema_text.specs.Grammar.{table_words, column_words, clustered_words, index_words, schema_words, schema_text, IsName, IsRoot, IsKeyOf, IsTable}
+use Rattle.schema_text.specs.Grammar.{table_words, column_words, clustered_words, index_words, schema_words}
+use Rattle.schema_text.specs.Grammar.{schema_text, IsName, IsRoot, IsKeyOf, IsTable}
 use Rattle.schema_text.specs.Refusals.{Line}
 use Rattle.schema_text.specs.Parts.{HasIndexes, IsPart, IsNextColumn, IsNextIndex}
 

@@ -1,5 +1,6 @@
 -- A text that is written word by word.
-use Rattle.std.proofs.Common.{◌≡◌, ℕ, ◌+◌, ◌<◌, List, [], ◌∷◌, ◌++◌, length, map, take, drop, get_or, Option, Some, refl, sym, ap, ◌∙◌, subst, arith}
+use Rattle.std.proofs.Common.{◌≡◌, ℕ, ◌+◌, ◌<◌, List, [], ◌∷◌, ◌++◌, length, map, take, drop, get_or, Option, Some}
+use Rattle.std.proofs.Common.{refl, sym, ap, ◌∙◌, subst, arith}
 use Rattle.std.specs.Prelude.{flat_map, slice_get}
 use Rattle.std.specs.List.{cons_option}
 use Rattle.std.proofs.lemmas.List.{append_assoc, append-nil, map-append, take_more}
@@ -9,7 +10,8 @@ use Rattle.std.proofs.lemmas.Option.{slice_get-get_or}
 use Rattle.schema_text.specs.declared.table.Column.{Column}
 use Rattle.schema_text.specs.declared.table.IndexDef.{IndexDef}
 use Rattle.schema_text.specs.TableDef.{TableDef}
-use Rattle.schema_text.specs.Grammar.{space, line_feed, joined, line_of, table_words, column_words, clustered_words, index_words, schema_words, schema_text}
+use Rattle.schema_text.specs.Grammar.{space, line_feed, joined, line_of, table_words, column_words, clustered_words}
+use Rattle.schema_text.specs.Grammar.{index_words, schema_words, schema_text}
 use Rattle.schema_text.specs.IndexFields.{columns_at}
 use Rattle.schema_text.specs.Printing.{spaced, names_at, clustered_by, index_by}
 

@@ -1,5 +1,6 @@
 -- The schema that the words of its lines say, read back by tests of words.
-use Rattle.std.proofs.Common.{◌≡◌, ◌≢◌, ℕ, suc, ◌+◌, ◌-◌, ◌*◌, ◌%◌, ◌<◌, ◌^◌, Bool, true, false, cond, List, [], ◌∷◌, ◌++◌, length, map, take, drop, get_or, All, Option, refl, sym, ap, ◌∙◌, subst, arith}
+use Rattle.std.proofs.Common.{◌≡◌, ◌≢◌, ℕ, suc, ◌+◌, ◌-◌, ◌*◌, ◌%◌, ◌<◌, ◌^◌, Bool, true, false, cond, List, [], ◌∷◌}
+use Rattle.std.proofs.Common.{◌++◌, length, map, take, drop, get_or, All, Option, refl, sym, ap, ◌∙◌, subst, arith}
 use Rattle.std.specs.Prelude.{AllPairs, IfSome, bytes_eq, codes, decimal, slice_get}
 use Rattle.std.specs.List.{cons_option, filter_map, position_or_len}
 use Rattle.std.proofs.lemmas.Fmt.{decimal_by_steps}
@@ -9,16 +10,20 @@ use Rattle.std.proofs.lemmas.List.Sums.{position_or_len_is}
 use Rattle.std.proofs.lemmas.Option.{slice_get-get_or}
 use Rattle.std.proofs.lemmas.Slice.Eq.{bytes_eq-Decides}
 use Rattle.column_values.specs.declared.kind.ColumnType.{ColumnType}
-use Rattle.column_values.specs.declared.kind.ColumnType.TheVariants.{Int, Date, Char, Varchar, Binary, Varbinary, Text, Blob, Utf8Varchar, Utf8Text, DateTime, Timestamp, Year, Decimal}
+use Rattle.column_values.specs.declared.kind.ColumnType.TheVariants.{Int, Date, Char, Varchar, Binary, Varbinary, Text}
+use Rattle.column_values.specs.declared.kind.ColumnType.TheVariants.{Blob, Utf8Varchar, Utf8Text, DateTime, Timestamp}
+use Rattle.column_values.specs.declared.kind.ColumnType.TheVariants.{Year, Decimal}
 use Rattle.column_values.specs.Types.{IsColumnType}
 use Rattle.schema_text.specs.declared.table.Format.{Format}
 use Rattle.schema_text.specs.declared.table.Format.TheVariants.{Compact, Dynamic}
 use Rattle.schema_text.specs.declared.table.Column.{Column}
 use Rattle.schema_text.specs.declared.table.IndexDef.{IndexDef}
 use Rattle.schema_text.specs.TableDef.{TableDef}
-use Rattle.schema_text.specs.Grammar.{type_words, format_word, nullity_word, table_words, column_words, clustered_words, index_words, schema_words, IsRoot}
+use Rattle.schema_text.specs.Grammar.{type_words, format_word, nullity_word, table_words, column_words, clustered_words}
+use Rattle.schema_text.specs.Grammar.{index_words, schema_words, IsRoot}
 use Rattle.schema_text.specs.Parts.{IsPart}
-use Rattle.schema_text.specs.Refusals.{Line, word, type_part, last_word, is_column_line, is_clustered_line, is_index_line}
+use Rattle.schema_text.specs.Refusals.{Line, word, type_part, last_word, is_column_line, is_clustered_line}
+use Rattle.schema_text.specs.Refusals.{is_index_line}
 use Rattle.schema_text.proofs.WordsBack.{width_cases, length_cases}
 
 -- digits as a number

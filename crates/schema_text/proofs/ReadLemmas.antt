@@ -1,5 +1,6 @@
 -- What comes of a line, put together from its parts.
-use Rattle.std.proofs.Common.{◌≡◌, ℕ, ◌≤◌, true, false, List, [], ◌∷◌, length, drop, All, Option, Some, None, Result, Ok, Err, inl, inr, refl, sym, ap, ◌∙◌, subst, arith}
+use Rattle.std.proofs.Common.{◌≡◌, ℕ, ◌≤◌, true, false, List, [], ◌∷◌, length, drop, All, Option, Some, None, Result}
+use Rattle.std.proofs.Common.{Ok, Err, inl, inr, refl, sym, ap, ◌∙◌, subst, arith}
 use Rattle.std.specs.Prelude.{codes, decimal, OnOk, IfErr, MatchResult}
 use Rattle.schema_text.specs.declared.errors.SchemaWhy.{SchemaWhy}
 use Rattle.schema_text.specs.declared.errors.SchemaWhy.TheVariants.{Form, Name}
@@ -9,7 +10,9 @@ use Rattle.schema_text.specs.declared.table.Format.{Format}
 use Rattle.schema_text.specs.TableDef.{TableDef}
 use Rattle.schema_text.specs.Grammar.{IsName, IsRoot, format_word}
 use Rattle.schema_text.specs.Parts.{IsPart}
-use Rattle.schema_text.specs.Refusals.{Line, word, is_column_line, is_clustered_line, is_index_line, IsTableForm, FirstChecks, IsClusteredForm, IsIndexForm, IndexLine, KeyChecks, ColumnChecks, ClusteredLineChecks, IndexLineChecks, NextChecks, AreLinesOf, RefusedAt}
+use Rattle.schema_text.specs.Refusals.{Line, word, is_column_line, is_clustered_line, is_index_line, IsTableForm}
+use Rattle.schema_text.specs.Refusals.{FirstChecks, IsClusteredForm, IsIndexForm, IndexLine, KeyChecks, ColumnChecks}
+use Rattle.schema_text.specs.Refusals.{ClusteredLineChecks, IndexLineChecks, NextChecks, AreLinesOf, RefusedAt}
 use Rattle.schema_text.specs.Cuts.{IsClusteredRead, IsIndexLineRead}
 use Rattle.schema_text.proofs.PartLemmas.{part_begun, words_begun}
 

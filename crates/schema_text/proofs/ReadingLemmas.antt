@@ -1,5 +1,6 @@
 -- A text that is read line by line.
-use Rattle.std.proofs.Common.{◌≡◌, ℕ, zero, suc, ◌+◌, ◌<◌, ◌≤◌, List, [], ◌∷◌, ◌++◌, length, take, get_or, Some, None, Err, inl, inr, refl, sym, ap, ◌∙◌, subst, arith}
+use Rattle.std.proofs.Common.{◌≡◌, ℕ, zero, suc, ◌+◌, ◌<◌, ◌≤◌, List, [], ◌∷◌, ◌++◌, length, take, get_or, Some, None}
+use Rattle.std.proofs.Common.{Err, inl, inr, refl, sym, ap, ◌∙◌, subst, arith}
 use Rattle.std.specs.List.{list_any}
 use Rattle.std.proofs.lemmas.Bool.{cases_lt, false≢true}
 use Rattle.std.proofs.lemmas.List.{append_assoc, append-nil, length-append, take_at, get_or_at}
@@ -11,10 +12,12 @@ use Rattle.schema_text.specs.declared.errors.SchemaError.TheVariants.{Refused, M
 use Rattle.schema_text.specs.TableDef.{TableDef}
 use Rattle.schema_text.specs.Grammar.{line_feed, schema_words, schema_text, IsTextOf}
 use Rattle.schema_text.specs.Parts.{IsPart}
-use Rattle.schema_text.specs.Refusals.{BadLine, Line, words_of, lines_of, rest_of, is_clustered_line, FirstChecks, NextChecks, AreLinesOf, LineChecks, EndsWell, SchemaChecks, RefusedAt, ReadsAs}
+use Rattle.schema_text.specs.Refusals.{BadLine, Line, words_of, lines_of, rest_of, is_clustered_line, FirstChecks}
+use Rattle.schema_text.specs.Refusals.{NextChecks, AreLinesOf, LineChecks, EndsWell, SchemaChecks, RefusedAt, ReadsAs}
 use Rattle.schema_text.specs.Cuts.{Lacks}
 use Rattle.schema_text.proofs.PartLemmas.{length-schema_words, part_is_table}
-use Rattle.schema_text.proofs.TextLemmas.{lines_cut, rest_cut, lines_none, rest_none, text_more, text_begun, not_clustered}
+use Rattle.schema_text.proofs.TextLemmas.{lines_cut, rest_cut, lines_none, rest_none, text_more, text_begun}
+use Rattle.schema_text.proofs.TextLemmas.{not_clustered}
 
 -- the table so far, and what is left of the text
 pub record IsReading (text rest : List ℕ) (t : TableDef) : Type 0 where

@@ -1,8 +1,11 @@
 -- The words of types: how many there are, and where they stand on a column line.
-use Rattle.std.proofs.Common.{◌≡◌, suc, ◌+◌, ◌-◌, ◌<◌, ◌≤◌, inl, inr, true, false, [], ◌∷◌, ◌++◌, length, drop, refl, sym, ap, ◌∙◌, arith}
+use Rattle.std.proofs.Common.{◌≡◌, suc, ◌+◌, ◌-◌, ◌<◌, ◌≤◌, inl, inr, true, false, [], ◌∷◌, ◌++◌, length, drop, refl}
+use Rattle.std.proofs.Common.{sym, ap, ◌∙◌, arith}
 use Rattle.std.proofs.lemmas.List.{length-take-le, length-drop, take_more, take_all}
 use Rattle.column_values.specs.declared.kind.ColumnType.{ColumnType}
-use Rattle.column_values.specs.declared.kind.ColumnType.TheVariants.{Int, Date, Char, Varchar, Binary, Varbinary, Text, Blob, Utf8Varchar, Utf8Text, DateTime, Timestamp, Year, Decimal}
+use Rattle.column_values.specs.declared.kind.ColumnType.TheVariants.{Int, Date, Char, Varchar, Binary, Varbinary, Text}
+use Rattle.column_values.specs.declared.kind.ColumnType.TheVariants.{Blob, Utf8Varchar, Utf8Text, DateTime, Timestamp}
+use Rattle.column_values.specs.declared.kind.ColumnType.TheVariants.{Year, Decimal}
 use Rattle.schema_text.specs.Grammar.{type_words}
 use Rattle.schema_text.specs.Refusals.{Line, word, type_part, last_word, IsTypeForm}
 

@@ -1,7 +1,11 @@
 -- What is left of a text behind a front, before an end, and round a byte.
-use Rattle.std.proofs.Common.{◌≡◌, ◌≢◌, ℕ, ◌+◌, ◌-◌, ◌<◌, ◌^◌, Bool, true, false, eqb, List, [], ◌∷◌, ◌++◌, length, get_or, take, drop, Option, Some, None, IsTrue, Result, Ok, Err, IfSome, IsSomeAnd, MatchOption, refl, sym, ap, ◌∙◌, subst, arith}
+use Rattle.std.proofs.Common.{◌≡◌, ◌≢◌, ℕ, ◌+◌, ◌-◌, ◌<◌, ◌^◌, Bool, true, false, eqb, List, [], ◌∷◌, ◌++◌, length}
+use Rattle.std.proofs.Common.{get_or, take, drop, Option, Some, None, IsTrue, Result, Ok, Err, IfSome, IsSomeAnd}
+use Rattle.std.proofs.Common.{MatchOption, refl, sym, ap, ◌∙◌, subst, arith}
 use Rattle.std.specs.Prelude.{position}
-use Rattle.std.proofs.lemmas.List.{append_cancel_left, append_cancel_right, append_assoc, get_or_append_left, get_or_at, length-append, length-take-le, get_or-take, get_or_default, take_at, drop_at, take_rest, drop_more, take-append-drop}
+use Rattle.std.proofs.lemmas.List.{append_cancel_left, append_cancel_right, append_assoc, get_or_append_left, get_or_at}
+use Rattle.std.proofs.lemmas.List.{length-append, length-take-le, get_or-take, get_or_default, take_at, drop_at}
+use Rattle.std.proofs.lemmas.List.{take_rest, drop_more, take-append-drop}
 use Rattle.std.proofs.lemmas.List.Sums.{position_or_len_is}
 use Rattle.std.proofs.lemmas.Bool.{lt-ltb, eqb-true, eq-eqb, false≢true}
 use Rattle.schema_text.proofs.Positions.{none_passes}

@@ -1,20 +1,27 @@
 -- The lines of a schema's text are its words again.
-use Rattle.std.proofs.Common.{zero, suc, ◌≡◌, ℕ, ◌<◌, ◌≤◌, ◌^◌, Bool, true, false, eqb, List, [], ◌∷◌, ◌++◌, length, map, take, drop, get_or, All, Option, Some, None, inl, inr, refl, sym, ap, ◌∙◌, subst, arith}
+use Rattle.std.proofs.Common.{zero, suc, ◌≡◌, ℕ, ◌<◌, ◌≤◌, ◌^◌, Bool, true, false, eqb, List, [], ◌∷◌, ◌++◌, length}
+use Rattle.std.proofs.Common.{map, take, drop, get_or, All, Option, Some, None, inl, inr, refl, sym, ap, ◌∙◌, subst}
+use Rattle.std.proofs.Common.{arith}
 use Rattle.std.specs.Prelude.{codes, decimal, flat_map, slice_get}
 use Rattle.std.specs.List.{list_any, filter_map, cons_option}
 use Rattle.std.proofs.lemmas.List.{append_assoc}
-use Rattle.std.proofs.lemmas.List.Elements.{All-nil, All-cons, All-head, All-tail, All-append, All-map, All-weaker, All-take, All-drop}
+use Rattle.std.proofs.lemmas.List.Elements.{All-nil, All-cons, All-head, All-tail, All-append, All-map, All-weaker}
+use Rattle.std.proofs.lemmas.List.Elements.{All-take, All-drop}
 use Rattle.std.proofs.lemmas.List.Splits.{slice_split_at, slice_split_none}
 use Rattle.std.proofs.lemmas.Bool.{ne_eqb}
 use Rattle.column_values.specs.declared.kind.ColumnType.{ColumnType}
-use Rattle.column_values.specs.declared.kind.ColumnType.TheVariants.{Int, Date, Char, Varchar, Binary, Varbinary, Text, Blob, Utf8Varchar, Utf8Text, DateTime, Timestamp, Year, Decimal}
+use Rattle.column_values.specs.declared.kind.ColumnType.TheVariants.{Int, Date, Char, Varchar, Binary, Varbinary, Text}
+use Rattle.column_values.specs.declared.kind.ColumnType.TheVariants.{Blob, Utf8Varchar, Utf8Text, DateTime, Timestamp}
+use Rattle.column_values.specs.declared.kind.ColumnType.TheVariants.{Year, Decimal}
 use Rattle.column_values.specs.Types.{IsColumnType, IsWidth, IsLongLength}
 use Rattle.schema_text.specs.declared.table.Format.{Format}
 use Rattle.schema_text.specs.declared.table.Format.TheVariants.{Compact, Dynamic}
 use Rattle.schema_text.specs.declared.table.Column.{Column}
 use Rattle.schema_text.specs.declared.table.IndexDef.{IndexDef}
 use Rattle.schema_text.specs.TableDef.{TableDef}
-use Rattle.schema_text.specs.Grammar.{space, line_feed, joined, line_of, int_word, long_prefix, utf8_word, type_words, format_word, nullity_word, table_words, column_words, column_names, clustered_words, index_words, schema_words, schema_text, IsName, IsRoot}
+use Rattle.schema_text.specs.Grammar.{space, line_feed, joined, line_of, int_word, long_prefix, utf8_word, type_words}
+use Rattle.schema_text.specs.Grammar.{format_word, nullity_word, table_words, column_words, column_names}
+use Rattle.schema_text.specs.Grammar.{clustered_words, index_words, schema_words, schema_text, IsName, IsRoot}
 use Rattle.schema_text.specs.Parts.{IsPart}
 use Rattle.schema_text.specs.Refusals.{Line, words_of, lines_of, rest_of}
 use Rattle.schema_text.specs.Cuts.{Lacks}

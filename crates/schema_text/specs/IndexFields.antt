@@ -1,5 +1,6 @@
 -- The fields of an index's records (rem0rec, dict0dict).
-use Rattle.std.specs.Prelude.{ℕ, ◌+◌, Bool, true, false, not, ◌==◌, if◌then◌else◌, List, [], ◌∷◌, ◌++◌, length, map, filter, filter_map, slice_get}
+use Rattle.std.specs.Prelude.{ℕ, ◌+◌, Bool, true, false, not, ◌==◌, if◌then◌else◌, List, [], ◌∷◌, ◌++◌, length, map}
+use Rattle.std.specs.Prelude.{filter, filter_map, slice_get}
 use Rattle.std.specs.List.{range_with_len, list_any, position_or_len}
 use Rattle.column_values.specs.declared.field.FieldType.TheVariants as fields
 use Rattle.column_values.specs.declared.field.Field.{Field}

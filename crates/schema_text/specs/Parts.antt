@@ -1,5 +1,6 @@
 -- A table as far as its lines were read.
-use Rattle.std.specs.Prelude.{◌≡◌, ◌≢◌, ℕ, ◌+◌, ◌<◌, ◌≤◌, false, [], length, take, drop, slice_get, All, AllPairs, IfSome}
+use Rattle.std.specs.Prelude.{◌≡◌, ◌≢◌, ℕ, ◌+◌, ◌<◌, ◌≤◌, false, [], length, take, drop, slice_get, All, AllPairs}
+use Rattle.std.specs.Prelude.{IfSome}
 use Rattle.column_values.specs.Types.{IsColumnType}
 use Rattle.schema_text.specs.declared.table.Column.{Column}
 use Rattle.schema_text.specs.declared.table.IndexDef.{IndexDef}

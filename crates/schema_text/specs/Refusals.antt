@@ -1,5 +1,7 @@
 -- Why a text is that of no schema: the first bad line, and the first check in order that refuses it.
-use Rattle.std.specs.Prelude.{◌≡◌, ◌≢◌, ℕ, zero, suc, ◌+◌, ◌-◌, ◌<◌, ◌≤◌, ◌⊎◌, Bool, true, false, ◌==◌, List, [], ◌∷◌, length, map, take, drop, slice_index_or, codes, decimal, bytes_eq, ⊤, All, AllPairs, Any, Option, Some, None, Result, Ok, Err, MatchBool, find}
+use Rattle.std.specs.Prelude.{◌≡◌, ◌≢◌, ℕ, zero, suc, ◌+◌, ◌-◌, ◌<◌, ◌≤◌, ◌⊎◌, Bool, true, false, ◌==◌, List, [], ◌∷◌}
+use Rattle.std.specs.Prelude.{length, map, take, drop, slice_index_or, codes, decimal, bytes_eq, ⊤, All, AllPairs, Any}
+use Rattle.std.specs.Prelude.{Option, Some, None, Result, Ok, Err, MatchBool, find}
 use Rattle.std.specs.List.{slice_split, list_any, filter_map}
 use Rattle.page_source.specs.Verdict.{Check, Then, Each}
 use Rattle.column_values.specs.declared.kind.ColumnType.{ColumnType}
@@ -8,11 +10,13 @@ use Rattle.schema_text.specs.declared.table.Format.TheVariants.{Compact, Dynamic
 use Rattle.schema_text.specs.declared.table.Column.{Column}
 use Rattle.schema_text.specs.declared.table.IndexDef.{IndexDef}
 use Rattle.schema_text.specs.declared.errors.SchemaWhy.{SchemaWhy}
-use Rattle.schema_text.specs.declared.errors.SchemaWhy.TheVariants.{Size, End, Form, Name, Number, Count, Twice, Unknown, Key, Root}
+use Rattle.schema_text.specs.declared.errors.SchemaWhy.TheVariants.{Size, End, Form, Name, Number, Count, Twice}
+use Rattle.schema_text.specs.declared.errors.SchemaWhy.TheVariants.{Unknown, Key, Root}
 use Rattle.schema_text.specs.declared.errors.SchemaError.{SchemaError}
 use Rattle.schema_text.specs.declared.errors.SchemaError.TheVariants.{Refused, Memory}
 use Rattle.schema_text.specs.TableDef.{TableDef}
-use Rattle.schema_text.specs.Grammar.{space, line_feed, type_words, utf8_word, format_word, nullity_word, schema_words, IsName, IsRoot, FitsKey, IsTextOf}
+use Rattle.schema_text.specs.Grammar.{space, line_feed, type_words, utf8_word, format_word, nullity_word, schema_words}
+use Rattle.schema_text.specs.Grammar.{IsName, IsRoot, FitsKey, IsTextOf}
 use Rattle.schema_text.specs.Parts.{IsPart}
 
 -- a line, counted from 1, and why it is refused

@@ -1,5 +1,7 @@
 -- The members of a list are exactly the extents with a home where each has it and there are as many.
-use Rattle.std.proofs.Common.{◌≡◌, ◌⊎◌, ◌==◌, ℕ, zero, suc, ◌+◌, ◌<◌, ◌≤◌, Bool, true, false, cond, List, [], ◌∷◌, ◌++◌, length, get_or, set, get_or-set_same, get_or-set_other, All, Contains, filter, refl, sym, ◌∙◌, ap, subst, inl, inr, arith, Some, None, ◌≢◌, nat_lt, lt-ltb}
+use Rattle.std.proofs.Common.{◌≡◌, ◌⊎◌, ◌==◌, ℕ, zero, suc, ◌+◌, ◌<◌, ◌≤◌, Bool, true, false, cond, List, [], ◌∷◌, ◌++◌}
+use Rattle.std.proofs.Common.{length, get_or, set, get_or-set_same, get_or-set_other, All, Contains, filter, refl, sym}
+use Rattle.std.proofs.Common.{◌∙◌, ap, subst, inl, inr, arith, Some, None, ◌≢◌, nat_lt, lt-ltb}
 use Rattle.std.specs.List.{range_with_len}
 use Rattle.std.proofs.lemmas.List.Elements.{Contains-get_or, All-contains}
 use Rattle.std.proofs.lemmas.List.Sums.{length-filter, count_by-le-length, sum_by-le-sum_by}
@@ -7,7 +9,9 @@ use Rattle.std.proofs.lemmas.List.FromFn.{length-range_with_len}
 use Rattle.std.proofs.lemmas.Bool.Decides.{Decides-eqb, eqb_tells, leb_tells}
 use Rattle.page_source.specs.Lists.{AreDistinct, HaveSameMembers}
 use Rattle.page_source.proofs.Times.{one_if, sum_by_plus}
-use Rattle.page_source.proofs.Members.{contains_filter, filter_contains, contains_range, range_contains, distinct_filter, distinct_range, same_length, same_members, count_more_yes, count_more_no}
+use Rattle.page_source.proofs.Members.{contains_filter, filter_contains, contains_range, range_contains}
+use Rattle.page_source.proofs.Members.{distinct_filter, distinct_range, same_length, same_members, count_more_yes}
+use Rattle.page_source.proofs.Members.{count_more_no}
 use Rattle.page_source.specs.declared.rule.Rule.TheVariants.{ExtentHome}
 use Rattle.space_header.specs.declared.address.Node.{Node}
 use Rattle.space_header.specs.Header.{extent_address}

@@ -1,5 +1,6 @@
 -- The stages of the audit, in their order.
-use Rattle.std.proofs.Common.{◌≡◌, ℕ, ◌+◌, ◌<◌, ◌≤◌, List, [], ◌∷◌, ◌++◌, length, get_or, map, filter, IfSome, take, Option, Some, None, Result, Ok, Err, IfOk, refl, sym, ◌∙◌, ap, subst, inl, inr, arith}
+use Rattle.std.proofs.Common.{◌≡◌, ℕ, ◌+◌, ◌<◌, ◌≤◌, List, [], ◌∷◌, ◌++◌, length, get_or, map, filter, IfSome, take}
+use Rattle.std.proofs.Common.{Option, Some, None, Result, Ok, Err, IfOk, refl, sym, ◌∙◌, ap, subst, inl, inr, arith}
 use Rattle.std.specs.List.{range_with_len}
 use Rattle.std.proofs.lemmas.List.{map-append, take_more, length-map}
 use Rattle.std.proofs.lemmas.List.FromFn.{fill_by_all}
@@ -26,7 +27,8 @@ use Rattle.inode_segments.specs.InodeChecks.{AllInodeChecks}
 use Rattle.inode_segments.specs.Kept.{InodesView, AreKept}
 use Rattle.inode_segments.specs.Laws.{InodeChecksAreSound}
 use Rattle.space_audit.specs.Lists.{ListChecks}
-use Rattle.space_audit.specs.Audit.{AuditChecks, OwnerChecks, SpaceChecks, PagesChecks, OwnershipChecks, UseChecks, CountChecks, FrameChecks, SlotsCheck, ClaimCheck}
+use Rattle.space_audit.specs.Audit.{AuditChecks, OwnerChecks, SpaceChecks, PagesChecks, OwnershipChecks, UseChecks}
+use Rattle.space_audit.specs.Audit.{CountChecks, FrameChecks, SlotsCheck, ClaimCheck}
 use Rattle.space_audit.specs.Space.{SpaceView, IsAuditOf}
 use Rattle.space_audit.specs.Read.{IsRead, IsSpaceOf, AwaitsFrames, AreKinds}
 use Rattle.space_audit.specs.declared.owner.Owner.TheVariants.{Beyond}

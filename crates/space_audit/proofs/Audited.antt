@@ -1,5 +1,6 @@
 -- What an audit shows of a page.
-use Rattle.std.proofs.Common.{◌≡◌, ◌↔◌, ℕ, ◌<◌, ◌≤◌, ◌/◌, ◌==◌, ◌&&◌, Bool, IsTrue, true, false, List, get_or, cond, refl, sym, ◌∙◌, arith, None}
+use Rattle.std.proofs.Common.{◌≡◌, ◌↔◌, ℕ, ◌<◌, ◌≤◌, ◌/◌, ◌==◌, ◌&&◌, Bool, IsTrue, true, false, List, get_or, cond}
+use Rattle.std.proofs.Common.{refl, sym, ◌∙◌, arith, None}
 use Rattle.std.specs.List.{range_with_len}
 use Rattle.std.proofs.lemmas.List.FromFn.{get_or-map-range_with_len}
 use Rattle.page_source.specs.Pages.{page_of, page_count}
@@ -8,7 +9,8 @@ use Rattle.space_header.specs.Header.{size_of}
 use Rattle.extent_map.specs.Head.{HeaderChecks, IsSize}
 use Rattle.extent_map.specs.Extents.{IsUsed, is_used}
 use Rattle.space_audit.specs.declared.owner.Owner.{Owner}
-use Rattle.space_audit.specs.declared.owner.Owner.TheVariants.{System, InodePage, Used, Spare, FragmentFree, FreeExtent, Beyond}
+use Rattle.space_audit.specs.declared.owner.Owner.TheVariants.{System, InodePage, Used, Spare, FragmentFree, FreeExtent}
+use Rattle.space_audit.specs.declared.owner.Owner.TheVariants.{Beyond}
 use Rattle.space_audit.specs.Owners.{owner_of, IsUsedBy, owner_in_segment, owner_in_fragment}
 use Rattle.space_audit.specs.Audit.{AuditChecks, OwnerChecks}
 use Rattle.space_audit.specs.Space.{SpaceView, IsAuditOf, HasAuditedSize, IsPageOf}

@@ -1,5 +1,8 @@
 -- The claims of slots, segment by segment, and the check of each page's holder.
-use Rattle.std.proofs.Common.{◌≡◌, ◌≢◌, ◌↔◌, ℕ, zero, suc, ◌+◌, ◌/◌, ◌%◌, ◌<◌, ◌≤◌, Bool, true, false, cond, ◌&&◌, ◌||◌, ◌==◌, List, [], ◌∷◌, ◌++◌, length, get_or, slice_get, map, take, take_all, Contains, Option, Some, None, refl, sym, ◌∙◌, ap, subst, inl, inr, arith, add-one, append-nil, append_assoc}
+use Rattle.std.proofs.Common.{◌≡◌, ◌≢◌, ◌↔◌, ℕ, zero, suc, ◌+◌, ◌/◌, ◌%◌, ◌<◌, ◌≤◌, Bool, true, false, cond, ◌&&◌, ◌||◌}
+use Rattle.std.proofs.Common.{◌==◌, List, [], ◌∷◌, ◌++◌, length, get_or, slice_get, map, take, take_all, Contains}
+use Rattle.std.proofs.Common.{Option, Some, None, refl, sym, ◌∙◌, ap, subst, inl, inr, arith, add-one, append-nil}
+use Rattle.std.proofs.Common.{append_assoc}
 use Rattle.std.specs.List.{range_with_len}
 use Rattle.std.proofs.lemmas.Bool.{cases_lt, false≢true}
 use Rattle.std.proofs.lemmas.List.Elements.{All-contains, Contains-append_cases}
@@ -13,7 +16,8 @@ use Rattle.page_source.proofs.Times.{times_append, times_none, times_once}
 use Rattle.space_header.specs.declared.address.Address.{Address}
 use Rattle.space_header.specs.Header.{size_of, limit_of}
 use Rattle.extent_map.specs.declared.extent.Extent.{Extent}
-use Rattle.extent_map.specs.Extents.{extent_of, extent_count, is_used, IsUsed, used_in, is_fragment_extent, is_fragment_page, is_system_page}
+use Rattle.extent_map.specs.Extents.{extent_of, extent_count, is_used, IsUsed, used_in, is_fragment_extent}
+use Rattle.extent_map.specs.Extents.{is_fragment_page, is_system_page}
 use Rattle.extent_map.specs.Descriptors.{IsExtent}
 use Rattle.extent_map.specs.Laws.{UsedPagesAreOfExtents}
 use Rattle.inode_segments.specs.declared.inode.Inode.{Inode}
@@ -21,7 +25,8 @@ use Rattle.inode_segments.specs.Inodes.{inode_of, inode_pages, full_pages, free_
 use Rattle.inode_segments.specs.InodeChecks.{AreInodes}
 use Rattle.inode_segments.specs.Kept.{InodesView, AreKept}
 use Rattle.space_audit.specs.Audit.{IsFragmentUse, IsSlot, SlotCheck, SlotsCheck, fragment_claims}
-use Rattle.space_audit.specs.Holders.{Claim, inode_holder, no_holder, many_holders, held_after, AreHeld, claims_of, claims_from, claims_in, inode_claims, first_holder, IsOnce, IsHeld}
+use Rattle.space_audit.specs.Holders.{Claim, inode_holder, no_holder, many_holders, held_after, AreHeld, claims_of}
+use Rattle.space_audit.specs.Holders.{claims_from, claims_in, inode_claims, first_holder, IsOnce, IsHeld}
 use Rattle.space_audit.proofs.ListSteps.{get_other, inode_there}
 use Rattle.space_audit.proofs.OwnerFacts.{get_at}
 use Rattle.space_audit.proofs.Fragments.{and_left, and_right, both_true, used_below, used_extent}

@@ -1,16 +1,20 @@
 -- The claims are a partition of the used pages.
-use Rattle.std.proofs.Common.{◌≡◌, ℕ, ◌+◌, ◌*◌, ◌/◌, ◌%◌, ◌<◌, true, cond, not, ◌&&◌, ◌==◌, eqb, List, ◌++◌, map, flat_map, sum_by, All, Contains, refl, sym, ◌∙◌, ap, subst, inl, inr, arith, ltb-true}
+use Rattle.std.proofs.Common.{◌≡◌, ℕ, ◌+◌, ◌*◌, ◌/◌, ◌%◌, ◌<◌, true, cond, not, ◌&&◌, ◌==◌, eqb, List, ◌++◌, map}
+use Rattle.std.proofs.Common.{flat_map, sum_by, All, Contains, refl, sym, ◌∙◌, ap, subst, inl, inr, arith, ltb-true}
 use Rattle.std.specs.List.{range_with_len}
 use Rattle.std.proofs.lemmas.Bool.{false≢true}
 use Rattle.std.proofs.lemmas.Bool.Decides.{eqb_tells}
 use Rattle.std.proofs.lemmas.List.Elements.{All-contains, Contains-append_cases}
 use Rattle.page_source.specs.Pages.{fil_null}
 use Rattle.page_source.specs.Lists.{AreDistinct, times_in}
-use Rattle.page_source.proofs.Members.{filter_contains, contains_range, range_contains, distinct_range, contains_flat_map, all_members}
-use Rattle.page_source.proofs.Times.{one_if, times_append, times_flat_map, times_filter, times_once, times_none, times_map, sum_by_same, sum_by_none, sum_by_plus}
+use Rattle.page_source.proofs.Members.{filter_contains, contains_range, range_contains, distinct_range}
+use Rattle.page_source.proofs.Members.{contains_flat_map, all_members}
+use Rattle.page_source.proofs.Times.{one_if, times_append, times_flat_map, times_filter, times_once, times_none}
+use Rattle.page_source.proofs.Times.{times_map, sum_by_same, sum_by_none, sum_by_plus}
 use Rattle.space_header.specs.declared.address.Address.{Address}
 use Rattle.space_header.specs.Header.{limit_of, size_of}
-use Rattle.extent_map.specs.Extents.{extent_of, extent_count, extent_state, IsUsed, used_in, used_count, is_fragment_extent, is_fragment_page, is_system_page}
+use Rattle.extent_map.specs.Extents.{extent_of, extent_count, extent_state, IsUsed, used_in, used_count}
+use Rattle.extent_map.specs.Extents.{is_fragment_extent, is_fragment_page, is_system_page}
 use Rattle.extent_map.specs.Descriptors.{IsExtent}
 use Rattle.extent_map.specs.Laws.{UsedPagesAreOfExtents}
 use Rattle.inode_segments.specs.Inodes.{inode_of, inode_pages, full_pages, free_pages, segments, segment_id, slot_pages}
@@ -18,7 +22,8 @@ use Rattle.inode_segments.specs.InodeChecks.{IsInodePage}
 use Rattle.space_audit.specs.Lists.{is_extent_of, segment_extents, HasHome}
 use Rattle.space_audit.specs.Owners.{system_pages, claim_of, claims, IsPartition}
 use Rattle.space_audit.specs.Audit.{IsFragmentUse, IsSlot, IsUsedFragment, fragment_claims}
-use Rattle.space_audit.proofs.Fragments.{used_below, used_extent, fragment_used, fragment_extent, fragment_not_own, state_fragment}
+use Rattle.space_audit.proofs.Fragments.{used_below, used_extent, fragment_used, fragment_extent, fragment_not_own}
+use Rattle.space_audit.proofs.Fragments.{state_fragment}
 
 -- a used page is among those of its extent, and not in another
 pub used_in_has : (file : List ℕ) → UsedPagesAreOfExtents → (n : ℕ) → IsUsed file n

@@ -1,5 +1,7 @@
 -- The owner of a page, as it is found.
-use Rattle.std.proofs.Common.{◌≡◌, ◌≢◌, ℕ, suc, ◌+◌, ◌-◌, ◌*◌, ◌/◌, ◌%◌, ◌<◌, ◌≤◌, Bool, true, false, cond, nat_lt, ◌==◌, List, length, get_or, slice_get, map, Contains, Some, refl, sym, ◌∙◌, ap, subst, inl, inr, arith, lt-ltb}
+use Rattle.std.proofs.Common.{◌≡◌, ◌≢◌, ℕ, suc, ◌+◌, ◌-◌, ◌*◌, ◌/◌, ◌%◌, ◌<◌, ◌≤◌, Bool, true, false, cond, nat_lt}
+use Rattle.std.proofs.Common.{◌==◌, List, length, get_or, slice_get, map, Contains, Some, refl, sym, ◌∙◌, ap, subst}
+use Rattle.std.proofs.Common.{inl, inr, arith, lt-ltb}
 use Rattle.std.specs.List.{list_any}
 use lib.ListN.{get_or-map}
 use Rattle.std.proofs.lemmas.Bool.Decides.{Decides-eqb, eqb_tells, leb_tells}
@@ -16,8 +18,10 @@ use Rattle.space_audit.proofs.Fragments.{state_fragment}
 use Rattle.inode_segments.specs.Inodes.{inode_pages, segments, slot_pages}
 use Rattle.inode_segments.specs.Kept.{InodesView}
 use Rattle.space_audit.specs.declared.owner.Owner.{Owner}
-use Rattle.space_audit.specs.declared.owner.Owner.TheVariants.{System, InodePage, Used, Spare, FragmentFree, FreeExtent, Beyond}
-use Rattle.space_audit.specs.Owners.{system_pages, owner_of, owner_in_segment, owner_in_fragment, segment_with_id, segment_with_slot, owner_by, owner_by_holder, owner_at_home, IsSmall}
+use Rattle.space_audit.specs.declared.owner.Owner.TheVariants.{System, InodePage, Used, Spare, FragmentFree, FreeExtent}
+use Rattle.space_audit.specs.declared.owner.Owner.TheVariants.{Beyond}
+use Rattle.space_audit.specs.Owners.{system_pages, owner_of, owner_in_segment, owner_in_fragment, segment_with_id}
+use Rattle.space_audit.specs.Owners.{segment_with_slot, owner_by, owner_by_holder, owner_at_home, IsSmall}
 use Rattle.space_audit.specs.Audit.{fragment_claims}
 use Rattle.space_audit.specs.Lists.{home_part}
 use Rattle.space_audit.specs.Holders.{inode_holder, no_holder, many_holders, held_after, claims_in}

@@ -1,9 +1,11 @@
 -- What a used page is, and a page of a fragment extent.
-use Rattle.std.proofs.Common.{◌≡◌, ℕ, ◌/◌, ◌%◌, ◌<◌, ◌≤◌, Bool, true, false, not, ◌&&◌, ◌||◌, nat_lt, ◌==◌, List, refl, subst, ap, inl, inr, arith, ltb-true}
+use Rattle.std.proofs.Common.{◌≡◌, ℕ, ◌/◌, ◌%◌, ◌<◌, ◌≤◌, Bool, true, false, not, ◌&&◌, ◌||◌, nat_lt, ◌==◌, List, refl}
+use Rattle.std.proofs.Common.{subst, ap, inl, inr, arith, ltb-true}
 use Rattle.std.proofs.lemmas.Bool.{false≢true}
 use Rattle.std.proofs.lemmas.Bool.Decides.{eqb_tells}
 use Rattle.space_header.specs.Header.{limit_of}
-use Rattle.extent_map.specs.Extents.{is_used, IsUsed, extent_count, is_fragment_extent, is_fragment_page, is_system_page, extent_state}
+use Rattle.extent_map.specs.Extents.{is_used, IsUsed, extent_count, is_fragment_extent, is_fragment_page}
+use Rattle.extent_map.specs.Extents.{is_system_page, extent_state}
 
 pub and_left : (a b : Bool) → (a && b) ≡ true → a ≡ true
 and_left true b h = refl

@@ -1,11 +1,14 @@
 -- The holders of pages against the claims of the file, and the owner that they make.
-use Rattle.std.proofs.Common.{◌≡◌, ◌≢◌, ◌⊎◌, ◌↔◌, ℕ, zero, suc, ◌+◌, ◌/◌, ◌<◌, ◌≤◌, Bool, true, false, cond, not, eqb, ◌==◌, List, [], ◌∷◌, ◌++◌, length, get_or, slice_get, map, flat_map, filter, Contains, Option, Some, None, refl, sym, ◌∙◌, ap, subst, inl, inr, arith}
+use Rattle.std.proofs.Common.{◌≡◌, ◌≢◌, ◌⊎◌, ◌↔◌, ℕ, zero, suc, ◌+◌, ◌/◌, ◌<◌, ◌≤◌, Bool, true, false, cond, not, eqb}
+use Rattle.std.proofs.Common.{◌==◌, List, [], ◌∷◌, ◌++◌, length, get_or, slice_get, map, flat_map, filter, Contains}
+use Rattle.std.proofs.Common.{Option, Some, None, refl, sym, ◌∙◌, ap, subst, inl, inr, arith}
 use Rattle.std.specs.List.{range_with_len, list_any}
 use Rattle.std.proofs.lemmas.List.{map-append}
 use Rattle.std.proofs.lemmas.List.Elements.{Contains-append_cases, Contains-append_right, Contains-append_left}
 use Rattle.page_source.specs.Pages.{fil_null}
 use Rattle.page_source.specs.Lists.{times_in}
-use Rattle.page_source.proofs.Members.{contains_none, contains_here, contains_there, contains_cases, filter_contains, contains_range, distinct_range}
+use Rattle.page_source.proofs.Members.{contains_none, contains_here, contains_there, contains_cases, filter_contains}
+use Rattle.page_source.proofs.Members.{contains_range, distinct_range}
 use Rattle.page_source.proofs.Times.{one_if, times_append, times_filter, times_once}
 use Rattle.space_header.specs.declared.address.Address.{Address}
 use Rattle.space_header.specs.Header.{limit_of}
@@ -15,7 +18,8 @@ use Rattle.space_audit.specs.declared.owner.Owner.{Owner}
 use Rattle.space_audit.specs.declared.owner.Owner.TheVariants.{System, InodePage, Used}
 use Rattle.space_audit.specs.Owners.{system_pages}
 use Rattle.space_audit.specs.Audit.{fragment_claims}
-use Rattle.space_audit.specs.Holders.{inode_holder, Claim, no_holder, many_holders, held_after, claims_of, inode_claims, claims_from, claims_in, IsOnce}
+use Rattle.space_audit.specs.Holders.{inode_holder, Claim, no_holder, many_holders, held_after, claims_of, inode_claims}
+use Rattle.space_audit.specs.Holders.{claims_from, claims_in, IsOnce}
 use Rattle.space_audit.proofs.Held.{claimed_pages, Holders, Holder, once_from_holder, holder_from_once, held_one}
 
 pub pages_claimed : (who : ℕ) (xs : List ℕ)

@@ -1,5 +1,7 @@
 -- The extents with the number of a list are those whose home it is.
-use Rattle.std.proofs.Common.{◌≡◌, ℕ, zero, suc, [], ◌∷◌, ◌+◌, ◌-◌, ◌*◌, ◌<◌, ◌≤◌, Bool, true, ◌==◌, ◌&&◌, nat_lt, List, length, get_or, slice_get, map, filter, Contains, Option, Some, None, refl, sym, ◌∙◌, ap, subst, inl, inr, arith, lt-ltb, ltb-true}
+use Rattle.std.proofs.Common.{◌≡◌, ℕ, zero, suc, [], ◌∷◌, ◌+◌, ◌-◌, ◌*◌, ◌<◌, ◌≤◌, Bool, true, ◌==◌, ◌&&◌, nat_lt, List}
+use Rattle.std.proofs.Common.{length, get_or, slice_get, map, filter, Contains, Option, Some, None, refl, sym, ◌∙◌, ap}
+use Rattle.std.proofs.Common.{subst, inl, inr, arith, lt-ltb, ltb-true}
 use Rattle.std.specs.List.{range_with_len, position_or_len}
 use Rattle.std.proofs.lemmas.List.FromFn.{length-map-range_with_len, get_or-map-range_with_len}
 use Rattle.std.proofs.lemmas.List.{length-map}
@@ -16,7 +18,8 @@ use Rattle.extent_map.specs.Extents.{extent_of, extent_count, extent_state, used
 use Rattle.extent_map.specs.Descriptors.{IsExtent}
 use Rattle.space_audit.proofs.Fragments.{and_left, and_right, both_true}
 use Rattle.inode_segments.specs.Inodes.{segments, segment_id}
-use Rattle.space_audit.specs.Lists.{HomeListChecks, at_home, extents_in_state, is_extent_of, segment_extents, home_part, home_number, homes_of}
+use Rattle.space_audit.specs.Lists.{HomeListChecks, at_home, extents_in_state, is_extent_of, segment_extents, home_part}
+use Rattle.space_audit.specs.Lists.{home_number, homes_of}
 use Rattle.space_audit.proofs.AtHome.{has_home, home_of_member}
 use Rattle.space_audit.proofs.OwnerFacts.{by_id, passes_there}
 

@@ -1,5 +1,7 @@
 -- The used pages of the extents with a home.
-use Rattle.std.proofs.Common.{◌≡◌, ℕ, ◌+◌, ◌*◌, ◌<◌, Bool, true, false, cond, ◌&&◌, nat_lt, ◌==◌, List, [], ◌∷◌, get_or, slice_get, filter, sum_by, take, Contains, Some, None, refl, sym, ◌∙◌, ap, subst, inl, inr, arith}
+use Rattle.std.proofs.Common.{◌≡◌, ℕ, ◌+◌, ◌*◌, ◌<◌, Bool, true, false, cond, ◌&&◌, nat_lt, ◌==◌, List, [], ◌∷◌, get_or}
+use Rattle.std.proofs.Common.{slice_get, filter, sum_by, take, Contains, Some, None, refl, sym, ◌∙◌, ap, subst, inl}
+use Rattle.std.proofs.Common.{inr, arith}
 use Rattle.std.specs.List.{range_with_len}
 use Rattle.std.proofs.lemmas.Bool.{cases_lt}
 use Rattle.std.proofs.lemmas.List.Sums.{sum_by-cons}
@@ -12,7 +14,8 @@ use Rattle.extent_map.specs.Laws.{UsedPagesAreOfExtents}
 use Rattle.inode_segments.specs.declared.inode.Inode.{Inode}
 use Rattle.inode_segments.specs.Inodes.{segments, segment_id}
 use Rattle.inode_segments.specs.Kept.{InodesView}
-use Rattle.space_audit.specs.Lists.{HomesView, AreHomes, at_home, homes_of, uses_of, used_at_home, extents_in_state, is_extent_of, segment_extents, not_full_extents}
+use Rattle.space_audit.specs.Lists.{HomesView, AreHomes, at_home, homes_of, uses_of, used_at_home, extents_in_state}
+use Rattle.space_audit.specs.Lists.{is_extent_of, segment_extents, not_full_extents}
 use Rattle.space_audit.specs.Audit.{HasNotFullCount, CountCheck}
 use Rattle.space_audit.specs.Read.{IsRead}
 use Rattle.space_audit.proofs.HomeNumbers.{space_home, own_home, homes_length, part_of_some, some_of_part}

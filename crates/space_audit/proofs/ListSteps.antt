@@ -1,5 +1,7 @@
 -- The checks of lists by numbers are those of the file's lists.
-use Rattle.std.proofs.Common.{◌≡◌, ℕ, zero, suc, [], ◌∷◌, ◌+◌, ◌*◌, ◌<◌, ◌≤◌, ◌==◌, ◌&&◌, nat_lt, List, length, get_or, slice_get, map, take, Option, Some, None, refl, sym, ◌∙◌, ap, subst, inl, inr, arith, Result, Ok, Err}
+use Rattle.std.proofs.Common.{◌≡◌, ℕ, zero, suc, [], ◌∷◌, ◌+◌, ◌*◌, ◌<◌, ◌≤◌, ◌==◌, ◌&&◌, nat_lt, List, length, get_or}
+use Rattle.std.proofs.Common.{slice_get, map, take, Option, Some, None, refl, sym, ◌∙◌, ap, subst, inl, inr, arith}
+use Rattle.std.proofs.Common.{Result, Ok, Err}
 use Rattle.std.proofs.lemmas.Bool.Decides.{Decides-eqb}
 use Rattle.std.proofs.lemmas.Bool.{cases_lt}
 use Rattle.page_source.specs.declared.rule.Fault.{Fault}
@@ -20,10 +22,14 @@ use Rattle.inode_segments.specs.Inodes.{segments, segment_id, inode_of, inodes_o
 use Rattle.inode_segments.specs.Kept.{InodesView}
 use lib.ListN.{get_or-map}
 use Rattle.std.proofs.lemmas.List.{length-map}
-use Rattle.space_audit.specs.Lists.{HomeList, HomeListChecks, ThreeChecks, SegmentListsCheck, HomeCheck, NumberCheck, ListChecks, IsListed, at_home, free_list, free_frag_list, full_frag_list, free_extents, not_full_extents, full_extents, homes_of, numbered_list}
+use Rattle.space_audit.specs.Lists.{HomeList, HomeListChecks, ThreeChecks, SegmentListsCheck, HomeCheck, NumberCheck}
+use Rattle.space_audit.specs.Lists.{ListChecks, IsListed, at_home, free_list, free_frag_list, full_frag_list}
+use Rattle.space_audit.specs.Lists.{free_extents, not_full_extents, full_extents, homes_of, numbered_list}
 use Rattle.extent_map.specs.Extents.{extent_nodes}
 use Rattle.space_audit.proofs.OwnerFacts.{get_at}
-use Rattle.space_audit.proofs.HomeNumbers.{space_home, own_home, same_home_checks, homes_length, home_at, home_from_number, number_from_home, part_free, part_full, part_of_free, part_of_full, part_of_some, some_of_part}
+use Rattle.space_audit.proofs.HomeNumbers.{space_home, own_home, same_home_checks, homes_length, home_at}
+use Rattle.space_audit.proofs.HomeNumbers.{home_from_number, number_from_home, part_free, part_full, part_of_free}
+use Rattle.space_audit.proofs.HomeNumbers.{part_of_full, part_of_some, some_of_part}
 
 then_map : {F : Type 0} (x y z w : Option F → Type 0) → ((v : Option F) → x v → z v) → ((v : Option F) → y v → w v)
     → (v : Option F) → Then x y v → Then z w v

@@ -1,24 +1,31 @@
 -- A segment uses exactly the used pages that it claims.
-use Rattle.std.proofs.Common.{◌≡◌, ◌⊎◌, ℕ, zero, suc, ◌+◌, ◌/◌, ◌<◌, ◌≤◌, Bool, true, false, cond, ◌||◌, nat_lt, ◌==◌, List, [], ◌∷◌, ◌++◌, length, get_or, slice_get, map, flat_map, sum_by, Contains, Some, refl, sym, ◌∙◌, ap, subst, inl, inr, arith, lt-ltb}
+use Rattle.std.proofs.Common.{◌≡◌, ◌⊎◌, ℕ, zero, suc, ◌+◌, ◌/◌, ◌<◌, ◌≤◌, Bool, true, false, cond, ◌||◌, nat_lt, ◌==◌}
+use Rattle.std.proofs.Common.{List, [], ◌∷◌, ◌++◌, length, get_or, slice_get, map, flat_map, sum_by, Contains, Some}
+use Rattle.std.proofs.Common.{refl, sym, ◌∙◌, ap, subst, inl, inr, arith, lt-ltb}
 use Rattle.std.specs.List.{range_with_len, list_any, position_or_len}
 use lib.ListN.{get_or-map}
 use Rattle.std.proofs.lemmas.List.{length-map}
 use Rattle.std.proofs.lemmas.Bool.{false≢true}
 use Rattle.std.proofs.lemmas.Bool.Decides.{Decides-eqb, eqb_tells}
 use Rattle.std.proofs.lemmas.List.Sums.{sum_by-cons, get_or-le-sum_by, position_or_len_is, passes_at_first}
-use Rattle.std.proofs.lemmas.List.Elements.{Contains-get_or, Contains-append_cases, Contains-append_left, Contains-append_right}
+use Rattle.std.proofs.lemmas.List.Elements.{Contains-get_or, Contains-append_cases, Contains-append_left}
+use Rattle.std.proofs.lemmas.List.Elements.{Contains-append_right}
 use Rattle.page_source.specs.Lists.{AreDistinct, times_in}
-use Rattle.page_source.proofs.Members.{contains_none, contains_here, contains_there, contains_cases, contains_filter, filter_contains, contains_range, contains_flat_map, flat_map_contains}
+use Rattle.page_source.proofs.Members.{contains_none, contains_here, contains_there, contains_cases, contains_filter}
+use Rattle.page_source.proofs.Members.{filter_contains, contains_range, contains_flat_map, flat_map_contains}
 use Rattle.page_source.proofs.Times.{times_append, times_flat_map, times_some}
 use Rattle.space_header.specs.declared.address.Address.{Address}
 use Rattle.space_header.specs.Header.{limit_of}
-use Rattle.extent_map.specs.Extents.{extent_of, extent_count, extent_state, is_used, IsUsed, used_in, is_fragment_extent, is_system_page}
+use Rattle.extent_map.specs.Extents.{extent_of, extent_count, extent_state, is_used, IsUsed, used_in}
+use Rattle.extent_map.specs.Extents.{is_fragment_extent, is_system_page}
 use Rattle.space_audit.proofs.Fragments.{and_left, and_right, both_true, used_below, used_extent, fragment_not_own}
 use Rattle.inode_segments.specs.Inodes.{inode_pages, segments, segment_id, slot_pages}
 use Rattle.space_audit.specs.declared.owner.Owner.{Owner}
-use Rattle.space_audit.specs.declared.owner.Owner.TheVariants.{System, InodePage, Used, Spare, FragmentFree, FreeExtent, Beyond}
+use Rattle.space_audit.specs.declared.owner.Owner.TheVariants.{System, InodePage, Used, Spare, FragmentFree, FreeExtent}
+use Rattle.space_audit.specs.declared.owner.Owner.TheVariants.{Beyond}
 use Rattle.space_audit.specs.Lists.{is_extent_of, segment_extents}
-use Rattle.space_audit.specs.Owners.{system_pages, claim_of, owner_of, owner_in_segment, owner_in_fragment, segment_with_id, segment_with_slot, IsUsedBy}
+use Rattle.space_audit.specs.Owners.{system_pages, claim_of, owner_of, owner_in_segment, owner_in_fragment}
+use Rattle.space_audit.specs.Owners.{segment_with_id, segment_with_slot, IsUsedBy}
 use Rattle.space_audit.specs.Audit.{IsFragmentUse, IsUsedFragment, fragment_claims}
 use Rattle.space_audit.proofs.Claims.{HasClaims, fragment_use, used_in_has, used_in_only}
 

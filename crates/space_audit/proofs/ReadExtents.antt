@@ -1,5 +1,8 @@
 -- What is read of the extents, against the file.
-use Rattle.std.proofs.Common.{◌≡◌, ℕ, zero, suc, ◌+◌, ◌*◌, ◌/◌, ◌<◌, ◌≤◌, Bool, true, false, cond, not, ◌==◌, eqb, List, [], ◌∷◌, ◌++◌, length, get_or, set, slice_get, map, filter, sum_by, Some, refl, sym, ◌∙◌, ap, subst, inl, inr, arith, get_or-set_same, get_or-set_other, add-one, add-zero, length-append, length-set}
+use Rattle.std.proofs.Common.{◌≡◌, ℕ, zero, suc, ◌+◌, ◌*◌, ◌/◌, ◌<◌, ◌≤◌, Bool, true, false, cond, not, ◌==◌, eqb, List}
+use Rattle.std.proofs.Common.{[], ◌∷◌, ◌++◌, length, get_or, set, slice_get, map, filter, sum_by, Some, refl, sym, ◌∙◌}
+use Rattle.std.proofs.Common.{ap, subst, inl, inr, arith, get_or-set_same, get_or-set_other, add-one, add-zero}
+use Rattle.std.proofs.Common.{length-append, length-set}
 use Rattle.std.specs.List.{range_with_len, position_or_len, prefix_len}
 use Rattle.std.proofs.lemmas.Bool.{cases_lt}
 use lib.ListN.{get_or-eq_default}
@@ -11,7 +14,8 @@ use Rattle.page_source.proofs.Members.{range_more}
 use Rattle.page_source.proofs.Times.{one_if}
 use Rattle.space_header.specs.declared.address.Address.{Address}
 use Rattle.extent_map.specs.declared.extent.Extent.{Extent}
-use Rattle.extent_map.specs.Extents.{AreExtents, extents_of, extent_of, extent_count, extent_state, is_used, used_in, used_count, extent_pages}
+use Rattle.extent_map.specs.Extents.{AreExtents, extents_of, extent_of, extent_count, extent_state, is_used, used_in}
+use Rattle.extent_map.specs.Extents.{used_count, extent_pages}
 use Rattle.inode_segments.specs.Inodes.{segments, segment_id}
 use Rattle.space_audit.specs.Numbering.{place_in}
 use Rattle.space_audit.specs.Lists.{home_by, home_number, homes_of, uses_of}

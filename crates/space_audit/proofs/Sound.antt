@@ -9,10 +9,13 @@ use Rattle.inode_segments.specs.Inodes.{segments, inode_of}
 use Rattle.inode_segments.specs.InodeChecks.{AreInodes}
 use Rattle.inode_segments.specs.Laws.{InodeChecksAreSound}
 use Rattle.space_header.specs.declared.address.Node.{Node}
-use Rattle.space_audit.specs.Lists.{HomeList, ListChecks, HomeListChecks, ThreeChecks, HoldThree, HasHome, free_list, free_frag_list, full_frag_list, segment_free_list, segment_not_full_list, segment_full_list}
+use Rattle.space_audit.specs.Lists.{HomeList, ListChecks, HomeListChecks, ThreeChecks, HoldThree, HasHome, free_list}
+use Rattle.space_audit.specs.Lists.{free_frag_list, full_frag_list, segment_free_list, segment_not_full_list}
+use Rattle.space_audit.specs.Lists.{segment_full_list}
 use Rattle.extent_map.specs.Extents.{extent_nodes}
 use Rattle.space_audit.specs.Owners.{claim_of, IsPartition, IsUsedBy}
-use Rattle.space_audit.specs.Audit.{UseChecks, OwnerChecks, AuditChecks, HasExtents, IsSlot, IsUsedFragment, HasFragmentCount, HasNotFullCount, fragment_claims, IsSoundSpace}
+use Rattle.space_audit.specs.Audit.{UseChecks, OwnerChecks, AuditChecks, HasExtents, IsSlot, IsUsedFragment}
+use Rattle.space_audit.specs.Audit.{HasFragmentCount, HasNotFullCount, fragment_claims, IsSoundSpace}
 use Rattle.space_audit.proofs.Fragments.{used_below}
 use Rattle.space_audit.proofs.Claims.{HasClaims, partition, fragment_once, used_within}
 use Rattle.space_audit.proofs.OwnerFacts.{used_is_claimed, claimed_is_used}

@@ -1,12 +1,14 @@
 -- The checks of the whole space: head, descriptors, inodes, lists, use and frames.
-use Rattle.std.specs.Prelude.{◌≡◌, ◌≢◌, ℕ, ◌+◌, ◌*◌, ◌/◌, ◌%◌, ◌<◌, ◌⊎◌, ⊤, true, ◌==◌, if◌then◌else◌, List, ◌++◌, flat_map, sum_by, All, Option}
+use Rattle.std.specs.Prelude.{◌≡◌, ◌≢◌, ℕ, ◌+◌, ◌*◌, ◌/◌, ◌%◌, ◌<◌, ◌⊎◌, ⊤, true, ◌==◌, if◌then◌else◌, List, ◌++◌}
+use Rattle.std.specs.Prelude.{flat_map, sum_by, All, Option}
 use Rattle.page_source.specs.declared.rule.Rule.TheVariants.{FragmentSlot, UseCounts, PageOwner, Frame, PageKind}
 use Rattle.page_source.specs.declared.rule.Fault.{Fault}
 use Rattle.page_source.specs.Pages.{page_of, fil_null}
 use Rattle.page_source.specs.Lists.{times_in}
 use Rattle.page_source.specs.Verdict.{Then, Where, Each, EachOf}
 use Rattle.page_source.specs.Answers.{Holds}
-use Rattle.fil_frame.specs.Kinds.{allocated_kind, inode_kind, bitmap_kind, header_kind, descriptor_kind, blob_kind, index_kind}
+use Rattle.fil_frame.specs.Kinds.{allocated_kind, inode_kind, bitmap_kind, header_kind, descriptor_kind, blob_kind}
+use Rattle.fil_frame.specs.Kinds.{index_kind}
 use Rattle.fil_frame.specs.Frame.{Framed, kind_of}
 use Rattle.space_header.specs.declared.address.Address.{Address}
 use Rattle.space_header.specs.Header.{head_of, size_of, limit_of}
@@ -17,7 +19,9 @@ use Rattle.inode_segments.specs.Inodes.{segments, inode_of, inode_pages, slot_pa
 use Rattle.inode_segments.specs.InodeChecks.{AllInodeChecks, AreInodes}
 use Rattle.space_audit.specs.declared.owner.Owner.{Owner}
 use Rattle.space_audit.specs.declared.owner.Owner.TheVariants as owners
-use Rattle.space_audit.specs.Lists.{ListChecks, free_list, free_frag_list, full_frag_list, segment_free_list, segment_not_full_list, segment_full_list, extents_in_state, not_full_extents, HoldThree, HasHome}
+use Rattle.space_audit.specs.Lists.{ListChecks, free_list, free_frag_list, full_frag_list, segment_free_list}
+use Rattle.space_audit.specs.Lists.{segment_not_full_list, segment_full_list, extents_in_state, not_full_extents}
+use Rattle.space_audit.specs.Lists.{HoldThree, HasHome}
 use Rattle.extent_map.specs.Extents.{extent_nodes}
 use Rattle.space_audit.specs.Owners.{system_pages, owner_of, IsPartition}
 

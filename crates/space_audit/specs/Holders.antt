@@ -1,6 +1,7 @@
 -- The holders of pages, as claims come one by one: of each page none, the one that claimed it, or that there were
 -- many.
-use Rattle.std.specs.Prelude.{◌≡◌, ◌≢◌, ℕ, ◌<◌, ◌≤◌, Bool, true, not, ◌==◌, if◌then◌else◌, List, suc, [], ◌∷◌, ◌++◌, length, map, filter, slice_index}
+use Rattle.std.specs.Prelude.{◌≡◌, ◌≢◌, ℕ, ◌<◌, ◌≤◌, Bool, true, not, ◌==◌, if◌then◌else◌, List, suc, [], ◌∷◌, ◌++◌}
+use Rattle.std.specs.Prelude.{length, map, filter, slice_index}
 use Rattle.page_source.specs.Pages.{fil_null}
 use Rattle.page_source.specs.Lists.{flag_in}
 use Rattle.space_header.specs.declared.address.Address.{Address}

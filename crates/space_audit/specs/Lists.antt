@@ -1,5 +1,6 @@
 -- On which list each extent must stand (fsp0fsp).
-use Rattle.std.specs.Prelude.{◌≡◌, ℕ, ◌+◌, ◌-◌, ◌*◌, ◌<◌, if◌then◌else◌, length, slice_index, Bool, ◌&&◌, nat_lt, ◌==◌, List, sum_by, filter, flat_map, map, Contains, Option, Some, slice_get, slice_index_or}
+use Rattle.std.specs.Prelude.{◌≡◌, ℕ, ◌+◌, ◌-◌, ◌*◌, ◌<◌, if◌then◌else◌, length, slice_index, Bool, ◌&&◌, nat_lt, ◌==◌}
+use Rattle.std.specs.Prelude.{List, sum_by, filter, flat_map, map, Contains, Option, Some, slice_get, slice_index_or}
 use Rattle.std.specs.List.{range_with_len, position_or_len}
 use Rattle.page_source.specs.declared.rule.Rule.TheVariants.{ExtentList, ExtentHome}
 use Rattle.page_source.specs.declared.rule.Fault.{Fault}

@@ -1,5 +1,6 @@
 -- What claims each page, and who owns it (fsp0fsp).
-use Rattle.std.specs.Prelude.{◌≡◌, ℕ, ◌-◌, ◌/◌, ◌<◌, ◌≤◌, ⊤, ◌==◌, nat_lt, if◌then◌else◌, List, length, slice_index, Bool, ◌++◌, filter, flat_map, All}
+use Rattle.std.specs.Prelude.{◌≡◌, ℕ, ◌-◌, ◌/◌, ◌<◌, ◌≤◌, ⊤, ◌==◌, nat_lt, if◌then◌else◌, List, length, slice_index}
+use Rattle.std.specs.Prelude.{Bool, ◌++◌, filter, flat_map, All}
 use Rattle.std.specs.List.{range_with_len, list_any, position_or_len}
 use Rattle.page_source.specs.Lists.{times_in}
 use Rattle.space_header.specs.declared.address.Address.{Address}
@@ -7,7 +8,8 @@ use Rattle.space_header.specs.Header.{size_of, limit_of}
 use Rattle.extent_map.specs.Extents.{extent_of, extent_state, is_used, IsUsed, used_in, is_system_page}
 use Rattle.inode_segments.specs.Inodes.{inode_pages, segments, segment_id, slot_pages}
 use Rattle.space_audit.specs.declared.owner.Owner.{Owner}
-use Rattle.space_audit.specs.declared.owner.Owner.TheVariants.{System, InodePage, Used, Spare, FragmentFree, FreeExtent, Beyond}
+use Rattle.space_audit.specs.declared.owner.Owner.TheVariants.{System, InodePage, Used, Spare, FragmentFree, FreeExtent}
+use Rattle.space_audit.specs.declared.owner.Owner.TheVariants.{Beyond}
 use Rattle.space_audit.specs.Lists.{segment_extents}
 
 -- the system pages below the free limit

@@ -1,5 +1,6 @@
 -- What is known of a file once its extents and its inodes are read.
-use Rattle.std.specs.Prelude.{◌≡◌, ℕ, ◌<◌, ◌≤◌, List, Bool, if◌then◌else◌, length, map, filter, slice_index, Option, Some, None}
+use Rattle.std.specs.Prelude.{◌≡◌, ℕ, ◌<◌, ◌≤◌, List, Bool, if◌then◌else◌, length, map, filter, slice_index, Option}
+use Rattle.std.specs.Prelude.{Some, None}
 use Rattle.std.specs.List.{range_with_len}
 use Rattle.page_source.specs.Pages.{page_of, page_count}
 use Rattle.page_source.specs.Lists.{flag_in}

@@ -1,5 +1,6 @@
 -- What is known of an audited space.
-use Rattle.std.specs.Prelude.{◌≡◌, ℕ, ◌+◌, ◌*◌, ◌<◌, ◌≤◌, ◌==◌, Bool, ◌&&◌, List, length, map, filter, slice_index, Option, Some, None}
+use Rattle.std.specs.Prelude.{◌≡◌, ℕ, ◌+◌, ◌*◌, ◌<◌, ◌≤◌, ◌==◌, Bool, ◌&&◌, List, length, map, filter, slice_index}
+use Rattle.std.specs.Prelude.{Option, Some, None}
 use Rattle.std.specs.List.{range_with_len, position_or_len}
 use Rattle.page_source.specs.Pages.{page_of, page_count}
 use Rattle.fil_frame.specs.Frame.{kind_of, space_of}

@@ -1,9 +1,11 @@
 -- A base and nodes link one list at the most, and its members differ.
-use Rattle.std.proofs.Common.{◌≡◌, ℕ, ◌+◌, ◌*◌, ◌/◌, ◌%◌, ◌<◌, ◌≤◌, List, [], ◌∷◌, length, All, Contains, Option, Some, None, refl, sym, ◌∙◌, ap, subst, inl, inr, arith}
+use Rattle.std.proofs.Common.{◌≡◌, ℕ, ◌+◌, ◌*◌, ◌/◌, ◌%◌, ◌<◌, ◌≤◌, List, [], ◌∷◌, length, All, Contains, Option, Some}
+use Rattle.std.proofs.Common.{None, refl, sym, ◌∙◌, ap, subst, inl, inr, arith}
 use Rattle.std.proofs.lemmas.List.Elements.{All-head, All-tail, All-contains}
 use Rattle.page_source.specs.Pages.{fil_null}
 use Rattle.page_source.specs.Lists.{AreDistinct}
-use Rattle.page_source.proofs.Members.{contains_none, contains_here, contains_there, contains_cases, distinct_none, distinct_cons}
+use Rattle.page_source.proofs.Members.{contains_none, contains_here, contains_there, contains_cases, distinct_none}
+use Rattle.page_source.proofs.Members.{distinct_cons}
 use Rattle.space_header.specs.declared.address.Address.{Address}
 use Rattle.space_header.specs.declared.address.Base.{Base}
 use Rattle.space_header.specs.declared.address.Node.{Node}

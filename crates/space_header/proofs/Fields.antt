@@ -8,7 +8,8 @@ use Rattle.space_header.specs.declared.address.Base.{Base}
 use Rattle.space_header.specs.declared.address.Node.{Node}
 use Rattle.space_header.specs.declared.header.SpaceHeader.{SpaceHeader}
 use Rattle.space_header.specs.Header.{address_at, base_at, node_at, header_of}
-use Rattle.space_header.specs.Writing.{FitsBase, FitsNode, FitsHeader, address_bytes, base_bytes, node_bytes, header_bytes, with_header}
+use Rattle.space_header.specs.Writing.{FitsBase, FitsNode, FitsHeader, address_bytes, base_bytes, node_bytes}
+use Rattle.space_header.specs.Writing.{header_bytes, with_header}
 
 -- what has the same fields is the same
 same_address : (a b : Address) → a.page ≡ b.page → a.offset ≡ b.offset → a ≡ b

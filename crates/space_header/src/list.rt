@@ -1,6 +1,7 @@
 //! The extents of a list, in order.
 
-ghost use Rattle.std.specs.Prelude.{◌≡◌, ◌≢◌, ◌↔◌, ◌+◌, ◌<◌, ◌≤◌, IsTrue, List, ℕ, length, vec_len, Option, IfNone, IfSome, IfOk, Some, None};
+ghost use Rattle.std.specs.Prelude.{◌≡◌, ◌≢◌, ◌↔◌, ◌+◌, ◌<◌, ◌≤◌, IsTrue, List, ℕ, length, vec_len, Option, IfNone};
+ghost use Rattle.std.specs.Prelude.{IfSome, IfOk, Some, None};
 ghost use Rattle.space_header.specs.Header.{extent_address};
 ghost use Rattle.space_header.specs.Linked.{PointsTo, LinksExtents};
 

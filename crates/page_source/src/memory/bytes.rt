@@ -1,6 +1,7 @@
 //! A text in memory that is read.
 
-ghost use Rattle.std.specs.Prelude.{◌≡◌, ◌↔◌, ◌<◌, ◌≤◌, ◌++◌, min, Some, length, take, drop, IfOk, OnErr, IsErr, is_err};
+ghost use Rattle.std.specs.Prelude.{◌≡◌, ◌↔◌, ◌<◌, ◌≤◌, ◌++◌, min, Some, length, take, drop, IfOk, OnErr, IsErr};
+ghost use Rattle.std.specs.Prelude.{is_err};
 ghost use Rattle.page_source.specs.Faults.{HasCause};
 ghost use Rattle.page_source.specs.Memory.{HeldBytes, fresh_log, after_call, IsListed};
 

@@ -1,6 +1,7 @@
 //! A text in memory that is written.
 
-ghost use Rattle.std.specs.Prelude.{◌≡◌, ◌↔◌, ◌⊎◌, ◌+◌, ◌<◌, ◌≤◌, [], ◌++◌, Some, length, vec_len, vec_capacity, IfOk, OnOk, OnErr, IsErr, is_err};
+ghost use Rattle.std.specs.Prelude.{◌≡◌, ◌↔◌, ◌⊎◌, ◌+◌, ◌<◌, ◌≤◌, [], ◌++◌, Some, length, vec_len, vec_capacity, IfOk};
+ghost use Rattle.std.specs.Prelude.{OnOk, OnErr, IsErr, is_err};
 ghost use Rattle.page_source.specs.Faults.{HasCause};
 ghost use Rattle.page_source.specs.Memory.{HeldText, fresh_log, after_call, IsListed};
 

@@ -1,9 +1,11 @@
-use Rattle.std.proofs.Common.{◌≡◌, ◌∙◌, sym, ap, ℕ, ◌+◌, ◌-◌, ◌/◌, ◌%◌, ◌*◌, ◌^◌, ◌<◌, ◌≤◌, ◌++◌, List, length, slice_index, drop, sum, refl, arith, append_assoc, pow-add, subst}
+use Rattle.std.proofs.Common.{◌≡◌, ◌∙◌, sym, ap, ℕ, ◌+◌, ◌-◌, ◌/◌, ◌%◌, ◌*◌, ◌^◌, ◌<◌, ◌≤◌, ◌++◌, List, length}
+use Rattle.std.proofs.Common.{slice_index, drop, sum, refl, arith, append_assoc, pow-add, subst}
 use Rattle.std.proofs.Math.Nat.{pow-le-pow_right}
 use Rattle.page_source.specs.Pages.{be_bytes}
 use Rattle.column_values.specs.Lengths.{group_length, decimal_groups}
 use Rattle.column_values.specs.Decimals.{grouped}
-use Rattle.column_values.proofs.Groups.{sum_drop, sum_whole, sum-groups, some_power, first_digits, last_digits, group_fits, grouped_step}
+use Rattle.column_values.proofs.Groups.{sum_drop, sum_whole, sum-groups, some_power, first_digits, last_digits}
+use Rattle.column_values.proofs.Groups.{group_fits, grouped_step}
 use Rattle.column_values.proofs.decimals.plain_bytes.Goals as goal
 
 pub ten_to-power-requires : goal.ten_to-power-requires

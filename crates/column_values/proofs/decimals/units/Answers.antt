@@ -1,10 +1,13 @@
-use Rattle.std.proofs.Common.{◌≡◌, ◌∙◌, sym, ap, ℕ, ◌+◌, ◌*◌, ◌^◌, ◌<◌, ◌≤◌, List, [], length, slice_index, take, drop, sum, refl, arith, subst}
+use Rattle.std.proofs.Common.{◌≡◌, ◌∙◌, sym, ap, ℕ, ◌+◌, ◌*◌, ◌^◌, ◌<◌, ◌≤◌, List, [], length, slice_index, take, drop}
+use Rattle.std.proofs.Common.{sum, refl, arith, subst}
 use Rattle.std.specs.Prelude.{Option, Some, None}
 use Rattle.std.proofs.lemmas.List.{drop_all}
 use Rattle.page_source.specs.Pages.{AreBytes}
 use Rattle.column_values.specs.Lengths.{group_length, decimal_groups}
 use Rattle.column_values.proofs.Bytes.{are_bytes}
-use Rattle.column_values.proofs.Groups.{ungrouped, sum_take, sum_most, sum-groups, few_groups, decimal_length_sum, units_step, units_stop, units_low, power_most, ungrouped-grouped, grouped-ungrouped}
+use Rattle.column_values.proofs.Groups.{ungrouped, sum_take, sum_most, sum-groups, few_groups, decimal_length_sum}
+use Rattle.column_values.proofs.Groups.{units_step, units_stop, units_low, power_most, ungrouped-grouped}
+use Rattle.column_values.proofs.Groups.{grouped-ungrouped}
 use Rattle.column_values.proofs.decimals.units.Goals as goal
 
 pub number_at-requires-clause-inside : goal.number_at-requires-clause-inside

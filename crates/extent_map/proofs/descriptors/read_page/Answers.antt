@@ -1,4 +1,5 @@
-use Rattle.std.proofs.Common.{◌+◌, ◌*◌, ◌∷◌, [], ◌++◌, map, ap, sym, refl, ◌∙◌, arith, length-append, append_assoc, below_more, None}
+use Rattle.std.proofs.Common.{◌+◌, ◌*◌, ◌∷◌, [], ◌++◌, map, ap, sym, refl, ◌∙◌, arith, length-append, append_assoc}
+use Rattle.std.proofs.Common.{below_more, None}
 use Rattle.std.specs.List.{range_with_len}
 use Rattle.std.proofs.lemmas.Result.{err_from_is_err_and}
 use Rattle.std.proofs.lemmas.List.FromFn.{map-range_with_len_more}

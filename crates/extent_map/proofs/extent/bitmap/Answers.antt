@@ -8,7 +8,8 @@ pub loop-i-preserved : goal.loop-i-preserved
 loop-i-preserved c =
     let so_far = c.loop-i.invariant in (
       length-set c.loop-i.bytes c.loop-i.i _ ∙ so_far.0,
-      rw c.four_pages.ensures (fill_by_more (bitmap_byte c.args.used) c.loop-i.bytes c.loop-i.i 0 (omega (arith, so_far.0)) so_far.1),
+      rw c.four_pages.ensures (fill_by_more (bitmap_byte c.args.used) c.loop-i.bytes c.loop-i.i 0
+          (omega (arith, so_far.0)) so_far.1),
     )
 
 pub returns : goal.returns

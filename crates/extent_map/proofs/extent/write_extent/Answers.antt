@@ -33,7 +33,8 @@ returns-clause-read c =
     let at = c.args.at in
     let x = c.args.extent.now in
     let first : length c.write_be.new.page ≡ 16384 =
-    ap length c.write_be.ensures.others ∙ length-with_bytes c.args.page.now at (be_bytes 8 x.id) (omega (arith, size)) ∙ size in
+    ap length c.write_be.ensures.others ∙ length-with_bytes c.args.page.now at (be_bytes 8 x.id) (omega (arith, size))
+    ∙ size in
     ap (λ page. extent_at page at) (fields c)
     ∙ extent_read c.write_be.new.page at x (omega (arith, first)) (omega arith) c.write_be.ensures.number
     (ap (λ page. node_at page (at + 8)) (sym c.write_node.ensures.exact) ∙ c.write_node.ensures.read)

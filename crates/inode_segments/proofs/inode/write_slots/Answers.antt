@@ -2,7 +2,8 @@ use Rattle.std.proofs.Common.{◌≡◌, ◌+◌, ◌*◌, length, take, get_or,
 use Rattle.std.proofs.lemmas.List.{take_all}
 use Rattle.page_source.specs.Pages.{with_bytes, be_bytes}
 use Rattle.inode_segments.specs.Writing.{slots_bytes}
-use Rattle.inode_segments.proofs.Writing.{slots_none, nothing_written, slot_written, slots_written_size, slot_read, slots_read}
+use Rattle.inode_segments.proofs.Writing.{slots_none, nothing_written, slot_written, slots_written_size, slot_read}
+use Rattle.inode_segments.proofs.Writing.{slots_read}
 use Rattle.inode_segments.proofs.inode.write_slots.Goals as goal
 
 pub loop-i-init : goal.loop-i-init

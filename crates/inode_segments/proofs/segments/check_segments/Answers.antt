@@ -3,9 +3,11 @@ use Rattle.std.proofs.lemmas.Bool.{false≢true}
 use Rattle.std.specs.Ordering.{nat_cmp}
 use Rattle.std.specs.BTreeSet.{contains}
 use Rattle.inode_segments.specs.declared.inode.Inode.{Inode}
-use Rattle.inode_segments.proofs.Kept.{segment_there, new_id, is_new, segment_breaks, segment_holds, ids_more, has_more, not_true, not_false}
+use Rattle.inode_segments.proofs.Kept.{segment_there, new_id, is_new, segment_breaks, segment_holds, ids_more, has_more}
+use Rattle.inode_segments.proofs.Kept.{not_true, not_false}
 use Rattle.inode_segments.proofs.segments.check_segments.Goals as goal
-use Rattle.inode_segments.proofs.segments.check_segments.Goals.{then-inode-next-via-then-inode-next, then-inode-next-via-else-inode-next+in_ok-add_id+then-not-branch}
+use Rattle.inode_segments.proofs.segments.check_segments.Goals.{then-inode-next-via-then-inode-next}
+use Rattle.inode_segments.proofs.segments.check_segments.Goals.{then-inode-next-via-else-inode-next+in_ok-add_id+then-not-branch}
 
 pub returns-then-inode-ne-MAGIC-clause-exact : goal.returns-then-inode-ne-MAGIC-clause-exact
 returns-then-inode-ne-MAGIC-clause-exact c = λ file are head.

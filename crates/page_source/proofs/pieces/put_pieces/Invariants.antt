@@ -8,6 +8,7 @@ invariant-loop-piece g l =
     let written = g.O.ByteSink.written in
     let faults = g.O.ByteSink.faults in
     record {
-      text : GrowsBy (written l.fn.sink) (written l.sink) (flat_map (λ (piece : Bor (List ℕ)). piece.now) (take l.piece-index l.pieces));
+      text : GrowsBy (written l.fn.sink) (written l.sink)
+          (flat_map (λ (piece : Bor (List ℕ)). piece.now) (take l.piece-index l.pieces));
       later : faults l.fn.sink ≤ faults l.sink;
     }

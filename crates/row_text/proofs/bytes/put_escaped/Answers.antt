@@ -1,4 +1,5 @@
-use Rattle.std.proofs.Common.{◌≡◌, ◌+◌, ℕ, is_some, List, [], ◌∷◌, ◌++◌, take, drop, subst, sym, ap, ◌∙◌, refl, append_assoc}
+use Rattle.std.proofs.Common.{◌≡◌, ◌+◌, ℕ, is_some, List, [], ◌∷◌, ◌++◌, take, drop, subst, sym, ap, ◌∙◌, refl}
+use Rattle.std.proofs.Common.{append_assoc}
 use Rattle.std.proofs.lemmas.List.{take-append-drop}
 use Rattle.page_source.specs.Calls.{Puts}
 use Rattle.row_text.specs.Values.{escaped_text}

@@ -1,11 +1,13 @@
 use Rattle.std.proofs.Common.{◌∙◌, length, Some, sym, ap, subst, refl, arith}
 use Rattle.std.proofs.lemmas.Bool.{false≢true}
-use Rattle.schema_text.proofs.checks.check_column.Goals.{then-indexes-gt0-via-then-indexes-gt0, then-indexes-gt0-via-else-indexes-gt0+then-len-lt4}
+use Rattle.schema_text.proofs.checks.check_column.Goals.{then-indexes-gt0-via-then-indexes-gt0}
+use Rattle.schema_text.proofs.checks.check_column.Goals.{then-indexes-gt0-via-else-indexes-gt0+then-len-lt4}
 use Rattle.schema_text.specs.Grammar.{IsName}
 use Rattle.schema_text.specs.Refusals.{IsNullityWord}
 use Rattle.schema_text.specs.Cuts.{IsColumnRead}
 use Rattle.schema_text.proofs.CheckLemmas.{column_form, column_name, column_number, column_count, column_twice}
-use Rattle.schema_text.proofs.ColumnCheckLemmas.{IsFormed, form_of, last_is, type_number, type_good, any_not_new, is_new, column_read}
+use Rattle.schema_text.proofs.ColumnCheckLemmas.{IsFormed, form_of, last_is, type_number, type_good, any_not_new}
+use Rattle.schema_text.proofs.ColumnCheckLemmas.{is_new, column_read}
 use Rattle.schema_text.proofs.checks.check_column.Goals as goal
 
 pub returns-in_default : goal.returns-in_default

@@ -1,7 +1,8 @@
 use Rattle.std.proofs.Common.{◌≡◌, ◌∙◌, true, false, None, Some, codes, sym, ap, subst, refl}
 use Rattle.std.specs.Prelude.{bytes_eq}
 use Rattle.schema_text.specs.declared.errors.SchemaWhy.TheVariants.{Form}
-use Rattle.schema_text.specs.Refusals.{NextChecks, ColumnChecks, ClusteredLineChecks, IndexLineChecks, is_column_line, is_clustered_line, is_index_line}
+use Rattle.schema_text.specs.Refusals.{NextChecks, ColumnChecks, ClusteredLineChecks, IndexLineChecks, is_column_line}
+use Rattle.schema_text.specs.Refusals.{is_clustered_line, is_index_line}
 use Rattle.schema_text.proofs.ReadLemmas.{by_column, by_clustered, by_index, by_none, on_ok_as, refused_as}
 use Rattle.schema_text.proofs.read.next_line.Goals as goal
 

@@ -4,7 +4,8 @@ use Rattle.extent_map.specs.Extents.{is_used, is_fragment_extent}
 use Rattle.space_audit.proofs.Fragments.{and_left, and_right, both_true, used_below}
 use Rattle.space_audit.specs.Audit.{ClaimCheck}
 use Rattle.space_audit.proofs.ClaimSteps.{holder_tells, used_in_size}
-use Rattle.space_audit.proofs.holders.check_holders.Goals.{else-is_claimable-via-then-is_claimable+else-not-is_once, else-is_claimable-via-else-is_claimable}
+use Rattle.space_audit.proofs.holders.check_holders.Goals.{else-is_claimable-via-then-is_claimable+else-not-is_once}
+use Rattle.space_audit.proofs.holders.check_holders.Goals.{else-is_claimable-via-else-is_claimable}
 use Rattle.space_audit.proofs.holders.check_holders.Goals as goal
 
 pub returns-then-not-is_once : goal.returns-then-not-is_once

@@ -2,7 +2,8 @@ use Rattle.std.proofs.Common.{◌≡◌, ℕ, ◌+◌, ◌<◌, ◌≤◌, List,
 use Rattle.std.proofs.lemmas.Result.{err_from_is_err_and}
 use Rattle.inode_segments.specs.Inodes.{segments, inode_pages}
 use Rattle.space_audit.specs.Holders.{AreHeld, claims_from, inode_claims}
-use Rattle.space_audit.proofs.ClaimSteps.{segment_read, slots_checked, segments_more, segment_claims, first_held, claims_all}
+use Rattle.space_audit.proofs.ClaimSteps.{segment_read, slots_checked, segments_more, segment_claims, first_held}
+use Rattle.space_audit.proofs.ClaimSteps.{claims_all}
 use Rattle.space_audit.proofs.holders.claim_segments.Goals as goal
 
 pub returns-in_err-claim_slots-clause-exact : goal.returns-in_err-claim_slots-clause-exact

@@ -5,7 +5,8 @@ use Rattle.inode_segments.specs.Inodes.{segments}
 use Rattle.space_audit.specs.Lists.{SegmentListsCheck}
 use Rattle.space_audit.proofs.AtHome.{homes_below, below_three, below_all}
 use Rattle.space_audit.proofs.OwnerFacts.{get_at}
-use Rattle.space_audit.proofs.ListSteps.{listed_first, listed_segment, first_stops, segment_stops, before_more, homes_holds, homes_breaks, stops_map}
+use Rattle.space_audit.proofs.ListSteps.{listed_first, listed_segment, first_stops, segment_stops, before_more}
+use Rattle.space_audit.proofs.ListSteps.{homes_holds, homes_breaks, stops_map}
 use Rattle.space_audit.proofs.lists.check_lists.Goals as goal
 
 pub returns-in_err-check_three-clause-exact : goal.returns-in_err-check_three-clause-exact

@@ -1,4 +1,5 @@
-use Rattle.std.proofs.Common.{◌≡◌, ◌<◌, ◌∷◌, [], ◌++◌, Bool, true, false, List, length, length-append, length-set, append-nil, get_or, set, map, refl, ap, sym, ◌∙◌, arith}
+use Rattle.std.proofs.Common.{◌≡◌, ◌<◌, ◌∷◌, [], ◌++◌, Bool, true, false, List, length, length-append, length-set}
+use Rattle.std.proofs.Common.{append-nil, get_or, set, map, refl, ap, sym, ◌∙◌, arith}
 use Rattle.page_source.specs.Lists.{unmarked}
 use Rattle.page_source.proofs.Marks.{unmarked_fewer}
 use Rattle.space_header.specs.Header.{node_address}

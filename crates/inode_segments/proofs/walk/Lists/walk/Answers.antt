@@ -7,11 +7,13 @@ use Rattle.page_source.proofs.Marks.{unmarked_fewer}
 use Rattle.page_source.proofs.Told.{told0, told1, told2, told3, told4}
 use Rattle.inode_segments.specs.Inodes.{stepped_pages}
 use Rattle.inode_segments.specs.InodeChecks.{inode_list, EndsAfter}
-use Rattle.inode_segments.proofs.Alongs.{stepped_none, at_first, at_next, held_more, marked_next, grew_none, grew_more, step_stops, end_breaks, end_holds}
+use Rattle.inode_segments.proofs.Alongs.{stepped_none, at_first, at_next, held_more, marked_next, grew_none, grew_more}
+use Rattle.inode_segments.proofs.Alongs.{step_stops, end_breaks, end_holds}
 use Rattle.inode_segments.specs.Walk.{Grew}
 use Rattle.inode_segments.proofs.walk.Lists.walk.Goals as goal
 use Rattle.inode_segments.proofs.walk.Lists.walk.Given.{Over}
-use Rattle.inode_segments.proofs.walk.Lists.walk.Goals.{then-base-count-via-then-base-count, then-base-count-via-else-base-count+then-not-is_address}
+use Rattle.inode_segments.proofs.walk.Lists.walk.Goals.{then-base-count-via-then-base-count}
+use Rattle.inode_segments.proofs.walk.Lists.walk.Goals.{then-base-count-via-else-base-count+then-not-is_address}
 
 pub loop-source-init : goal.loop-source-init
 loop-source-init g c =

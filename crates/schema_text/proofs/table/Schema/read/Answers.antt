@@ -2,9 +2,11 @@ use Rattle.std.proofs.Common.{◌∙◌, ℕ, List, eqb, length, sym, ap, refl, 
 use Rattle.std.proofs.lemmas.Bool.{eqb-true, false≢true}
 use Rattle.std.proofs.lemmas.Result.{err_from_is_err_and}
 use Rattle.schema_text.proofs.PartLemmas.{no_member}
-use Rattle.schema_text.proofs.ReadingLemmas.{reading_begun, reading_more, refuse_size, refuse_none, refuse_end, read_first_error, read_line_error, accept}
+use Rattle.schema_text.proofs.ReadingLemmas.{reading_begun, reading_more, refuse_size, refuse_none, refuse_end}
+use Rattle.schema_text.proofs.ReadingLemmas.{read_first_error, read_line_error, accept}
 use Rattle.schema_text.proofs.table.Schema.read.Goals as goal
-use Rattle.schema_text.proofs.table.Schema.read.Goals.{else-is_empty-via-then-is_empty+else-indexes-gt0, else-is_empty-via-else-is_empty}
+use Rattle.schema_text.proofs.table.Schema.read.Goals.{else-is_empty-via-then-is_empty+else-indexes-gt0}
+use Rattle.schema_text.proofs.table.Schema.read.Goals.{else-is_empty-via-else-is_empty}
 
 pub returns-then-text-gt-LONGEST_TEXT : goal.returns-then-text-gt-LONGEST_TEXT
 returns-then-text-gt-LONGEST_TEXT c = refuse_size _ (omega arith)

@@ -4,7 +4,8 @@ use Rattle.page_source.proofs.memory.sparse.SparsePages.fill.Goals as goal
 
 pub returns-in-Some : goal.returns-in-Some
 returns-in-Some c =
-    rw (← c.self.view_is) (found_page _ c.args.n _ c.in-Some.found.now c.in-Some.ensures (c.fill_page.ensures ∙ c.bytes.ensures.same))
+    rw (← c.self.view_is) (found_page _ c.args.n _ c.in-Some.found.now c.in-Some.ensures
+    (c.fill_page.ensures ∙ c.bytes.ensures.same))
 
 pub returns-in-None : goal.returns-in-None
 returns-in-None c = rw (← c.self.view_is) (missing_page _ c.args.n _ c.in-None.ensures c.clear.ensures)
