@@ -76,6 +76,11 @@ never_usage (Refused l w) is = cc
 never_usage Source is = cc
 never_usage Memory is = cc
 
+pub never_unbuilt : (stop : SchemaStop) → status_of_schema stop ≡ statuses.Unbuilt → ⊥
+never_unbuilt (Refused l w) is = cc
+never_unbuilt Source is = cc
+never_unbuilt Memory is = cc
+
 is_source : (stop : SchemaStop) → status_of_schema stop ≡ statuses.SourceFault → stop ≡ Source
 is_source (Refused l w) is = absurd (cc)
 is_source Source is = refl
@@ -218,3 +223,9 @@ serves_file all sole f q o task file file_now schema schema_now out out_now step
 
 pub file_never_usage : (status : Status) → IsOfFile status → status ≡ statuses.Usage → ⊥
 file_never_usage status is same = subst IsOfFile same is
+
+pub file_never_unbuilt : (status : Status) → IsOfFile status → status ≡ statuses.Unbuilt → ⊥
+file_never_unbuilt status is same = subst IsOfFile same is
+
+pub usage_is_built : statuses.Usage ≡ statuses.Unbuilt → ⊥
+usage_is_built same = cc

@@ -17,6 +17,9 @@ IsForm words Build =
     (schema : List ℕ) × (rows : List ℕ) × (file : List ℕ) × (words ≡ codes "build" ∷ schema ∷ rows ∷ file ∷ [])
 IsForm words (Sample n) = (n ≤ 200000) × (words ≡ codes "sample" ∷ decimal n ∷ [])
 
+abbrev pub HasSomeForm : List (List ℕ) → Type 0
+HasSomeForm words = (form : Form) × IsForm words form
+
 -- they have none
 abbrev pub HasNoForm : List (List ℕ) → Type 0
 HasNoForm words = (form : Form) → ¬ (IsForm words form)

@@ -6,6 +6,7 @@ use Rattle.schema_text.specs.Grammar.{IsTextOf}
 use Rattle.schema_text.specs.Refusals.{SchemaChecks}
 use Rattle.table_check.specs.declared.table.Checked.{Checked}
 use Rattle.table_check.specs.First.{First, IsChecked, check_steps, dump_steps}
+use Rattle.table_check.specs.Valid.{IsValid}
 use Rattle.sql_dump.specs.Dump.{IsDumpOf}
 use Rattle.ibd_cli.specs.declared.status.Status.{Status}
 use Rattle.ibd_cli.specs.declared.status.Status.TheVariants.{Done, SchemaRefused, Broken}
@@ -43,9 +44,10 @@ IsOutput Check file table output =
     (checked : Checked) × IsChecked file table checked × (output ≡ checked_line checked)
 IsOutput Dump file table output = IsDumpOf file table output
 
--- no rule is broken, and this is the output
+-- no rule is broken, the file is sound, and this is the output
 pub record IsDone (task : Task) (file : List ℕ) (table : TableDef) (output : List ℕ) : Type 0 where
   pub sound : First file table None
+  pub valid : IsValid file table
   pub written : IsOutput task file table output
 
 -- how a task ends, and what it writes

@@ -9,6 +9,7 @@ use schema_text::Schema;
 use sql_dump::dump;
 use std::alloc::Global;
 use std::sync::ledger::Ledger;
+use table_check::laws::checks_are_validity;
 
 /// Checks the file, and puts its rows where no rule is broken.
 pub fn dump_file<F: PageSource, O: ByteSink, L: Ledger>(
@@ -21,6 +22,7 @@ pub fn dump_file<F: PageSource, O: ByteSink, L: Ledger>(
     ensures { ServesFile F.PageSource O.ByteSink Task.Dump file.old file.new table.now out.old out.new
         steps.old steps.new result }
 {
+    checks_are_validity();
     match dump(alloc, file, table, out, steps) {
         Ok(_) => Status::Done,
         Err(stop) => Status::from(stop),

@@ -3,8 +3,7 @@
 #![tactic(auto)]
 
 ghost use Rattle.std.specs.Prelude.{◌≡◌, ◌<◌, ◌↔◌};
-ghost use Rattle.ibd_cli.specs.Forms.{IsForm, HasNoForm, AsksNoTable};
-ghost use Rattle.ibd_cli.specs.declared.words.Form.{Form};
+ghost use Rattle.ibd_cli.specs.Forms.{HasSomeForm, HasNoForm, AsksNoTable};
 
 mod check;
 mod command_line;
@@ -45,7 +44,7 @@ fn start<L: Ledger>(rt: &HostRuntime, words: &Words, blank: Blank) -> Status
     requires parts { blank.parts ≡ L.parts }
     requires shared { 0 < blank.parts }
     ensures usage { (result ≡ Status.Usage) ↔ HasNoForm words.now }
-    ensures unbuilt { (form : Form) → IsForm words.now form → AsksNoTable words.now → result ≡ Status.Unbuilt }
+    ensures unbuilt { (result ≡ Status.Unbuilt) ↔ (HasSomeForm words.now × AsksNoTable words.now) }
 {
     run(
         rt.alloc(),

@@ -1,7 +1,7 @@
 //! The whole program as one call over the objects that reach outside.
 
 ghost use Rattle.std.specs.Prelude.{◌≡◌, ◌≢◌, ◌↔◌};
-ghost use Rattle.ibd_cli.specs.Forms.{IsForm, HasNoForm, AsksNoTable};
+ghost use Rattle.ibd_cli.specs.Forms.{IsForm, HasSomeForm, HasNoForm, AsksNoTable};
 ghost use Rattle.ibd_cli.specs.Lines.{status_line};
 ghost use Rattle.ibd_cli.specs.Causes.{Reports};
 ghost use Rattle.ibd_cli.specs.Answers.{ServesFile};
@@ -44,7 +44,7 @@ pub fn run<
 ) -> Status
     // The words decide which command it is.
     ensures usage { (result ≡ Status.Usage) ↔ HasNoForm words.now }
-    ensures unbuilt { (form : Form) → IsForm words.now form → AsksNoTable words.now → result ≡ Status.Unbuilt }
+    ensures unbuilt { (result ≡ Status.Unbuilt) ↔ (HasSomeForm words.now × AsksNoTable words.now) }
 
     // What a command doesn't name is never called.
     ensures file { AsksNoTable words.now → file.new ≡ file.old }
@@ -84,6 +84,7 @@ fn serve<F: PageSource, Q: ByteSource, O: ByteSink, L: Ledger>(
     ensures serves { Serves F.PageSource Q.ByteSource O.ByteSink task file.old file.new
         schema.old schema.new out.old out.new steps.old steps.new result }
     ensures usage { result ≢ Status.Usage }
+    ensures built { result ≢ Status.Unbuilt }
 {
     // A schema text is that of one table, and a table's checks of a file have one answer.
     has_one_schema();

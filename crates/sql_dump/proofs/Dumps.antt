@@ -26,6 +26,7 @@ use Rattle.column_values.specs.declared.value.Value.{Value}
 use Rattle.tree_walk.specs.Index.{Index}
 use Rattle.tree_walk.specs.Leaf.{IsWalked}
 use Rattle.tree_walk.specs.Walk.{IsEndsOf}
+use Rattle.table_check.specs.Laws.{ChecksAreValidity}
 use Rattle.table_check.specs.declared.table.Checked.{Checked}
 use Rattle.table_check.specs.declared.table.Table.{Table}
 use Rattle.table_check.specs.Trees.{index_in, clustered_tree, pages_of_trees, segments_of_trees, all_tree_pages}
@@ -140,14 +141,15 @@ writing_ends file table ends.Sink a b is laws sound writes =
 
 -- all was written
 pub all_written : (file : List ℕ) (table : TableDef) (checked : Checked) (a b : Option (List ℕ)) → IsTable table
-    → CheckedCanBeRead
+    → CheckedCanBeRead → ChecksAreValidity
     → First file table None → IsChecked file table checked
     → ((all : List (List Value)) → ReadsRows file table all → GrowsBy a b (text_of table all))
     → Dumps file table (Ok checked) a b
-all_written file table checked a b is laws sound numbers writes =
+all_written file table checked a b is laws validity sound numbers writes =
     let found = (sound_table file table is laws sound).found in
     record {
       sound = sound;
+      valid = (validity file table).0 sound;
       numbers = numbers;
       written = (text_of table found.all, dump_of file table found, writes found.all found.reads);
     }

@@ -10,6 +10,7 @@ use Rattle.row_text.specs.Line.{text_of}
 use Rattle.table_check.specs.declared.table.Checked.{Checked}
 use Rattle.table_check.specs.First.{First, IsChecked}
 use Rattle.table_check.specs.Rows.{AreRows}
+use Rattle.table_check.specs.Valid.{IsValid}
 use Rattle.sql_dump.specs.declared.stop.DumpStop.{DumpStop}
 use Rattle.sql_dump.specs.declared.stop.DumpStop.TheVariants.{Broken, Source, Sink, Memory}
 
@@ -26,9 +27,10 @@ GrewByDump file table old new = (text : List ℕ) × IsDumpOf file table text ×
 abbrev pub GrewByPart : List ℕ → TableDef → Option (List ℕ) → Option (List ℕ) → Type 0
 GrewByPart file table old new = (text : List ℕ) × IsDumpOf file table text × GrowsByPart old new text
 
--- no rule of the file is broken, these are its numbers, and its dump was written
+-- no rule of the file is broken, it is sound, these are its numbers, and its dump was written
 pub record IsDumped (file : List ℕ) (table : TableDef) (checked : Checked) (old new : Option (List ℕ)) : Type 0 where
   pub sound : First file table None
+  pub valid : IsValid file table
   pub numbers : IsChecked file table checked
   pub written : GrewByDump file table old new
 

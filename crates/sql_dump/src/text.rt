@@ -16,6 +16,7 @@ use page_source::{ByteSink, Page, PageSource, Steps};
 use schema_text::Schema;
 use std::alloc::Global;
 use std::sync::ledger::Ledger;
+use table_check::laws::checks_are_validity;
 use table_check::{Checked, LiveRows, check_table};
 
 /// Checks a tablespace by the rules 1 to 51, and then writes one line for each row of its table that has no delete
@@ -35,6 +36,7 @@ pub fn dump<S: PageSource, O: ByteSink, L: Ledger>(
 {
     schema_is_table(schema);
     checked_can_be_read();
+    checks_are_validity();
     let table = check_table(alloc, source, schema, steps)?;
     let at = column_fields(alloc, schema)?;
     let fields = schema.fields(alloc, 0, true)?;

@@ -9,3 +9,8 @@ mod TreeSteps
 mod UnreachedSteps
 mod WholeSteps
 mod OneAnswer
+mod Validity
+mod NewPages
+mod TreesLaw
+mod ValuesLaw
+mod ValidLaw

@@ -1,17 +1,17 @@
 -- Pages that were marked and counted so far, and those of one more call.
 use Rattle.std.proofs.Common.{◌≡◌, ◌==◌, IfSome, ℕ, ◌+◌, ◌≤◌, Bool, true, false, cond, List, [], ◌∷◌, ◌++◌, length}
-use Rattle.std.proofs.Common.{Option, Some, None, Result, Ok, Err, refl, sym, ap, ◌∙◌, subst, arith, length-append}
-use Rattle.std.specs.Prelude.{IfOk, OnOk, not}
+use Rattle.std.proofs.Common.{Option, None, Result, Ok, Err, refl, sym, ap, ◌∙◌, subst, arith, length-append}
+use Rattle.std.specs.Prelude.{not}
 use Rattle.std.proofs.lemmas.List.Sums.{count_by-le-length}
 use Rattle.page_source.specs.declared.objects.PageSource.{Ghosts as FileOf}
 use Rattle.page_source.specs.declared.rule.Fault.{Fault}
 use Rattle.page_source.specs.declared.checks.Halt.{Halt}
 use Rattle.page_source.specs.Lists.{unmarked}
 use Rattle.page_source.specs.Faults.{Rose}
-use Rattle.page_source.specs.Checks.{Halts, HaltsAt}
+use Rattle.page_source.specs.Checks.{HaltsAt}
 use Rattle.page_source.specs.Calls.{OfFile, HaltsOver}
-use Rattle.page_source.proofs.Told.{told0, told1, told2, told3}
-use Rattle.space_audit.specs.Marks.{is_in, is_set, seen, Marked}
+use Rattle.page_source.proofs.Told.{told0, told2, told3}
+use Rattle.space_audit.specs.Marks.{is_in, is_set, Marked}
 use Rattle.table_check.specs.Marking.{ChecksPages}
 
 pub unmarked_most : (marks : List Bool) → unmarked marks ≤ length marks

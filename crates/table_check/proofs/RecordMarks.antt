@@ -1,7 +1,6 @@
 -- A record's fields are checked one after another.
-use Rattle.std.proofs.Common.{◌≡◌, ℕ, ◌+◌, ◌<◌, ◌≤◌, Bool, List, [], ◌++◌, length, get_or, map, Option, Some, None}
-use Rattle.std.proofs.Common.{IfSome, Result, Ok, Err, refl, sym, ap, ◌∙◌, subst, arith}
-use Rattle.std.specs.List.{range_with_len}
+use Rattle.std.proofs.Common.{◌≡◌, ℕ, ◌+◌, ◌<◌, Bool, List, length, get_or, Option, Some, None}
+use Rattle.std.proofs.Common.{IfSome, Result, Ok, Err, ap, ◌∙◌, subst, arith}
 use Rattle.std.proofs.lemmas.List.FromFn.{get_or-map-range_with_len, length-map-range_with_len}
 use Rattle.std.proofs.lemmas.List.{get_or_default}
 use Rattle.std.proofs.Math.Path.{fun_ext}
@@ -10,19 +9,19 @@ use Rattle.page_source.specs.declared.rule.Fault.{Fault}
 use Rattle.page_source.specs.declared.checks.Halt.{Halt}
 use Rattle.page_source.specs.declared.checks.Halt.TheVariants.{Broken, Source}
 use Rattle.page_source.specs.Verdict.{AllBelow}
-use Rattle.page_source.specs.Checks.{Halts, HaltsAt}
+use Rattle.page_source.specs.Checks.{HaltsAt}
 use Rattle.page_source.specs.Calls.{OfFile}
-use Rattle.page_source.proofs.Told.{told0, told1, told3}
+use Rattle.page_source.proofs.Told.{told0, told3}
 use Rattle.column_values.specs.declared.field.Field.{Field}
 use Rattle.column_values.specs.Types.{Fields, field_at}
 use Rattle.compact_record.specs.declared.places.Place.{Place}
 use Rattle.compact_record.specs.Reading.{place_of, places_of, field_count}
-use Rattle.space_audit.specs.Marks.{is_set, seen, Marked}
+use Rattle.space_audit.specs.Marks.{is_set, Marked}
 use Rattle.table_check.specs.Marking.{ChecksPages}
 use Rattle.table_check.specs.Values.{FieldChecks, FieldCheck, RecordChecks, pages_of_field, pages_of_part}
 use Rattle.table_check.specs.Values.{pages_of_record}
-use Rattle.table_check.proofs.Progress.{HasMarked, more_marked, breaks_off, all_marked}
-use Rattle.table_check.proofs.RecordSteps.{part_more, whole_record, record_breaks, record_holds, below_more}
+use Rattle.table_check.proofs.Progress.{HasMarked, more_marked, breaks_off}
+use Rattle.table_check.proofs.RecordSteps.{part_more, record_breaks, below_more}
 
 -- the field and the place that were read
 pub count_of_places : (page : List ℕ) (origin : ℕ) (fields : Fields) → length (places_of page origin fields)

@@ -1,6 +1,6 @@
 -- The fields of a record, one after another.
-use Rattle.std.proofs.Common.{◌≡◌, ℕ, zero, suc, ◌+◌, ◌<◌, ◌≤◌, Bool, List, [], ◌∷◌, ◌++◌, length, flat_map, Option}
-use Rattle.std.proofs.Common.{Some, None, inl, inr, refl, sym, ap, ◌∙◌, subst, arith, add-one}
+use Rattle.std.proofs.Common.{◌≡◌, ℕ, zero, suc, ◌+◌, ◌<◌, Bool, List, [], ◌∷◌, ◌++◌, flat_map, Option}
+use Rattle.std.proofs.Common.{None, inl, inr, refl, ap, ◌∙◌, subst, arith}
 use Rattle.std.specs.List.{range_with_len}
 use Rattle.std.proofs.lemmas.List.{append-nil}
 use Rattle.std.proofs.lemmas.Grind.{flat_map-append}
@@ -12,7 +12,7 @@ use Rattle.page_source.specs.Checks.{HaltsAt}
 use Rattle.page_source.specs.Verdict.{AllBelow, Each}
 use Rattle.column_values.specs.Types.{Fields, field_at}
 use Rattle.compact_record.specs.Reading.{place_of, field_count}
-use Rattle.table_check.specs.Values.{FieldChecks, FieldCheck, RecordChecks, pages_of_field, pages_of_part}
+use Rattle.table_check.specs.Values.{FieldCheck, RecordChecks, pages_of_field, pages_of_part}
 use Rattle.table_check.specs.Values.{pages_of_record}
 
 range_suc : (a n : ℕ) → range_with_len a (suc n) ≡ range_with_len a n ++ (a + n) ∷ []

@@ -1,13 +1,13 @@
 -- The rows of a table are checked one after another.
-use Rattle.std.proofs.Common.{◌≡◌, ℕ, ◌+◌, ◌-◌, ◌<◌, ◌≤◌, Bool, List, [], ◌++◌, length, take, get_or, Option, Some}
-use Rattle.std.proofs.Common.{None, IfSome, Result, Ok, Err, refl, sym, ap, ◌∙◌, subst, arith}
+use Rattle.std.proofs.Common.{◌≡◌, ℕ, ◌+◌, Bool, List, take, get_or, Option, Some}
+use Rattle.std.proofs.Common.{None, IfSome, Ok, Err, subst}
 use Rattle.page_source.specs.declared.objects.PageSource.{Ghosts as FileOf}
 use Rattle.page_source.specs.declared.rule.Fault.{Fault}
 use Rattle.page_source.specs.declared.checks.Halt.{Halt}
 use Rattle.page_source.specs.Verdict.{AllBefore}
-use Rattle.page_source.specs.Checks.{Halts, HaltsAt}
+use Rattle.page_source.specs.Checks.{HaltsAt}
 use Rattle.page_source.specs.Calls.{OfFile}
-use Rattle.page_source.proofs.Told.{told1, told2, told3, told4, told5}
+use Rattle.page_source.proofs.Told.{told1, told2, told5}
 use Rattle.column_values.specs.Types.{Fields}
 use Rattle.schema_text.specs.TableDef.{TableDef}
 use Rattle.schema_text.specs.IndexFields.{leaf_fields}
@@ -17,10 +17,10 @@ use Rattle.table_check.specs.Trees.{clustered_tree}
 use Rattle.table_check.specs.Live.{LiveView, FindsLive, HasGivenLive, GivesAll}
 use Rattle.table_check.specs.Marking.{ChecksPages}
 use Rattle.table_check.specs.Values.{RecordChecks, RowCheck, RowChecks, pages_of_record, all_chain_pages, live_rows}
-use Rattle.table_check.proofs.Progress.{HasMarked, more_marked, breaks_off, all_marked, shifted, sooner}
+use Rattle.table_check.proofs.Progress.{HasMarked, more_marked, breaks_off, shifted, sooner}
 use Rattle.table_check.proofs.RecordMarks.{halts_as}
-use Rattle.table_check.proofs.RowSteps.{pages_before, before_more, each_of_breaks, each_of_holds, row_checked}
-use Rattle.table_check.proofs.RowSteps.{row_more, all_pages}
+use Rattle.table_check.proofs.RowSteps.{pages_before, before_more, each_of_breaks, row_checked}
+use Rattle.table_check.proofs.RowSteps.{row_more}
 
 -- the checks of the rows before one hold
 abbrev pub HeldBefore : {S : Type 0} → FileOf S → S → TableDef → List Bool → ℕ → Type 0

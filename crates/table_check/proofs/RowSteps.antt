@@ -1,6 +1,6 @@
 -- The rows of a table, one after another.
-use Rattle.std.proofs.Common.{◌≡◌, ℕ, ◌+◌, ◌-◌, ◌<◌, ◌≤◌, Bool, List, [], ◌∷◌, ◌++◌, length, take, get_or, flat_map}
-use Rattle.std.proofs.Common.{Option, Some, None, IfSome, Result, Ok, Err, inl, inr, refl, sym, ap, ◌∙◌, subst, arith}
+use Rattle.std.proofs.Common.{◌≡◌, ℕ, ◌+◌, ◌<◌, ◌≤◌, Bool, List, [], ◌∷◌, ◌++◌, length, take, get_or, flat_map}
+use Rattle.std.proofs.Common.{Option, Some, None, Result, Err, inl, inr, refl, sym, ap, ◌∙◌, subst, arith}
 use Rattle.std.proofs.lemmas.List.{append-nil, take_more, take_all, get_or_default}
 use Rattle.std.proofs.lemmas.List.Elements.{All-filter}
 use Rattle.std.proofs.lemmas.Grind.{flat_map-append}
@@ -23,7 +23,7 @@ use Rattle.tree_walk.specs.Records.{IsRecord}
 use Rattle.tree_walk.specs.Segments.{leaf_segment}
 use Rattle.table_check.specs.Trees.{index_in, clustered_tree}
 use Rattle.table_check.specs.Live.{LiveView, IsRowInHand, HasGivenLive, CanGiveLive, FindsLive}
-use Rattle.table_check.specs.Values.{RecordChecks, RowCheck, RowChecks, pages_of_record, pages_of_row, pages_of_rows}
+use Rattle.table_check.specs.Values.{RecordChecks, RowCheck, pages_of_record, pages_of_row, pages_of_rows}
 use Rattle.table_check.specs.Values.{all_chain_pages, live_rows}
 
 -- one more check of a list that holds

@@ -1,6 +1,6 @@
 -- The trees of a table, one after another.
-use Rattle.std.proofs.Common.{◌≡◌, ℕ, zero, suc, ◌+◌, ◌<◌, ◌≤◌, Bool, true, false, cond, List, [], ◌∷◌, ◌++◌, length}
-use Rattle.std.proofs.Common.{get_or, replicate, map, flat_map, Option, Some, None, Result, Ok, Err, refl, sym, ap}
+use Rattle.std.proofs.Common.{◌≡◌, ℕ, zero, suc, ◌+◌, ◌<◌, Bool, true, false, cond, List, [], ◌∷◌, ◌++◌, length}
+use Rattle.std.proofs.Common.{get_or, replicate, map, Option, Some, None, refl, sym, ap}
 use Rattle.std.proofs.Common.{◌∙◌, subst, arith}
 use Rattle.std.specs.List.{range_with_len}
 use Rattle.std.proofs.Math.Path.{fun_ext}
@@ -17,7 +17,7 @@ use Rattle.inode_segments.specs.Inodes.{segments}
 use Rattle.tree_walk.specs.declared.ends.TreeEnds.{TreeEnds}
 use Rattle.tree_walk.specs.Leaf.{IsWalked}
 use Rattle.tree_walk.specs.Walk.{IsEndsOf}
-use Rattle.page_source.specs.Checks.{Halts, HaltsAt, Stops, stop_of}
+use Rattle.page_source.specs.Checks.{HaltsAt, Stops, stop_of}
 use Rattle.column_values.specs.Types.{Fields}
 use Rattle.schema_text.specs.declared.table.IndexDef.{IndexDef}
 use Rattle.schema_text.specs.TableDef.{TableDef, index_at}

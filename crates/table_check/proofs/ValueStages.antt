@@ -1,11 +1,10 @@
 -- The checks of a value, one after another.
-use Rattle.std.proofs.Common.{◌≡◌, ◌↔◌, ℕ, ◌+◌, ◌-◌, ◌<◌, ◌≤◌, Bool, true, List, [], ◌∷◌, ◌++◌, length, take, Option}
-use Rattle.std.proofs.Common.{Some, None, Result, Ok, Err, inl, inr, refl, sym, ap, ◌∙◌, subst, arith}
-use Rattle.page_source.specs.declared.rule.Rule.TheVariants.{Value}
+use Rattle.std.proofs.Common.{◌↔◌, ℕ, ◌≤◌, Bool, true, List, ◌++◌, Option}
+use Rattle.std.proofs.Common.{Some, None, Result, Ok, Err, inl, inr, arith}
 use Rattle.page_source.specs.declared.rule.Fault.{Fault}
 use Rattle.page_source.specs.declared.checks.Halt.{Halt}
 use Rattle.page_source.specs.declared.checks.Halt.TheVariants.{Broken, Source}
-use Rattle.page_source.specs.Checks.{HaltsAt, Halts}
+use Rattle.page_source.specs.Checks.{Halts}
 use Rattle.column_values.specs.declared.kind.ColumnType.{ColumnType}
 use Rattle.column_values.specs.Characters.{IsTextOfKind}
 use Rattle.column_values.specs.Utf8Reader.{Reader, TakesText, CountsUpTo, Any, Limited, Bad, Good, IsFed}

@@ -1,6 +1,6 @@
 -- The stages of the checks of a table, one after another.
-use Rattle.std.proofs.Common.{◌≡◌, ℕ, ◌+◌, ◌*◌, ◌≤◌, List, length, filter, count_by, Option, Some, None, inl, inr}
-use Rattle.std.proofs.Common.{refl, sym, ap, ◌∙◌, subst, arith}
+use Rattle.std.proofs.Common.{◌≡◌, ℕ, ◌+◌, ◌≤◌, List, length, Option, Some, None, inl, inr}
+use Rattle.std.proofs.Common.{sym, ◌∙◌, subst, arith}
 use Rattle.std.proofs.lemmas.List.Sums.{length-filter}
 use Rattle.page_source.specs.declared.objects.PageSource.{Ghosts as FileOf}
 use Rattle.page_source.specs.declared.rule.Fault.{Fault}

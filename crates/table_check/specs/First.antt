@@ -1,6 +1,6 @@
 -- All checks of a file against a schema, in order: the answer is the first broken one.
 use Rattle.std.specs.Prelude.{◌≡◌, ℕ, ◌+◌, ◌*◌, ◌≤◌, ◌⊎◌, Bool, true, false, ◌&&◌, not, List, length, filter}
-use Rattle.std.specs.Prelude.{Contains, Option, IfOk, Result}
+use Rattle.std.specs.Prelude.{Contains, Option}
 use Rattle.std.specs.List.{range_with_len}
 use Rattle.page_source.specs.declared.objects.PageSource.{Ghosts as FileOf}
 use Rattle.page_source.specs.declared.rule.Rule.TheVariants.{UnreachedKind}

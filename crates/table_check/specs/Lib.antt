@@ -5,4 +5,5 @@ pub mod Rows
 pub mod First
 pub mod Live
 pub mod Taken
+pub mod Valid
 pub mod Laws

@@ -8,7 +8,7 @@ use Rattle.tree_walk.specs.Leaf.{IsWalked}
 use Rattle.tree_walk.specs.Walk.{IsEndsOf}
 use Rattle.table_check.specs.declared.trees.Trees.{Trees}
 use Rattle.table_check.specs.First.{is_reached}
-use Rattle.table_check.specs.Trees.{clustered_tree, index_count, pages_of_trees, segments_of_trees, all_tree_pages}
+use Rattle.table_check.specs.Trees.{clustered_tree, pages_of_trees, segments_of_trees, all_tree_pages}
 use Rattle.table_check.specs.Trees.{leaf_segments, leaf_segments_of, AllTreeChecks, NamedChecks, IndexCheck}
 use Rattle.page_source.specs.Verdict.{AllBelow}
 

@@ -1,5 +1,5 @@
 -- The trees of a table, and the segments that no root names.
-use Rattle.std.specs.Prelude.{◌≡◌, ℕ, ◌<◌, List, length, flat_map, map, true, Option}
+use Rattle.std.specs.Prelude.{◌≡◌, ℕ, List, length, flat_map, map, true, Option}
 use Rattle.std.specs.List.{range_with_len}
 use Rattle.page_source.specs.declared.rule.Rule.TheVariants.{SegmentUnnamed}
 use Rattle.page_source.specs.declared.rule.Fault.{Fault}

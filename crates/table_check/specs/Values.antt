@@ -4,7 +4,6 @@ use Rattle.std.specs.Prelude.{List, [], ◌++◌, length, take, filter, flat_map
 use Rattle.std.specs.List.{range_with_len}
 use Rattle.page_source.specs.declared.rule.Rule.TheVariants.{Value}
 use Rattle.page_source.specs.declared.rule.Fault.{Fault}
-use Rattle.page_source.specs.Pages.{page_of}
 use Rattle.page_source.specs.Verdict.{Clear, Then, Where, Each, EachOf}
 use Rattle.page_source.specs.Answers.{Holds}
 use Rattle.column_values.specs.declared.kind.ColumnType.{ColumnType}

@@ -1,6 +1,6 @@
 //! The rows of a table without the delete mark, leaf by leaf.
 
-ghost use Rattle.std.specs.Prelude.{◌≡◌, ℕ, ◌+◌, ◌<◌, ◌≤◌, IfOk, IfSome, Err, false};
+ghost use Rattle.std.specs.Prelude.{◌≡◌, ℕ, ◌+◌, ◌<◌, ◌≤◌, IfOk, IfSome, Ok, Err, None, false, true};
 ghost use Rattle.page_source.specs.Calls.{OfFile, HaltsOver};
 ghost use Rattle.page_source.specs.declared.rule.Fault.{Fault};
 ghost use Rattle.column_values.specs.Types.{Fields};
@@ -44,6 +44,8 @@ impl LiveRows {
     pub fn start(alloc: Global, ends: &TreeEnds) -> Result<LiveRows, NoMemory>
         ensures fetches { IfOk result (λ rows. rows.leaf.may_fetch ≡ ends.now.leaves) }
         ensures goes_on { IfOk result (λ rows. rows.ended ≡ false) }
+        ensures live { IfOk result (λ rows. rows.live ≡ ends.now.live) }
+        ensures deleted { IfOk result (λ rows. rows.deleted ≡ ends.now.deleted) }
         ensures told { IfOk result (λ rows. (index : Index) → IsEndsOf index ends.now → HasGivenLive index rows 0) }
     {
         Ok(LiveRows {
@@ -56,7 +58,7 @@ impl LiveRows {
     /// The origin of the next row on the page in hand; none behind the last. `Source` comes where the file's count of
     /// faults rose. `Broken` never comes over a source that tells its content; over another it names the leaf in hand,
     /// whose record chain isn't whole or too long (rule 35), or whose next field doesn't fit the number of leaves
-    /// (rule 31). After none or an error it has ended.
+    /// (rule 31). After none it has ended, and after an error it isn't used again.
     pub fn next<S: PageSource, L: Ledger>(
         &mut self,
         source: &mut S,
@@ -68,6 +70,7 @@ impl LiveRows {
             → IsWalked (index_of file root fields node) → HasGivenLive (index_of file root fields node) self.old j
             → FindsLive (index_of file root fields node) j result self.new) }
         ensures goes_on { IfOk result (λ found. IfSome found (λ _. self.new.ended ≡ false)) }
+        ensures ended { result ≡ Ok None → self.new.ended ≡ true }
         ensures origin { IfOk result (λ found. IfSome found (λ origin. (125 ≤ origin) × (origin < 16384))) }
         ensures fewer { IfOk result (λ found. IfSome found (λ _. self.new.live + 1 ≡ self.old.live)) }
         ensures broken { (fault : Fault) → result ≡ Err (Halt.Broken fault) → CutsOff self.new fault }

@@ -1,10 +1,12 @@
 //! All rules of a tablespace against a schema, in order.
 
-ghost use Rattle.std.specs.Prelude.{IfOk};
+ghost use Rattle.std.specs.Prelude.{IfOk, ◌+◌, ◌≤◌};
 ghost use Rattle.page_source.specs.Checks.{Answers};
 ghost use Rattle.page_source.specs.Calls.{OfFile, StopsOver};
 ghost use Rattle.table_check.specs.First.{First, IsChecked, IsCheckedTable, TakesSteps, LeavesSteps, check_steps};
+ghost use Rattle.table_check.specs.Valid.{TellsValid};
 
+use crate::laws::{checks_are_validity, first_has_one_answer};
 use crate::table::{Checked, Table};
 use crate::trees::check_trees;
 use crate::unreached::count_unreached;
@@ -25,9 +27,13 @@ pub fn check<S: PageSource, L: Ledger>(
     ensures exact { OfFile S.PageSource source.old (λ file. Answers result (First file schema.now)) }
     ensures checked { IfOk result (λ checked. OfFile S.PageSource source.old (λ file.
         IsChecked file schema.now checked)) }
+    ensures valid { OfFile S.PageSource source.old (λ file. TellsValid result file schema.now) }
     ensures steps { TakesSteps S.PageSource source.old check_steps steps.old steps.new }
+    ensures sized { IfOk result (λ checked. steps.new ≤ steps.old + check_steps checked.pages) }
     ensures over { StopsOver S.PageSource source.old source.new result }
 {
+    first_has_one_answer();
+    checks_are_validity();
     Ok(check_table(alloc, source, schema, steps)?.checked)
 }
 

@@ -9,7 +9,8 @@ use Rattle.space_audit.specs.Space.{IsPageOf}
 use Rattle.column_values.specs.Order.{Key, IsBelow}
 use Rattle.compact_record.specs.Reading.{key_of, key_kinds}
 use Rattle.index_page.specs.Header.{index_id_of}
-use Rattle.tree_walk.specs.Index.{Index, Row, page_in, root_level, index_id, pages_at, leaf_rows}
+use Rattle.tree_walk.specs.Index.{Index, Row, page_in, root_level, index_id, pages_at, tree_pages}
+use Rattle.tree_walk.specs.Index.{leaf_rows}
 use Rattle.column_values.specs.Types.{AreOfOneIndex}
 use Rattle.tree_walk.specs.Records.{IsRecord}
 use Rattle.tree_walk.specs.Segments.{segment_at}
@@ -38,6 +39,11 @@ pub record LinksEqualDescent (index : Index) : Type 0 where
 -- so it is where the checks of a tree hold
 abbrev pub LinksAreDescent : Type 0
 LinksAreDescent = (index : Index) → IsWalked index → LinksEqualDescent index
+
+-- each page comes as often on the levels of a tree as in the descent
+abbrev pub LevelsHaveThePages : Type 0
+LevelsHaveThePages =
+    (index : Index) (n : ℕ) → times_in (tree_pages index) n ≡ times_in (pages_by_descent index) n
 
 -- the key of a row
 unfoldable pub row_key : Index → Row → Key

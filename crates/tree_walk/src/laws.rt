@@ -1,7 +1,7 @@
 //! What the definitions of a tree say together, each the contract of a function that does nothing.
 
 ghost use Rattle.tree_walk.specs.Laws.{LinksAreDescent, KeysRiseOverLeaves, RowsCanBeRead, ChecksGiveTree};
-ghost use Rattle.tree_walk.specs.Laws.{ChecksAreWholeness};
+ghost use Rattle.tree_walk.specs.Laws.{ChecksAreWholeness, LevelsHaveThePages};
 
 use index_page::laws::{checks_are_an_index_page, page_has_one_chain};
 
@@ -9,6 +9,11 @@ use index_page::laws::{checks_are_an_index_page, page_has_one_chain};
 /// page comes twice in it.
 pub fn links_are_the_descent()
     ensures { LinksAreDescent }
+{}
+
+/// Each page comes as often on the levels of a tree as in the descent.
+pub fn levels_have_the_pages()
+    ensures { LevelsHaveThePages }
 {}
 
 /// The keys of its rows rise over all leaves, and not only on each.

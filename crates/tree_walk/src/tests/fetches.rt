@@ -2,7 +2,9 @@
 
 ghost use Rattle.std.specs.Prelude.{◌≡◌, ◌<◌};
 
-use super::plan::{Plan, THREE_LEVELS, TWO_LEVELS, bytes_with, leaf_list, node_list};
+use super::file::bytes_with;
+use super::plan::{Plan, THREE_LEVELS, TWO_LEVELS};
+use super::walks::{leaf_list, node_list};
 use crate::{TreeEnds, Walk, walk_tree};
 use page_source::{LoggedPages, NoMemory, Steps, Stop};
 use space_audit::{Marks, audit};

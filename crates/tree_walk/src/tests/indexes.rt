@@ -1,13 +1,15 @@
-//! Null fields in a tree of two levels, and two indexes one after the other.
+//! Two indexes one after the other.
 
-ghost use Rattle.std.specs.Prelude.{◌≡◌, ◌<◌, ◌≤◌, ◌∷◌, [], length, replicate, IfOk, true, false};
+ghost use Rattle.std.specs.Prelude.{◌≡◌, ◌<◌, ◌∷◌, [], IfOk, true, false};
 ghost use Rattle.column_values.specs.declared.kind.ColumnType.TheVariants as types;
 ghost use Rattle.column_values.specs.declared.field.FieldType.TheVariants as fields;
 
+use super::file::file_with;
 use super::plan::{
-    ABOVE_TWO, ALONE_IN_LEVEL, Case, KEY, LEVEL_0, LEVEL_1, NONE, Piece, Plan, SEGMENTS, TWO,
-    audited, file_with, hidden, leaf_list, node_list,
+    ABOVE_TWO, ALONE_IN_LEVEL, LEVEL_0, NONE, ONE_BYTE_AHEAD, Piece, Plan, SEGMENTS, TWO,
+    TWO_BYTES_AHEAD,
 };
+use super::walks::{KEY, audited, hidden, leaf_list, node_list};
 use crate::{TreeEnds, Walk, walk_tree};
 use column_values::{ColumnType, Field, FieldList, FieldType};
 use page_source::{ChangingPages, Halt, NoMemory, Rule, Steps};
@@ -16,161 +18,6 @@ use std::alloc::Global;
 use std::marker::Brand;
 use std::sync::ledger::{Blank, Ledger};
 use std::test::Fail;
-
-/// The infimum, whose first record has its origin two bytes and one byte further on.
-const TWO_BYTES_AHEAD: Piece<'static> = (94, b"\x01\x00\x02\x00\x1Cinfimum\x00");
-
-const ONE_BYTE_AHEAD: Piece<'static> = (94, b"\x01\x00\x02\x00\x1Binfimum\x00");
-
-/// The root and two leaves of an index with nine columns that may be null, of which the ninth alone isn't. Each
-/// record has two bytes of null bits, those above the leaves too.
-const NULLS: Plan = Plan {
-    pages: 6,
-    segments: &[[3, NONE, NONE], [4, 5, NONE]],
-    tree: &[
-        &[
-            ALONE_IN_LEVEL,
-            (38, b"\x00\x02\x00\x96\x80\x04"),
-            TWO,
-            LEVEL_1,
-            SEGMENTS,
-            TWO_BYTES_AHEAD,
-            ABOVE_TWO,
-            (
-                120,
-                b"\x00\x00\x10\x00\x11\x00\x0F\x80\x00\x00\x01\x00\x00\x00\x04",
-            ),
-            (
-                135,
-                b"\x00\x00\x00\x00\x19\xFF\xE2\x80\x00\x00\x04\x00\x00\x00\x05",
-            ),
-        ],
-        &[
-            (8, b"\xFF\xFF\xFF\xFF\x00\x00\x00\x05"),
-            (38, b"\x00\x02\x00\xAA\x80\x04"),
-            TWO,
-            LEVEL_0,
-            TWO_BYTES_AHEAD,
-            ABOVE_TWO,
-            (120, b"\x00\xFF\x00\x00\x10\x00\x19\x80\x00\x00\x01"),
-            (144, b"\x05"),
-            (145, b"\x00\xFF\x00\x00\x18\xFF\xD8\x80\x00\x00\x02"),
-            (169, b"\x05"),
-        ],
-        &[
-            (8, b"\x00\x00\x00\x04\xFF\xFF\xFF\xFF"),
-            (38, b"\x00\x02\x00\xAA\x80\x04"),
-            TWO,
-            LEVEL_0,
-            TWO_BYTES_AHEAD,
-            ABOVE_TWO,
-            (120, b"\x00\xFF\x00\x00\x10\x00\x19\x80\x00\x00\x05"),
-            (144, b"\x05"),
-            (145, b"\x00\xFF\x00\x00\x18\xFF\xD8\x80\x00\x00\x06"),
-            (169, b"\x05"),
-        ],
-    ],
-};
-
-const SMALL: Field = Field {
-    kind: FieldType::Column(ColumnType::Int {
-        width: 1,
-        signed: true,
-    }),
-    nullable: true,
-    may_leave: false,
-};
-
-/// The fields of a leaf record of this index.
-fn wide_leaf(alloc: Global) -> Result<FieldList, NoMemory>
-    ensures { IfOk result (λ list. list ≡ record {
-      fields = record { kind = fields.Column (types.Int 4 true); nullable = false; may_leave = false }
-          ∷ record { kind = fields.TrxId; nullable = false; may_leave = false }
-          ∷ record { kind = fields.RollPointer; nullable = false; may_leave = false }
-          ∷ replicate 9 (record { kind = fields.Column (types.Int 1 true); nullable = true; may_leave = false });
-      nullable = 9;
-      keys = 1;
-    }) }
-{
-    let mut list = FieldList::new(alloc, 9, 1);
-    list.push(KEY)?;
-    list.push(hidden(FieldType::TrxId))?;
-    list.push(hidden(FieldType::RollPointer))?;
-    list.push(SMALL)?;
-    list.push(SMALL)?;
-    list.push(SMALL)?;
-    list.push(SMALL)?;
-    list.push(SMALL)?;
-    list.push(SMALL)?;
-    list.push(SMALL)?;
-    list.push(SMALL)?;
-    list.push(SMALL)?;
-    Ok(list)
-}
-
-/// Those of its node pointers.
-fn wide_node(alloc: Global) -> Result<FieldList, NoMemory>
-    ensures { IfOk result (λ list. list ≡ record {
-      fields = record { kind = fields.Column (types.Int 4 true); nullable = false; may_leave = false }
-          ∷ record { kind = fields.Child; nullable = false; may_leave = false } ∷ [];
-      nullable = 9;
-      keys = 1;
-    }) }
-{
-    let mut list = FieldList::new(alloc, 9, 1);
-    list.push(KEY)?;
-    list.push(hidden(FieldType::Child))?;
-    Ok(list)
-}
-
-/// The answer of a walk over such a tree from page 3.
-fn walked_wide<L: Ledger>(
-    alloc: Global,
-    space: &Space,
-    file: &mut ChangingPages,
-    blank: Blank,
-) -> Result<Result<TreeEnds, Halt>, NoMemory>
-    requires name { blank.name ≡ L.name }
-    requires parts { blank.parts ≡ L.parts }
-    requires shared { 0 < blank.parts }
-{
-    let leaf = wide_leaf(alloc)?;
-    let node = wide_node(alloc)?;
-    let mut walk = Walk::new(alloc, 12)?;
-    let mut named = Marks::new(alloc, space.segment_count())?;
-    let mut marks = Marks::new(alloc, space.size())?;
-    let mut steps = Steps::<L>::new(blank);
-    Ok(walk_tree(
-        &mut walk, file, space, 3, &leaf, &node, &mut named, &mut marks, &mut steps,
-    ))
-}
-
-const OF_NULLS: [Case; 9] = [
-    (&[], Ok((4, 0))),
-    (&[(3, (120, b"\x01\x01"))], Ok((4, 0))),
-    (&[(3, (120, b"\xFF\xFF"))], Ok((4, 0))),
-    (&[(4, (120, b"\xFE"))], Ok((4, 0))),
-    (&[(4, (120, b"\x01"))], Ok((4, 0))),
-    (&[(4, (121, b"\xFE"))], Err((Rule::RecordRoom, 4))),
-    (&[(3, (145, b"\x05"))], Ok((4, 0))),
-    (&[(3, (145, b"\x02"))], Err((Rule::Separator, 4))),
-    (&[(3, (145, b"\x06"))], Err((Rule::Separator, 5))),
-];
-
-#[test]
-fn node_pointers_have_null_bits_for_the_whole_index(rt: HostRuntime) -> Result<(), Fail> {
-    let alloc = rt.alloc();
-    let mut whole = file_with(&rt, alloc, &NULLS, &[])?;
-    let space = audited::<Brand>(alloc, &mut whole, Blank::new(1))?;
-    for (edits, wanted) in &OF_NULLS {
-        let mut file = file_with(&rt, alloc, &NULLS, edits)?;
-        let answer = walked_wide::<Brand>(alloc, &space, &mut file, Blank::new(1))?;
-        let found = answer.map(|ends| (ends.live, ends.deleted));
-        let wanted = wanted.map_err(|(rule, page)| Halt::Broken(rule.at(page)));
-        assert_eq!(rt; found, wanted);
-    }
-    Ok(())
-}
 
 /// An index without rows, and one of a text that may be null: its root and two leaves, with the entries (NULL, 1) and
 /// (NULL, 2), and ('a', 1) and ('b', 3).

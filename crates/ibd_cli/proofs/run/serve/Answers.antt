@@ -1,6 +1,7 @@
 use Rattle.std.proofs.Common.{Err, ap}
 use Rattle.ibd_cli.proofs.OneAnswer.{one_answer}
 use Rattle.ibd_cli.proofs.Serving.{serves_stopped, serves_file, never_usage, file_never_usage}
+use Rattle.ibd_cli.proofs.Serving.{never_unbuilt, file_never_unbuilt}
 use Rattle.ibd_cli.proofs.run.serve.Goals as goal
 
 pub returns-in-Ok-clause-serves : goal.returns-in-Ok-clause-serves
@@ -30,3 +31,9 @@ returns-in-Err-clause-serves g c =
 
 pub returns-in-Err-clause-usage : goal.returns-in-Err-clause-usage
 returns-in-Err-clause-usage g c = rw c.from.ensures (never_usage c.in-Err.stop)
+
+pub returns-in-Ok-clause-built : goal.returns-in-Ok-clause-built
+returns-in-Ok-clause-built g c = file_never_unbuilt c.serve_table.result c.serve_table.ensures.of_file
+
+pub returns-in-Err-clause-built : goal.returns-in-Err-clause-built
+returns-in-Err-clause-built g c = rw c.from.ensures (never_unbuilt c.in-Err.stop)

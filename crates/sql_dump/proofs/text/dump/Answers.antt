@@ -39,6 +39,6 @@ returns-clause-told g c =
     told3 (g.S.PageSource.content c.args.source.now)
     (λ file first numbers puts. all_written file c.args.schema.now c.in_ok-table.table.checked
     (g.O.ByteSink.written c.args.sink.now) (g.O.ByteSink.written c.put_rows.new.sink) c.schema_is_table.ensures
-    c.checked_can_be_read.ensures
+    c.checked_can_be_read.ensures c.checks_are_validity.ensures
     first numbers.is_checked puts)
     c.in_ok-table.ensures.exact c.in_ok-table.ensures.table puts

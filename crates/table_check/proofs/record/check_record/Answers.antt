@@ -1,14 +1,12 @@
-use Rattle.std.proofs.Common.{◌≡◌, length, All, ℕ, ◌+◌, ◌<◌, ◌≤◌, List, [], Err, get_or, refl, sym, ap, ◌∙◌, subst}
+use Rattle.std.proofs.Common.{◌≡◌, length, ◌<◌, refl, sym, ap, ◌∙◌}
 use Rattle.std.proofs.Common.{arith}
 use Rattle.std.proofs.lemmas.Result.{err_from_is_err_and}
-use Rattle.page_source.proofs.Told.{told0, told1, told2}
-use Rattle.column_values.specs.declared.field.Field.{Field}
-use Rattle.column_values.specs.Types.{IsFieldKind}
+use Rattle.page_source.proofs.Told.{told0, told1}
 use Rattle.compact_record.specs.Reading.{field_count}
 use Rattle.space_audit.specs.Marks.{is_set}
 use Rattle.table_check.specs.Values.{RecordChecks, pages_of_part, pages_of_record}
 use Rattle.table_check.proofs.Progress.{none_marked, all_marked, unmarked_most}
-use Rattle.table_check.proofs.RecordSteps.{no_part, whole_record, record_holds}
+use Rattle.table_check.proofs.RecordSteps.{whole_record, record_holds}
 use Rattle.table_check.proofs.RecordMarks.{count_of_places, place_read, field_read, field_breaks, field_marked}
 use Rattle.table_check.proofs.RecordMarks.{field_held}
 use Rattle.table_check.proofs.record.check_record.Goals as goal

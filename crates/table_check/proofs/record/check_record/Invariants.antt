@@ -1,4 +1,3 @@
-use Rattle.std.proofs.Common.{◌≡◌, ℕ, List, length}
 use Rattle.page_source.specs.Verdict.{AllBelow}
 use Rattle.page_source.specs.Calls.{OfFile}
 use Rattle.space_audit.specs.Marks.{is_set}

@@ -1,6 +1,6 @@
-use Rattle.std.proofs.Common.{◌≡◌, ℕ, Some, None, inl, inr, refl, sym, ap, ◌∙◌, subst}
+use Rattle.std.proofs.Common.{Some, None, inr}
 use Rattle.std.proofs.lemmas.Result.{err_from_is_err_and}
-use Rattle.page_source.proofs.Told.{told0, told2, told3}
+use Rattle.page_source.proofs.Told.{told0, told3}
 use Rattle.table_check.proofs.TreeSteps.{none_taken, named_checked}
 use Rattle.table_check.proofs.trees.check_trees.Goals as goal
 

@@ -1,4 +1,4 @@
-use Rattle.std.proofs.Common.{◌≡◌, ℕ, ◌<◌, None, refl, sym, ap, ◌∙◌, subst}
+use Rattle.std.proofs.Common.{None, subst}
 use Rattle.std.proofs.lemmas.Result.{err_from_is_err_and}
 use Rattle.page_source.proofs.Told.{told1, told2, told3}
 use Rattle.tree_walk.specs.Index.{Index}

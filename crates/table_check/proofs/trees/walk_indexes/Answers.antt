@@ -1,6 +1,6 @@
-use Rattle.std.proofs.Common.{◌≡◌, ℕ, ◌+◌, ◌≤◌, None, length, refl, sym, ap, ◌∙◌, subst, arith}
+use Rattle.std.proofs.Common.{◌≡◌, ℕ, length, ap, ◌∙◌, subst, arith}
 use Rattle.std.proofs.lemmas.Result.{err_from_is_err_and}
-use Rattle.page_source.proofs.Told.{told1, told2, told3, told4, told5}
+use Rattle.page_source.proofs.Told.{told1, told2, told4}
 use Rattle.page_source.specs.Verdict.{AllBelow}
 use Rattle.table_check.specs.Taken.{AreWalked}
 use Rattle.table_check.specs.Trees.{index_count, IndexCheck}

@@ -1,4 +1,4 @@
-use Rattle.std.proofs.Common.{◌≡◌, ℕ, ◌+◌, ◌*◌, ◌≤◌, List, length}
+use Rattle.std.proofs.Common.{◌≡◌, ◌≤◌, length}
 use Rattle.page_source.specs.Calls.{OfFile}
 use Rattle.tree_walk.specs.Room.{HasRoom}
 use Rattle.table_check.specs.Taken.{AreWalked, LeavesRoom}

@@ -1,11 +1,9 @@
-use Rattle.std.proofs.Common.{◌≡◌, ℕ, ◌+◌, ◌<◌, ◌≤◌, true, false, List, length, filter, refl, sym, ap, ◌∙◌, subst}
+use Rattle.std.proofs.Common.{◌≡◌, ℕ, length, filter, refl, sym, ap, ◌∙◌, subst}
 use Rattle.std.proofs.Common.{arith}
 use Rattle.std.specs.List.{range_with_len}
 use Rattle.std.proofs.lemmas.Bool.{true≢false}
 use Rattle.page_source.specs.Verdict.{AllBelow}
 use Rattle.space_header.specs.Header.{size_of}
-use Rattle.space_audit.specs.Owners.{owner_of}
-use Rattle.space_audit.specs.declared.owner.Owner.{Owner}
 use Rattle.table_check.specs.First.{UnreachedCheck, is_segment_owner, is_unreached}
 use Rattle.table_check.proofs.UnreachedSteps.{no_segment, not_used, reached, unreached, held_no, held_yes, count_no}
 use Rattle.table_check.proofs.UnreachedSteps.{count_yes}

@@ -1,8 +1,7 @@
-use Rattle.std.proofs.Common.{◌≡◌, ℕ, ◌<◌, true, false, List, length, Contains, inl, inr, refl, sym, ap, ◌∙◌, subst}
+use Rattle.std.proofs.Common.{ℕ, ◌<◌, List, Contains, inl, inr, sym, ◌∙◌, subst}
 use Rattle.std.proofs.Common.{arith}
 use Rattle.std.proofs.lemmas.Bool.{true≢false}
 use Rattle.space_header.specs.Header.{size_of}
-use Rattle.space_audit.specs.Space.{IsPageOf}
 use Rattle.table_check.proofs.UnreachedSteps.{contains_found}
 use Rattle.table_check.proofs.unreached.is_left_over.Goals as goal
 

@@ -1,4 +1,4 @@
-use Rattle.std.proofs.Common.{◌≡◌, ◌≤◌, ◌+◌, ◌-◌, List, ℕ, [], ◌++◌, length, ap, sym, ◌∙◌, subst, arith}
+use Rattle.std.proofs.Common.{◌≡◌, ◌+◌, ◌-◌, List, ℕ, [], ◌++◌, length, ap, sym, ◌∙◌, subst, arith}
 use Rattle.std.specs.Prelude.{IfOk, OnOk}
 use Rattle.page_source.specs.Checks.{Halts}
 use Rattle.page_source.specs.Calls.{OfFile}
@@ -6,7 +6,6 @@ use Rattle.page_source.proofs.Told.{told1}
 use Rattle.column_values.specs.Utf8Reader.{TakesText, WasFed, IsFed}
 use Rattle.space_audit.specs.Marks.{is_set, Marked}
 use Rattle.offpage_chain.specs.declared.reference.Reference.{Reference}
-use Rattle.offpage_chain.specs.Reference.{reference_of}
 use Rattle.offpage_chain.specs.Chain.{chain_pages}
 use Rattle.offpage_chain.specs.ChainChecks.{ChainChecks}
 use Rattle.table_check.specs.Values.{FitsKind, front_of}

@@ -1,17 +1,15 @@
-use Rattle.std.proofs.Common.{◌≡◌, ℕ, ◌+◌, ◌-◌, ◌<◌, ◌≤◌, List, [], length, Result, Ok, Err, Option, Some, None}
-use Rattle.std.proofs.Common.{get_or, refl, sym, ap, ◌∙◌, subst, arith}
+use Rattle.std.proofs.Common.{◌≡◌, ℕ, ◌+◌, ◌-◌, Ok, Err, Some, None}
+use Rattle.std.proofs.Common.{refl, sym, ap, ◌∙◌, subst, arith}
 use Rattle.std.proofs.lemmas.Result.{err_from_is_err_and}
-use Rattle.page_source.specs.declared.checks.Halt.{Halt}
-use Rattle.page_source.proofs.Told.{told0, told1, told2, told3, told4}
+use Rattle.page_source.proofs.Told.{told0, told1, told2, told3}
 use Rattle.space_audit.specs.Marks.{is_set}
-use Rattle.tree_walk.specs.Index.{Row}
 use Rattle.table_check.specs.Trees.{clustered_tree}
-use Rattle.table_check.specs.Live.{HasGivenLive, FindsLive, IsRowInHand}
-use Rattle.table_check.specs.Values.{RecordChecks, RowCheck, RowChecks, pages_of_record, all_chain_pages, live_rows}
-use Rattle.table_check.proofs.Progress.{HasMarked, none_marked, all_marked, more_marked, breaks_off, moved, shifted}
+use Rattle.table_check.specs.Live.{HasGivenLive}
+use Rattle.table_check.specs.Values.{RowCheck, RowChecks, all_chain_pages, live_rows}
+use Rattle.table_check.proofs.Progress.{HasMarked, none_marked, all_marked, moved}
 use Rattle.table_check.proofs.Progress.{unmarked_most, rose_before}
-use Rattle.table_check.proofs.RowSteps.{no_rows, pages_before, before_more, each_of_breaks, each_of_holds}
-use Rattle.table_check.proofs.RowSteps.{row_checked, row_more, row_readable, all_pages, can_give, finds, never_breaks}
+use Rattle.table_check.proofs.RowSteps.{no_rows, pages_before, each_of_holds}
+use Rattle.table_check.proofs.RowSteps.{row_readable, all_pages, can_give, finds, never_breaks}
 use Rattle.table_check.proofs.RowSteps.{halt_as, none_found}
 use Rattle.table_check.proofs.RowMarks.{HeldBefore, row_breaks, row_marked, row_held, row_gives}
 use Rattle.page_source.specs.Calls.{OfFile}

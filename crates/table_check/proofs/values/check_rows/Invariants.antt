@@ -1,4 +1,4 @@
-use Rattle.std.proofs.Common.{◌≡◌, ℕ, ◌+◌, ◌-◌, ◌≤◌, List, length, false}
+use Rattle.std.proofs.Common.{◌≡◌, ◌+◌, ◌-◌, ◌≤◌, false}
 use Rattle.page_source.specs.Verdict.{AllBefore}
 use Rattle.page_source.specs.Calls.{OfFile}
 use Rattle.space_audit.specs.Marks.{is_set}

@@ -1,8 +1,7 @@
-use Rattle.std.proofs.Common.{◌≡◌, ℕ, ◌+◌, ◌*◌, ◌≤◌, List, None, refl, sym, ap, ◌∙◌, subst, arith}
+use Rattle.std.proofs.Common.{◌∙◌, arith}
 use Rattle.std.proofs.lemmas.Result.{err_from_is_err_and}
-use Rattle.page_source.proofs.Told.{told1, told2, told3, told4, told5}
+use Rattle.page_source.proofs.Told.{told1, told2, told3, told4}
 use Rattle.table_check.specs.Trees.{clustered_tree}
-use Rattle.table_check.proofs.Progress.{unmarked_most}
 use Rattle.table_check.proofs.WholeSteps.{stops_in_audit, stops_in_trees, stops_in_values, breaks_unreached, all_hold}
 use Rattle.table_check.proofs.WholeSteps.{live_count, deleted_count, takes_steps}
 use Rattle.table_check.proofs.whole.check_table.Goals as goal

@@ -217,3 +217,6 @@ returns-clause-over g c =
 
 pub returns-clause-steps : goal.returns-clause-steps
 returns-clause-steps g c = c.next.ensures.steps ∙ c.loop-origin.invariant.spent
+
+pub returns-clause-ended : goal.returns-clause-ended
+returns-clause-ended g c = λ none. rw c.in_default.is at c.in_ok-origin.ensures.ended

@@ -1,0 +1,154 @@
+//! What is read of sound lists, and how often a page is fetched.
+
+ghost use Rattle.std.specs.Prelude.{◌<◌};
+
+use super::draft::{
+    Draft, FIVE, FRAGMENTS, NULL, breaks, header, list, node_of, put_address, put_inodes, read,
+    segment,
+};
+use crate::{read_inode, write_inode};
+use fil_frame::seal;
+use page_source::{ByteList, LoggedPages, NoMemory, Page, Rule, SparsePages, Stop};
+use space_header::Address;
+use std::alloc::Global;
+use std::marker::Brand;
+use std::sync::ledger::Blank;
+use std::test::Fail;
+
+#[test]
+fn reads_two_inodes(rt: HostRuntime) -> Result<(), Fail> {
+    let alloc = rt.alloc();
+    for size in [6, 16448] {
+        let mut file = Draft::new(alloc, &header(size))?.sealed(alloc, size, &[])?;
+        let inodes = read::<SparsePages, Brand>(alloc, &mut file, &FRAGMENTS, Blank::new(1))?;
+        assert_eq!(rt; inodes.count(), 2);
+        assert_eq!(rt; inodes.inode(1), &segment(2));
+        assert_eq!(rt;
+            inodes.place(1),
+            Address {
+                page: 2,
+                offset: 242
+            }
+        );
+        for page in [1, 2, 3, 16384, 0xFFFF_FFFF] {
+            assert_eq!(rt; inodes.is_inode_page(page), page == 2, "page {page}");
+        }
+    }
+    Ok(())
+}
+
+/// Pages 2 and 4 are linked in this order, and page 4 has two more inodes.
+fn linked(alloc: Global, id: u64) -> Result<Draft, NoMemory>
+    requires { id < 1000 }
+{
+    let mut header = header(6);
+    header.next_segment = 6;
+    header.inodes_free = list(2, 2, 4);
+    let mut draft = Draft::new(alloc, &header)?;
+    put_inodes(&mut draft.second, NULL, node_of(4), 1, 2);
+    put_inodes(&mut draft.fourth, node_of(2), NULL, id, 2);
+    Ok(draft)
+}
+
+#[test]
+fn follows_two_pages(rt: HostRuntime) -> Result<(), Fail> {
+    let alloc = rt.alloc();
+    let mut file = linked(alloc, 4)?.sealed(alloc, 6, &[])?;
+    let inodes = read::<SparsePages, Brand>(alloc, &mut file, &FIVE, Blank::new(1))?;
+    assert_eq!(rt; inodes.count(), 4);
+    assert_eq!(rt; inodes.inode(3).id, 5);
+    assert_eq!(rt;
+        inodes.place(2),
+        Address {
+            page: 4,
+            offset: 50
+        }
+    );
+    assert!(rt; inodes.is_inode_page(2) && inodes.is_inode_page(4));
+    for (at, address) in [
+        (38, node_of(4)),
+        (38, NULL),
+        (44, node_of(2)),
+        (44, node_of(4)),
+    ] {
+        let mut draft = linked(alloc, 4)?;
+        put_address(&mut draft.fourth, at, address);
+        let rule = Rule::InodeList;
+        let broken = breaks::<Brand>(alloc, draft, &FIVE, rule, 4, Blank::new(1))?;
+        assert!(rt; broken, "{at} {address:?}");
+    }
+    for (id, rule) in [
+        (1, Rule::SegmentId),
+        (2, Rule::SegmentId),
+        (5, Rule::SegmentId),
+    ] {
+        let draft = linked(alloc, id)?;
+        let broken = breaks::<Brand>(alloc, draft, &FIVE, rule, 4, Blank::new(1))?;
+        assert!(rt; broken, "{id}");
+    }
+    Ok(())
+}
+
+/// The calls are those for the number of pages, for page 0 and for page 2.
+#[test]
+fn says_which_call_of_the_source_failed(rt: HostRuntime) -> Result<(), Fail> {
+    let alloc = rt.alloc();
+    for call in 1..5u64 {
+        let mut file = Draft::new(alloc, &header(6))?.sealed(alloc, 6, &[call])?;
+        let answer = read::<SparsePages, Brand>(alloc, &mut file, &FRAGMENTS, Blank::new(1));
+        let failed = matches!(answer, Err(Stop::Source));
+        assert_eq!(rt; failed, call < 4, "call {call}");
+    }
+    Ok(())
+}
+
+/// The list of page 2 leads to page 2 again, and its base counts a million pages.
+#[test]
+fn fetches_no_page_twice(rt: HostRuntime) -> Result<(), Fail> {
+    let alloc = rt.alloc();
+    let mut head = header(6);
+    head.inodes_free.length = 1_000_000;
+    let mut draft = Draft::new(alloc, &head)?;
+    put_address(&mut draft.second, 44, node_of(2));
+    seal(&mut draft.second, 2, 23, 1, 3);
+    let empty = Page::zeroed(alloc)?;
+    let mut bytes = ByteList::new(alloc);
+    bytes.extend(draft.head.bytes())?;
+    bytes.extend(empty.bytes())?;
+    bytes.extend(draft.second.bytes())?;
+    for _ in 3..6 {
+        bytes.extend(empty.bytes())?;
+    }
+    let mut file = LoggedPages::new(alloc, bytes, 100)?;
+    let answer = read::<LoggedPages, Brand>(alloc, &mut file, &FRAGMENTS, Blank::new(1));
+    let wanted = Stop::Broken(Rule::InodeList.at(2));
+    assert!(rt; matches!(answer, Err(stop) if stop == wanted));
+    assert_eq!(rt; file.log(), [0, 2].as_slice());
+    Ok(())
+}
+
+#[test]
+fn writes_what_it_reads(rt: HostRuntime) -> Result<(), Fail> {
+    let mut page = Page::zeroed(rt.alloc())?;
+    let mut inode = segment(0x0102_0304_0506_0708);
+    inode.not_full_used = 9;
+    inode.full = list(1, 2, 4);
+    inode.slots[0] = 3;
+    inode.slots[31] = 0x0A0B_0C0D;
+    write_inode(&mut page, 16192, &inode);
+    assert_eq!(rt; read_inode(&page, 16192), inode);
+    assert_eq!(rt;
+        &page.bytes()[16192..16208],
+        [1, 2, 3, 4, 5, 6, 7, 8, 0, 0, 0, 9, 0, 0, 0, 0].as_slice()
+    );
+    assert_eq!(rt;
+        &page.bytes()[16236..16264],
+        [
+            0, 0, 0, 1, 0, 0, 0, 2, 0, 38, 0, 0, 0, 4, 0, 38, 5, 214, 105, 210, 0, 0, 0, 3, 255,
+            255, 255, 255
+        ]
+        .as_slice()
+    );
+    assert_eq!(rt; &page.bytes()[16380..], [10, 11, 12, 13].as_slice());
+    Ok(())
+}
