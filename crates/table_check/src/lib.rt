@@ -5,6 +5,8 @@ pub mod laws;
 mod record;
 mod rows;
 mod table;
+#[cfg(test)]
+mod tests;
 mod trees;
 mod unreached;
 mod value;

@@ -1,7 +1,7 @@
 use Rattle.std.proofs.Common.{◌∙◌, All, refl, sym, subst}
 use Rattle.compact_record.specs.Keys.{LiesBelow}
 use Rattle.sql_dump.proofs.TableLines.{is_read, cells_read}
-use Rattle.sql_dump.proofs.tests.put_one.Goals as goal
+use Rattle.sql_dump.proofs.tests.lines.put_one.Goals as goal
 
 pub put_line-answer-requires-clause-cells : goal.put_line-answer-requires-clause-cells
 put_line-answer-requires-clause-cells g c =

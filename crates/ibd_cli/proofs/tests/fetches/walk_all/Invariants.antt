@@ -1,0 +1,10 @@
+use Rattle.std.proofs.Common.{◌≡◌, length}
+use Rattle.tree_walk.specs.Room.{HasRoom}
+use Rattle.ibd_cli.proofs.tests.fetches.walk_all.Given as goal
+
+abbrev pub invariant-loop-j : goal.invariant-loop-j
+invariant-loop-j g l = record {
+  members : length l.marks ≡ l.space.size;
+  segments : length l.named ≡ length l.space.segments;
+  room : HasRoom l.walk 128;
+}

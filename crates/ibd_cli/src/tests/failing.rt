@@ -1,0 +1,148 @@
+//! Each call of an object fails in turn, and outputs have little room.
+
+use super::command::{CHECK, Command, DUMP, expect};
+use super::files::ALL;
+use crate::Status;
+use std::alloc::Global;
+use std::process::Abort;
+use std::test::Fail;
+use vectors::{Which, file};
+
+/// An object whose calls can fail.
+#[derive(Clone, Copy, Debug, PartialEq, Eq)]
+enum Object {
+    File,
+    Schema,
+    Out,
+}
+
+impl Object {
+    /// The status and the line that blame it.
+    fn blame(self) -> (Status, &'static str) {
+        match self {
+            Object::File | Object::Schema => (Status::SourceFault, "source\n"),
+            Object::Out => (Status::SinkFault, "sink\n"),
+        }
+    }
+
+    /// The command, in which these calls of the object fail.
+    fn failing<'a>(self, command: Command<'a>, calls: &'a [u64]) -> Command<'a> {
+        match self {
+            Object::File => Command {
+                file_fails: calls,
+                ..command
+            },
+            Object::Schema => Command {
+                schema_fails: calls,
+                ..command
+            },
+            Object::Out => Command {
+                out_fails: calls,
+                ..command
+            },
+        }
+    }
+}
+
+/// Fails the test where the command ends otherwise, or wrote what is no part of this text.
+fn expect_part(
+    rt: &impl Abort,
+    alloc: Global,
+    command: Command,
+    object: Object,
+    whole: &str,
+) -> Result<(), Fail> {
+    let (status, outputs) = command.run(alloc)?;
+    let (blame, line) = object.blame();
+    assert_eq!(rt; status, blame);
+    assert_eq!(rt; outputs.err.bytes(), line.as_bytes());
+    assert!(rt; whole.as_bytes().starts_with(outputs.out.bytes()));
+    Ok(())
+}
+
+/// Each of the first calls of the object fails in turn, of which there are so many at least.
+fn expect_each_call(
+    rt: &impl Abort,
+    alloc: Global,
+    command: Command,
+    object: Object,
+    whole: &str,
+    least: u64,
+) -> Result<(), Fail> {
+    for call in 1..=least {
+        let calls = [call];
+        let failing = object.failing(command, &calls);
+        expect_part(rt, alloc, failing, object, whole)?;
+    }
+    Ok(())
+}
+
+/// The line of a check of the file with three rows, and the lines of its dump.
+const CHECKED: &str = "pages=6 used=4 rows=3 deleted=0 unreached=0\n";
+
+const DUMPED: &str =
+    "INSERT INTO `t` VALUES (-1);\nINSERT INTO `t` VALUES (0);\nINSERT INTO `t` VALUES (2147483647);\n";
+
+#[test]
+fn tells_which_object_failed(rt: HostRuntime) -> Result<(), Fail> {
+    let alloc = rt.alloc();
+    let file = file(alloc, Which::B)?;
+    let check = Command::check(file.bytes());
+    let dump = Command::dump(file.bytes());
+    // The size and each used page are read, the text of the schema and its end, and each number is put, or all rows at
+    // once.
+    expect_each_call(&rt, alloc, check, Object::File, CHECKED, 5)?;
+    expect_each_call(&rt, alloc, check, Object::Schema, CHECKED, 2)?;
+    expect_each_call(&rt, alloc, check, Object::Out, CHECKED, 11)?;
+    expect_each_call(&rt, alloc, dump, Object::File, DUMPED, 6)?;
+    expect_each_call(&rt, alloc, dump, Object::Schema, DUMPED, 2)?;
+    expect_each_call(&rt, alloc, dump, Object::Out, DUMPED, 1)?;
+    let later = [1000];
+    for object in [Object::File, Object::Schema, Object::Out] {
+        expect(&rt, alloc, object.failing(dump, &later), ALL)?;
+    }
+    Ok(())
+}
+
+#[test]
+fn fills_the_output(rt: HostRuntime) -> Result<(), Fail> {
+    let alloc = rt.alloc();
+    let file = file(alloc, Which::B)?;
+    for (words, whole) in [(CHECK, CHECKED), (DUMP, DUMPED)] {
+        for room in 0..whole.len() {
+            let command = Command {
+                words: &words,
+                room,
+                ..Command::dump(file.bytes())
+            };
+            expect_part(&rt, alloc, command, Object::Out, whole)?;
+        }
+    }
+    let full = Command {
+        room: DUMPED.len(),
+        ..Command::dump(file.bytes())
+    };
+    expect(&rt, alloc, full, ALL)
+}
+
+#[test]
+fn goes_on_where_the_report_fails(rt: HostRuntime) -> Result<(), Fail> {
+    let wants = [
+        "3||",
+        "3||broken ",
+        "3||broken 1",
+        "3||broken 1 ",
+        "3||broken 1 file-size",
+        "3||broken 1 file-size page ",
+        "3||broken 1 file-size page 0",
+        "3||broken 1 file-size page 0\n",
+    ];
+    for (call, want) in (1..).zip(wants) {
+        let command = Command {
+            err_fails: &[call],
+            ..Command::dump(b"")
+        };
+        expect(&rt, rt.alloc(), command, want)?;
+    }
+    Ok(())
+}

@@ -1,0 +1,179 @@
+//! Which pages the commands fetch, in what order: those of the parts that they consist of, one after another.
+
+ghost use Rattle.std.specs.Prelude.{◌≡◌, ◌+◌, ◌<◌, None, false};
+ghost use Rattle.page_source.specs.Faults.{HasCause};
+
+use super::command::{CHECK, Command, DUMP};
+use page_source::{ByteList, Failed, Halt, LoggedPages, NoMemory, Page, PageSource, Steps, Stop};
+use schema_text::Schema;
+use schema_text::laws::lists_are_of_one_index;
+use space_audit::{Marks, Space, audit};
+use std::alloc::Global;
+use std::marker::Brand;
+use std::process::Abort;
+use std::sync::ledger::{Blank, Ledger};
+use std::test::Fail;
+use tree_walk::{LeafCursor, TreeEnds, Walk, walk_tree};
+use vectors::{Piece, Which, edited, schema};
+
+/// More pages than any command here fetches.
+const ROOM: usize = 200;
+
+/// A file that keeps which pages were fetched, and tells nothing.
+#[derive(Drop)]
+struct Untold {
+    pages: LoggedPages,
+}
+
+impl PageSource for Untold {
+    ghost content = { λ file. None };
+
+    ghost faults = { λ file. file.pages.file.calls.faults };
+
+    fn pages(&mut self) -> Result<u32, Failed>
+        ensures cause { HasCause self.old.pages.file.calls.faults self.new.pages.file.calls.faults result }
+    {
+        self.pages.pages()
+    }
+
+    fn fetch<L: Ledger>(
+        &mut self,
+        n: u32,
+        page: &mut Page,
+        steps: &mut Steps<L>,
+    ) -> Result<(), Failed>
+        ensures step { steps.new ≡ steps.old + 1 }
+        ensures cause { HasCause self.old.pages.file.calls.faults self.new.pages.file.calls.faults result }
+    {
+        self.pages.fetch(n, page, steps)
+    }
+}
+
+/// Walks the trees of all indexes in their order, and answers the ends of the first.
+fn walk_all<L: Ledger>(
+    alloc: Global,
+    file: &mut Untold,
+    space: &Space,
+    table: &Schema,
+    steps: &mut Steps<L>,
+) -> Result<Option<TreeEnds>, Stop> {
+    lists_are_of_one_index();
+    let mut walk = Walk::new(alloc, 128)?;
+    let mut named = Marks::new(alloc, space.segment_count())?;
+    let mut marks = Marks::new(alloc, space.size())?;
+    let mut clustered = None;
+    for j in 0..table.indexes().len() {
+        let leaf = table.fields(alloc, j, true)?;
+        let node = table.fields(alloc, j, false)?;
+        let root = table.indexes()[j].root;
+        let ends = walk_tree(
+            &mut walk, file, space, root, &leaf, &node, &mut named, &mut marks, steps,
+        )?;
+        clustered = clustered.or(Some(ends));
+    }
+    Ok(clustered)
+}
+
+/// Reads the rows of a tree to their end, and answers how many there are, at most 100.
+fn read_rows<L: Ledger>(
+    file: &mut Untold,
+    cursor: &mut LeafCursor,
+    steps: &mut Steps<L>,
+) -> Result<u32, Halt>
+    requires fresh { cursor.old.ended ≡ false }
+{
+    for rows in 0..100 {
+        if cursor.next(file, steps)?.is_none() {
+            return Ok(rows);
+        }
+    }
+    Ok(100)
+}
+
+/// The audit, the walks, and the reading of the rows: how many pages were fetched before the last, and how many rows
+/// there are.
+fn take_parts<L: Ledger>(
+    alloc: Global,
+    file: &mut Untold,
+    table: &Schema,
+    blank: Blank,
+) -> Result<(usize, u32), Stop>
+    requires name { blank.name ≡ L.name }
+    requires parts { blank.parts ≡ L.parts }
+    requires shared { 0 < blank.parts }
+{
+    let mut steps = Steps::<L>::new(blank);
+    let space = audit(alloc, file, table.flags(), &mut steps)?;
+    let clustered = walk_all(alloc, file, &space, table, &mut steps)?;
+    let before = file.pages.log().len();
+    let Some(ends) = clustered else {
+        return Ok((before, 0));
+    };
+    let mut cursor = LeafCursor::start(alloc, &ends)?;
+    let rows = read_rows(file, &mut cursor, &mut steps)?;
+    Ok((before, rows))
+}
+
+/// Which pages a command fetches.
+fn fetched_by(
+    alloc: Global,
+    words: &[&str],
+    bytes: ByteList,
+    schema: &str,
+) -> Result<LoggedPages, NoMemory> {
+    let mut file = LoggedPages::new(alloc, bytes, ROOM)?;
+    let command = Command {
+        words,
+        schema: schema.as_bytes(),
+        ..Command::dump(b"")
+    };
+    command.run_over(alloc, &mut file)?;
+    Ok(file)
+}
+
+/// Fails the test where a command fetches other pages than its parts do. The file has so many rows, or is broken.
+fn expect_fetches(
+    rt: &impl Abort,
+    alloc: Global,
+    which: Which,
+    edits: &[Piece<'_>],
+    rows: Option<u32>,
+) -> Result<(), Fail> {
+    let table = Schema::read(alloc, schema(which).as_bytes())?;
+    let mut file = Untold {
+        pages: LoggedPages::new(alloc, edited(alloc, which, &[edits])?, ROOM)?,
+    };
+    let parts = take_parts::<Brand>(alloc, &mut file, &table, Blank::new(1));
+    let log = file.pages.log();
+    let dump = fetched_by(alloc, &DUMP, edited(alloc, which, &[edits])?, schema(which))?;
+    let check = fetched_by(
+        alloc,
+        &CHECK,
+        edited(alloc, which, &[edits])?,
+        schema(which),
+    )?;
+    assert_eq!(rt; check.log(), log, "{which:?}");
+    if let Some(rows) = rows {
+        let (before, found) = parts?;
+        assert!(rt; found == rows && before < log.len());
+        let (first, again) = dump
+            .log()
+            .split_at_checked(log.len())
+            .ok_or("too few pages")?;
+        assert_eq!(rt; first, log, "{which:?}");
+        assert_eq!(rt; again, &log[before..], "{which:?}");
+    } else {
+        assert!(rt; matches!(parts, Err(Stop::Broken(_))));
+        assert_eq!(rt; dump.log(), log, "{which:?}");
+    }
+    Ok(())
+}
+
+#[test]
+fn fetches_the_pages_of_its_parts(rt: HostRuntime) -> Result<(), Fail> {
+    let alloc = rt.alloc();
+    expect_fetches(&rt, alloc, Which::C, &[], Some(4))?;
+    expect_fetches(&rt, alloc, Which::D, &[], Some(0))?;
+    expect_fetches(&rt, alloc, Which::G, &[], Some(2))?;
+    expect_fetches(&rt, alloc, Which::G, &[(6, 12, b"\0\0\0\x05")], None)
+}

@@ -1,0 +1,134 @@
+//! Values of a column of each type, in a row with the key 1, and what is printed of them.
+
+mod numbers;
+mod rows;
+mod texts;
+
+use super::command::{CHECK, Command, joined};
+use page_source::{ByteList, NoMemory};
+use std::alloc::Global;
+use std::process::Abort;
+use std::test::Fail;
+use vectors::{Which, edited};
+
+/// The type of a column and whether it may be null, the null bits and lengths of a record from the lower address
+/// on, the column's bytes, and what is printed of it; where the value is refused, the whole answer.
+type Value = (&'static str, &'static [u8], &'static [u8], &'static str);
+
+/// The answer of a check of a file whose one record has a sound value.
+const CHECKED: &str = "0|pages=6 used=4 rows=1 deleted=0 unreached=0\n|";
+
+/// The file with one record on its root page, whose key is 1: the null bits and lengths from the lower address on,
+/// and the columns behind the key and the hidden fields.
+fn one_record(
+    rt: &impl Abort,
+    alloc: Global,
+    front: &[u8],
+    columns: &[u8],
+) -> Result<ByteList, NoMemory> {
+    assert!(rt; front.len() <= 100 && columns.len() <= 1000);
+    let origin = 125 + front.len();
+    let top = origin + 17 + columns.len();
+    edited(
+        alloc,
+        Which::A,
+        &[&[
+            (3, 40, &(top as u16).to_be_bytes()),
+            (3, 42, b"\x80\x03"),
+            (3, 54, b"\0\x01"),
+            (3, 97, &(origin as u16 - 99).to_be_bytes()),
+            (3, 107, b"\x02"),
+            (3, 120, front),
+            (3, origin - 4, b"\0\x10"),
+            (
+                3,
+                origin - 2,
+                &112u16.wrapping_sub(origin as u16).to_be_bytes(),
+            ),
+            (3, origin, b"\x80\0\0\x01"),
+            (3, origin + 17, columns),
+        ]],
+    )
+}
+
+/// The schema of a table with a key and a column of this type.
+fn schema_with(alloc: Global, kind: &str) -> Result<ByteList, NoMemory> {
+    joined(
+        alloc,
+        &[
+            "table t dynamic\ncolumn id int notnull\ncolumn v ",
+            kind,
+            "\nclustered root 3 id\n",
+        ],
+    )
+}
+
+/// What a dump and a check of a file whose one record has this value answer.
+fn answers_of(rt: &impl Abort, alloc: Global, value: &Value) -> Result<[ByteList; 2], NoMemory> {
+    let file = one_record(rt, alloc, value.1, value.2)?;
+    let schema = schema_with(alloc, value.0)?;
+    let dump = Command {
+        schema: schema.bytes(),
+        ..Command::dump(file.bytes())
+    };
+    let check = Command {
+        words: &CHECK,
+        ..dump
+    };
+    Ok([dump.answer(alloc)?, check.answer(alloc)?])
+}
+
+fn expect_values(rt: &impl Abort, alloc: Global, values: &[Value]) -> Result<(), Fail> {
+    for value in values {
+        let [dumped, checked] = answers_of(rt, alloc, value)?;
+        let want = joined(alloc, &["0|INSERT INTO `t` VALUES (1,", value.3, ");\n|"])?;
+        assert_eq!(rt; dumped.bytes(), want.bytes(), "{value:?}");
+        assert_eq!(rt; checked.bytes(), CHECKED.as_bytes(), "{value:?}");
+    }
+    Ok(())
+}
+
+fn expect_broken(rt: &impl Abort, alloc: Global, values: &[Value]) -> Result<(), Fail> {
+    for value in values {
+        for found in answers_of(rt, alloc, value)? {
+            assert_eq!(rt; found.bytes(), value.3.as_bytes(), "{value:?}");
+        }
+    }
+    Ok(())
+}
+
+#[test]
+fn dumps_integers(rt: HostRuntime) -> Result<(), Fail> {
+    expect_values(&rt, rt.alloc(), &numbers::INTEGERS)
+}
+
+#[test]
+fn dumps_moments(rt: HostRuntime) -> Result<(), Fail> {
+    expect_values(&rt, rt.alloc(), &numbers::MOMENTS)?;
+    expect_broken(&rt, rt.alloc(), &numbers::MOMENTS_BROKEN)
+}
+
+#[test]
+fn dumps_decimals(rt: HostRuntime) -> Result<(), Fail> {
+    expect_values(&rt, rt.alloc(), &numbers::DECIMALS)?;
+    expect_broken(&rt, rt.alloc(), &numbers::DECIMALS_BROKEN)
+}
+
+#[test]
+fn dumps_bytes(rt: HostRuntime) -> Result<(), Fail> {
+    expect_values(&rt, rt.alloc(), &texts::BYTES)?;
+    expect_values(&rt, rt.alloc(), &texts::ALL_BYTES)?;
+    expect_broken(&rt, rt.alloc(), &texts::BYTES_BROKEN)
+}
+
+#[test]
+fn dumps_texts(rt: HostRuntime) -> Result<(), Fail> {
+    expect_values(&rt, rt.alloc(), &texts::TEXTS)?;
+    expect_broken(&rt, rt.alloc(), &texts::TEXTS_BROKEN)
+}
+
+#[test]
+fn reads_lengths(rt: HostRuntime) -> Result<(), Fail> {
+    expect_values(&rt, rt.alloc(), &texts::LENGTHS)?;
+    expect_broken(&rt, rt.alloc(), &texts::LENGTHS_BROKEN)
+}

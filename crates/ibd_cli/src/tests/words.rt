@@ -1,0 +1,159 @@
+//! The words of the command line, and the schema text. No call of the file may be made where these decide the answer.
+
+use super::command::{Command, copy, expect, expect_both};
+use itoa::Buffer;
+use page_source::{ByteList, NoMemory};
+use std::alloc::Global;
+use std::test::Fail;
+use vectors::{Which, file};
+
+/// Schema texts that decide the answer alone, and that answer.
+const SCHEMAS: [(&str, &str); 13] = [
+    ("", "2||schema line 1 end\n"),
+    (
+        "table t dynamic\ncolumn id int notnull\nclustered root 3 id",
+        "2||schema line 3 end\n",
+    ),
+    (
+        "table t dynamic\ncolumn id integer notnull\nclustered root 3 id\n",
+        "2||schema line 2 form\n",
+    ),
+    (
+        "table t dynamic\ncolumn id int notnull\nclustered root 2 id\n",
+        "2||schema line 3 number\n",
+    ),
+    (
+        "table t dynamic\ncolumn id! int notnull\nclustered root 3 id\n",
+        "2||schema line 2 name\n",
+    ),
+    (
+        "table t dynamic\ncolumn id int notnull\ncolumn id int notnull\nclustered root 3 id\n",
+        "2||schema line 3 twice\n",
+    ),
+    (
+        "table t dynamic\ncolumn id int notnull\nclustered root 3 k\n",
+        "2||schema line 3 unknown\n",
+    ),
+    (
+        "table t dynamic\ncolumn id int null\nclustered root 3 id\n",
+        "2||schema line 3 key\n",
+    ),
+    (
+        "table t dynamic\ncolumn id int notnull\nclustered root 3 id\nindex i root 3 id\n",
+        "2||schema line 4 root\n",
+    ),
+    (
+        "table t dynamic\ncolumn a varchar 16384 utf8mb4 notnull\nclustered root 3 a\n",
+        "2||schema line 2 number\n",
+    ),
+    (
+        "table t dynamic\ncolumn a datetime 7 notnull\nclustered root 3 a\n",
+        "2||schema line 2 number\n",
+    ),
+    (
+        "table t dynamic\ncolumn a text notnull\nclustered root 3 a\n",
+        "2||schema line 3 key\n",
+    ),
+    ("x\n", "2||schema line 1 form\n"),
+];
+
+/// Schema texts that go badly with the file with three rows, and the answer.
+const OTHER_SCHEMAS: [(&str, &str); 6] = [
+    (
+        "table t compact\ncolumn id int notnull\nclustered root 3 id\n",
+        "3||broken 5 head-flags page 0\n",
+    ),
+    (
+        "table t dynamic\ncolumn id int notnull\nclustered root 4 id\n",
+        "3||broken 27 root-place page 4\n",
+    ),
+    (
+        "table t dynamic\ncolumn id int notnull\nclustered root 6 id\n",
+        "3||broken 27 root-place page 6\n",
+    ),
+    (
+        "table t dynamic\ncolumn id int notnull\nclustered root 3 id\nindex i root 4 id\n",
+        "3||broken 27 root-place page 4\n",
+    ),
+    (
+        "table t dynamic\ncolumn id int notnull\nclustered root 3\n",
+        "3||broken 41 record-room page 3\n",
+    ),
+    (
+        "table t dynamic\ncolumn id bigint notnull\nclustered root 3 id\n",
+        "3||broken 41 record-room page 3\n",
+    ),
+];
+
+#[test]
+fn serves_no_other_words(rt: HostRuntime) -> Result<(), Fail> {
+    let commands: [(&[&str], &str); 17] = [
+        (&[], "1||usage\n"),
+        (&["dump"], "1||usage\n"),
+        (&["dump", "s"], "1||usage\n"),
+        (&["dump", "s", "f", "g"], "1||usage\n"),
+        (&["Dump", "s", "f"], "1||usage\n"),
+        (&["check", "s"], "1||usage\n"),
+        (&["check", "s", "f", "g"], "1||usage\n"),
+        (&["cheque", "s", "f"], "1||usage\n"),
+        (&["build", "s", "r"], "1||usage\n"),
+        (&["sample"], "1||usage\n"),
+        (&["sample", "07"], "1||usage\n"),
+        (&["sample", "200001"], "1||usage\n"),
+        (&["sample", "-1"], "1||usage\n"),
+        (&["sample", "1", "2"], "1||usage\n"),
+        (&["build", "s", "r", "f"], "10||unbuilt\n"),
+        (&["sample", "0"], "10||unbuilt\n"),
+        (&["sample", "200000"], "10||unbuilt\n"),
+    ];
+    for (words, want) in commands {
+        let command = Command {
+            words,
+            file_fails: &[1],
+            schema_fails: &[1],
+            out_fails: &[1],
+            ..Command::dump(b"")
+        };
+        expect(&rt, rt.alloc(), command, want)?;
+    }
+    Ok(())
+}
+
+/// The file's first call fails, so that none may be made.
+#[test]
+fn reads_the_schema_first(rt: HostRuntime) -> Result<(), Fail> {
+    for (schema, want) in SCHEMAS {
+        let dump = Command {
+            schema: schema.as_bytes(),
+            file_fails: &[1],
+            ..Command::dump(b"")
+        };
+        expect_both(&rt, rt.alloc(), dump, [want, want])?;
+    }
+    Ok(())
+}
+
+#[test]
+fn refuses_a_long_schema(rt: HostRuntime) -> Result<(), Fail> {
+    let long = Vec::from_elem(rt.alloc(), b'x', 70_000)?;
+    let dump = Command {
+        schema: &long,
+        file_fails: &[1],
+        ..Command::dump(b"")
+    };
+    let want = "2||schema line 1 size\n";
+    expect_both(&rt, rt.alloc(), dump, [want, want])
+}
+
+#[test]
+fn checks_the_file_by_its_schema(rt: HostRuntime) -> Result<(), Fail> {
+    let file = file(rt.alloc(), Which::B)?;
+    for (schema, want) in OTHER_SCHEMAS {
+        let dump = Command {
+            schema: schema.as_bytes(),
+            ..Command::dump(file.bytes())
+        };
+        expect_both(&rt, rt.alloc(), dump, [want, want])?;
+    }
+    Ok(())
+}

@@ -1,0 +1,4 @@
+//! Dumps of whole files, and the lines of crafted records.
+
+mod files;
+mod lines;

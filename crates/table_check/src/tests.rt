@@ -1,0 +1,123 @@
+//! The check of a whole table, over files that are sound or not, that change, and whose calls fail.
+
+ghost use Rattle.std.specs.Prelude.{◌≡◌, ◌<◌};
+
+use crate::{Checked, check};
+use page_source::{ChangingPages, Fails, LoggedPages, MemoryPages, PageSource, Steps, Stop};
+use schema_text::Schema;
+use std::alloc::Global;
+use std::marker::Brand;
+use std::sync::ledger::{Blank, Ledger};
+use std::test::Fail;
+use vectors::{BROKEN, CHANGES, SOUND, Which, edited, file, schema};
+
+fn counted<S: PageSource, L: Ledger>(
+    alloc: Global,
+    source: &mut S,
+    table: &Schema,
+    blank: Blank,
+) -> Result<Checked, Stop>
+    requires name { blank.name ≡ L.name }
+    requires parts { blank.parts ≡ L.parts }
+    requires shared { 0 < blank.parts }
+{
+    check(alloc, source, table, &mut Steps::<L>::new(blank))
+}
+
+/// The answer over a file.
+fn check_of<S: PageSource>(alloc: Global, source: &mut S, table: &Schema) -> Result<Checked, Stop> {
+    counted::<S, Brand>(alloc, source, table, Blank::new(1))
+}
+
+/// The schema of a named file.
+fn table_of(alloc: Global, which: Which) -> Result<Schema, Fail> {
+    Ok(Schema::read(alloc, schema(which).as_bytes())?)
+}
+
+fn checked(numbers: [u32; 5]) -> Checked {
+    let [pages, used, rows, deleted, unreached] = numbers;
+    Checked {
+        pages,
+        used,
+        rows: u64::from(rows),
+        deleted: u64::from(deleted),
+        unreached,
+    }
+}
+
+/// The numbers, and that no more pages are fetched than four for each page, and 64.
+#[test]
+fn counts_a_sound_file(rt: HostRuntime) -> Result<(), Fail> {
+    let alloc = rt.alloc();
+    let long: (Which, &[_], [u32; 5], &str) = (Which::E, &[], [8, 7, 1, 0, 0], "");
+    for (which, edits, numbers, _) in SOUND.into_iter().chain([long]) {
+        let table = table_of(alloc, which)?;
+        let mut file = LoggedPages::new(alloc, edited(alloc, which, &[edits])?, 1000)?;
+        let found = check_of(alloc, &mut file, &table)?;
+        assert_eq!(rt; found, checked(numbers), "{which:?} {edits:?}");
+        let most = 4 * (numbers[0] as usize) + 64;
+        assert!(rt; file.log().len() <= most, "{which:?} {edits:?}");
+    }
+    Ok(())
+}
+
+#[test]
+fn names_the_first_broken_rule(rt: HostRuntime) -> Result<(), Fail> {
+    let alloc = rt.alloc();
+    for (which, cases) in BROKEN {
+        let table = table_of(alloc, which)?;
+        for (edits, rule, page) in cases {
+            let bytes = edited(alloc, which, &[edits])?;
+            let mut file = MemoryPages::new(bytes, Fails::of(alloc, &[])?);
+            let found = check_of(alloc, &mut file, &table);
+            assert_eq!(rt;
+                found,
+                Err(Stop::Broken(rule.at(*page))),
+                "{which:?} {edits:?}"
+            );
+        }
+    }
+    Ok(())
+}
+
+/// The calls are that of the size, and those of the fetches.
+#[test]
+fn stops_at_each_call_that_fails(rt: HostRuntime) -> Result<(), Fail> {
+    let alloc = rt.alloc();
+    for which in [Which::A, Which::B, Which::C, Which::D, Which::E, Which::G] {
+        let table = table_of(alloc, which)?;
+        let mut logged = LoggedPages::new(alloc, file(alloc, which)?, 1000)?;
+        let whole = check_of(alloc, &mut logged, &table);
+        let fetches = logged.log().len() as u64;
+        for call in 1..fetches.wrapping_add(3) {
+            let fails = Fails::of(alloc, &[call])?;
+            let mut failing = MemoryPages::new(file(alloc, which)?, fails);
+            let found = check_of(alloc, &mut failing, &table);
+            if call <= fetches.wrapping_add(1) {
+                assert_eq!(rt; found, Err(Stop::Source), "call {call} of {which:?}");
+            } else {
+                assert_eq!(rt; found, whole, "{which:?}");
+            }
+        }
+    }
+    Ok(())
+}
+
+/// Whenever the file changes, the check ends, with numbers or with a broken rule.
+#[test]
+fn answers_over_a_file_that_changes(rt: HostRuntime) -> Result<(), Fail> {
+    let alloc = rt.alloc();
+    for (which, later, edits) in CHANGES {
+        let table = table_of(alloc, which)?;
+        for at in 1..=40 {
+            let second = edited(alloc, later, &[edits])?;
+            let mut changing = ChangingPages::new(file(alloc, which)?, second, at);
+            let found = check_of(alloc, &mut changing, &table);
+            assert!(rt;
+                matches!(found, Ok(_) | Err(Stop::Broken(_))),
+                "{which:?} at {at}: {found:?}"
+            );
+        }
+    }
+    Ok(())
+}
