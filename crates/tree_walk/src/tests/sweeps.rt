@@ -34,7 +34,13 @@ const OF_THREE_LEVELS: [Sweep; 24] = [
     (6, 12, Some(7), (Rule::Sibling, 6), &[]),
     (7, 12, None, (Rule::Sibling, 7), &[]),
     // The level, with the two bytes before it.
-    (3, 62, Some(2), (Rule::Level, 4), &[(0, Rule::RecordKind, 3), (1, Rule::ChildPlace, 3)]),
+    (
+        3,
+        62,
+        Some(2),
+        (Rule::Level, 4),
+        &[(0, Rule::RecordKind, 3), (1, Rule::ChildPlace, 3)],
+    ),
     (4, 62, Some(1), (Rule::Level, 4), &[]),
     (5, 62, Some(1), (Rule::Level, 5), &[]),
     (6, 62, Some(0), (Rule::Level, 6), &[]),
@@ -46,9 +52,21 @@ const OF_THREE_LEVELS: [Sweep; 24] = [
     (6, 70, None, (Rule::IndexId, 6), &[]),
     (7, 70, None, (Rule::IndexId, 7), &[]),
     // The child of a node pointer.
-    (3, 129, Some(4), (Rule::ChildPlace, 3), &[(5, Rule::Sibling, 5)]),
+    (
+        3,
+        129,
+        Some(4),
+        (Rule::ChildPlace, 3),
+        &[(5, Rule::Sibling, 5)],
+    ),
     (3, 142, Some(5), (Rule::Sibling, 4), &[]),
-    (4, 129, Some(6), (Rule::ChildPlace, 4), &[(7, Rule::Sibling, 7)]),
+    (
+        4,
+        129,
+        Some(6),
+        (Rule::ChildPlace, 4),
+        &[(7, Rule::Sibling, 7)],
+    ),
     (5, 129, Some(7), (Rule::Sibling, 6), &[]),
 ];
 
@@ -61,7 +79,13 @@ const OF_TWO_LEVELS: [Sweep; 14] = [
     (4, 12, Some(5), (Rule::Sibling, 4), &[]),
     (5, 12, None, (Rule::Sibling, 5), &[]),
     // The level, with the two bytes before it.
-    (3, 62, Some(1), (Rule::ChildPlace, 3), &[(0, Rule::RecordKind, 3)]),
+    (
+        3,
+        62,
+        Some(1),
+        (Rule::ChildPlace, 3),
+        &[(0, Rule::RecordKind, 3)],
+    ),
     (4, 62, Some(0), (Rule::Level, 4), &[]),
     (5, 62, Some(0), (Rule::Level, 5), &[]),
     // The low bytes of the index's id, which is 41.
@@ -69,7 +93,13 @@ const OF_TWO_LEVELS: [Sweep; 14] = [
     (4, 70, None, (Rule::IndexId, 4), &[]),
     (5, 70, None, (Rule::IndexId, 5), &[]),
     // The child of a node pointer.
-    (3, 129, Some(4), (Rule::ChildPlace, 3), &[(5, Rule::Sibling, 5)]),
+    (
+        3,
+        129,
+        Some(4),
+        (Rule::ChildPlace, 3),
+        &[(5, Rule::Sibling, 5)],
+    ),
     (3, 142, Some(5), (Rule::Sibling, 4), &[]),
 ];
 
