@@ -210,60 +210,60 @@ pub fn expect_both(
     expect(rt, alloc, check, wants[1])
 }
 
-/// A file that is made from a named one by putting pieces on it, and its schema text.
-#[derive(Clone, Copy, Debug)]
-pub struct Made<'a> {
-    pub which: Which,
-    pub parts: [&'a [Piece<'a>]; 2],
-    pub schema: &'a str,
+/// The named file that a file is made from, what is put on that, and its schema text.
+pub type Table = (Which, &'static [Piece<'static>], &'static str);
+
+/// The answers of a dump and of a check of the file with these edits.
+fn answers(
+    alloc: Global,
+    table: Table,
+    edits: &'static [Piece<'static>],
+) -> Result<(ByteList, ByteList), NoMemory> {
+    let (which, pieces, schema) = table;
+    let file = edited(alloc, which, &[pieces, edits])?;
+    let dump = Command {
+        schema: schema.as_bytes(),
+        ..Command::dump(file.bytes())
+    };
+    let check = Command {
+        words: &CHECK,
+        ..dump
+    };
+    Ok((dump.answer(alloc)?, check.answer(alloc)?))
 }
 
-impl Made<'_> {
-    /// Fails the test where its dump doesn't write these lines, or its check not these numbers: the pages, the used
-    /// ones, the rows, those with the delete mark, and the unreached pages.
-    pub fn expect_sound(
-        &self,
-        rt: &impl Abort,
-        alloc: Global,
-        numbers: [u32; 5],
-        lines: &str,
-    ) -> Result<(), Fail> {
-        let [dumped, checked] = self.answers(alloc)?;
-        let want = joined(alloc, &["0|", lines, "|"])?;
-        assert_eq!(rt; dumped.bytes(), want.bytes(), "{self:?}");
-        let want = numbers_text(alloc, numbers)?;
-        assert_eq!(rt; checked.bytes(), want.bytes(), "{self:?}");
-        Ok(())
-    }
+/// Fails the test where a dump of the file with these edits doesn't write these lines, or a check not these numbers:
+/// the pages, the used ones, the rows, those with the delete mark, and the unreached pages.
+pub fn expect_sound(
+    rt: &impl Abort,
+    alloc: Global,
+    table: Table,
+    edits: &'static [Piece<'static>],
+    numbers: [u32; 5],
+    lines: &str,
+) -> Result<(), Fail> {
+    let (dumped, checked) = answers(alloc, table, edits)?;
+    let want = joined(alloc, &["0|", lines, "|"])?;
+    assert_eq!(rt; dumped.bytes(), want.bytes(), "{edits:?}");
+    let want = numbers_text(alloc, numbers)?;
+    assert_eq!(rt; checked.bytes(), want.bytes(), "{edits:?}");
+    Ok(())
+}
 
-    /// Fails the test where they don't answer that this rule is broken first, at this page.
-    pub fn expect_broken(
-        &self,
-        rt: &impl Abort,
-        alloc: Global,
-        rule: Rule,
-        page: u32,
-    ) -> Result<(), Fail> {
-        let want = broken_text(alloc, rule, page)?;
-        for found in self.answers(alloc)? {
-            assert_eq!(rt; found.bytes(), want.bytes(), "{self:?}");
-        }
-        Ok(())
-    }
-
-    /// The answers of a dump and of a check.
-    fn answers(&self, alloc: Global) -> Result<[ByteList; 2], NoMemory> {
-        let file = edited(alloc, self.which, &self.parts)?;
-        let dump = Command {
-            schema: self.schema.as_bytes(),
-            ..Command::dump(file.bytes())
-        };
-        let check = Command {
-            words: &CHECK,
-            ..dump
-        };
-        Ok([dump.answer(alloc)?, check.answer(alloc)?])
-    }
+/// Fails the test where they don't answer that this rule is broken first, at this page.
+pub fn expect_broken(
+    rt: &impl Abort,
+    alloc: Global,
+    table: Table,
+    edits: &'static [Piece<'static>],
+    rule: Rule,
+    page: u32,
+) -> Result<(), Fail> {
+    let (dumped, checked) = answers(alloc, table, edits)?;
+    let want = broken_text(alloc, rule, page)?;
+    assert_eq!(rt; dumped.bytes(), want.bytes(), "{edits:?}");
+    assert_eq!(rt; checked.bytes(), want.bytes(), "{edits:?}");
+    Ok(())
 }
 
 /// These texts one after another.

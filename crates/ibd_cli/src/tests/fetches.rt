@@ -14,7 +14,7 @@ use std::process::Abort;
 use std::sync::ledger::{Blank, Ledger};
 use std::test::Fail;
 use tree_walk::{LeafCursor, TreeEnds, Walk, walk_tree};
-use vectors::{Piece, Which, edited, schema};
+use vectors::{Which, edited, file, schema};
 
 /// More pages than any command here fetches.
 const ROOM: usize = 200;
@@ -131,49 +131,82 @@ fn fetched_by(
     Ok(file)
 }
 
-/// Fails the test where a command fetches other pages than its parts do. The file has so many rows, or is broken.
-fn expect_fetches(
+/// The file with the pages that the parts fetched, and how they ended.
+fn parts_of(
+    alloc: Global,
+    which: Which,
+    bytes: ByteList,
+) -> Result<(Untold, Result<(usize, u32), Stop>), Fail> {
+    let table = Schema::read(alloc, schema(which).as_bytes())?;
+    let mut file = Untold {
+        pages: LoggedPages::new(alloc, bytes, ROOM)?,
+    };
+    let parts = take_parts::<Brand>(alloc, &mut file, &table, Blank::new(1));
+    Ok((file, parts))
+}
+
+/// Fails the test where a check of this file fetches other pages.
+fn expect_check(
     rt: &impl Abort,
     alloc: Global,
     which: Which,
-    edits: &[Piece<'_>],
-    rows: Option<u32>,
+    bytes: ByteList,
+    log: &[u32],
 ) -> Result<(), Fail> {
-    let table = Schema::read(alloc, schema(which).as_bytes())?;
-    let mut file = Untold {
-        pages: LoggedPages::new(alloc, edited(alloc, which, &[edits])?, ROOM)?,
-    };
-    let parts = take_parts::<Brand>(alloc, &mut file, &table, Blank::new(1));
-    let log = file.pages.log();
-    let dump = fetched_by(alloc, &DUMP, edited(alloc, which, &[edits])?, schema(which))?;
-    let check = fetched_by(
-        alloc,
-        &CHECK,
-        edited(alloc, which, &[edits])?,
-        schema(which),
-    )?;
-    assert_eq!(rt; check.log(), log, "{which:?}");
-    if let Some(rows) = rows {
-        let (before, found) = parts?;
-        assert!(rt; found == rows && before < log.len());
-        let (first, again) = dump
-            .log()
-            .split_at_checked(log.len())
-            .ok_or("too few pages")?;
-        assert_eq!(rt; first, log, "{which:?}");
-        assert_eq!(rt; again, &log[before..], "{which:?}");
-    } else {
-        assert!(rt; matches!(parts, Err(Stop::Broken(_))));
-        assert_eq!(rt; dump.log(), log, "{which:?}");
-    }
+    let check = fetched_by(alloc, &CHECK, bytes, schema(which))?;
+    assert_eq!(rt; check.log(), log);
     Ok(())
+}
+
+/// Fails the test where a dump of this file fetches other pages, or others behind these.
+fn expect_dump(
+    rt: &impl Abort,
+    alloc: Global,
+    which: Which,
+    bytes: ByteList,
+    log: &[u32],
+    again: &[u32],
+) -> Result<(), Fail> {
+    let dump = fetched_by(alloc, &DUMP, bytes, schema(which))?;
+    let (front, back) = dump
+        .log()
+        .split_at_checked(log.len())
+        .ok_or("too few pages")?;
+    assert_eq!(rt; front, log);
+    assert_eq!(rt; back, again);
+    Ok(())
+}
+
+/// A check of a sound file fetches the pages of its parts, and a dump those of the rows once more.
+fn expect_fetches(rt: &impl Abort, alloc: Global, which: Which, rows: u32) -> Result<(), Fail> {
+    let (logged, parts) = parts_of(alloc, which, file(alloc, which)?)?;
+    let (before, found) = parts?;
+    let log = logged.pages.log();
+    assert!(rt; found == rows && before < log.len());
+    expect_check(rt, alloc, which, file(alloc, which)?, log)?;
+    expect_dump(rt, alloc, which, file(alloc, which)?, log, &log[before..])
 }
 
 #[test]
 fn fetches_the_pages_of_its_parts(rt: HostRuntime) -> Result<(), Fail> {
     let alloc = rt.alloc();
-    expect_fetches(&rt, alloc, Which::C, &[], Some(4))?;
-    expect_fetches(&rt, alloc, Which::D, &[], Some(0))?;
-    expect_fetches(&rt, alloc, Which::G, &[], Some(2))?;
-    expect_fetches(&rt, alloc, Which::G, &[(6, 12, b"\0\0\0\x05")], None)
+    expect_fetches(&rt, alloc, Which::C, 4)?;
+    expect_fetches(&rt, alloc, Which::D, 0)?;
+    expect_fetches(&rt, alloc, Which::G, 2)
+}
+
+/// The file of three levels, whose first leaf leads to a page of the level above.
+fn broken(alloc: Global) -> Result<ByteList, NoMemory> {
+    edited(alloc, Which::G, &[&[(6, 12, b"\0\0\0\x05")]])
+}
+
+/// Where the walk finds a broken rule, nothing is fetched behind it.
+#[test]
+fn fetches_no_page_behind_a_broken_one(rt: HostRuntime) -> Result<(), Fail> {
+    let alloc = rt.alloc();
+    let (logged, parts) = parts_of(alloc, Which::G, broken(alloc)?)?;
+    assert!(rt; matches!(parts, Err(Stop::Broken(_))));
+    let log = logged.pages.log();
+    expect_check(&rt, alloc, Which::G, broken(alloc)?, log)?;
+    expect_dump(&rt, alloc, Which::G, broken(alloc)?, log, &[])
 }

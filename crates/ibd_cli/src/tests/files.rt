@@ -1,22 +1,21 @@
 //! The named files, and edits of them.
 
-use super::command::{CHECK, Command, Made, expect, joined};
+use super::command::{CHECK, Command, expect, expect_broken, expect_sound, joined};
 use std::test::Fail;
-use vectors::{BROKEN, SOUND, Which, file, schema};
+use vectors::{BROKEN, Piece, SOUND, Which, file, schema};
 
 /// What a dump of the file with three rows answers.
 pub const ALL: &str =
     "0|INSERT INTO `t` VALUES (-1);\nINSERT INTO `t` VALUES (0);\nINSERT INTO `t` VALUES (2147483647);\n|";
 
+/// What is put on a named file as it is.
+const NOTHING: &[Piece<'static>] = &[];
+
 #[test]
 fn serves_sound_files(rt: HostRuntime) -> Result<(), Fail> {
     for (which, edits, numbers, lines) in SOUND {
-        let made = Made {
-            which,
-            parts: [edits, &[]],
-            schema: schema(which),
-        };
-        made.expect_sound(&rt, rt.alloc(), numbers, lines)?;
+        let table = (which, NOTHING, schema(which));
+        expect_sound(&rt, rt.alloc(), table, edits, numbers, lines)?;
     }
     Ok(())
 }
@@ -25,12 +24,8 @@ fn serves_sound_files(rt: HostRuntime) -> Result<(), Fail> {
 fn names_the_first_broken_rule(rt: HostRuntime) -> Result<(), Fail> {
     for (which, cases) in BROKEN {
         for (edits, rule, page) in cases {
-            let made = Made {
-                which,
-                parts: [edits, &[]],
-                schema: schema(which),
-            };
-            made.expect_broken(&rt, rt.alloc(), *rule, *page)?;
+            let table = (which, NOTHING, schema(which));
+            expect_broken(&rt, rt.alloc(), table, edits, *rule, *page)?;
         }
     }
     Ok(())

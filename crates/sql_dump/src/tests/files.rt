@@ -4,7 +4,8 @@ ghost use Rattle.std.specs.Prelude.{◌≡◌, ◌<◌};
 
 use crate::{DumpStop, dump};
 use page_source::{
-    ChangingPages, Fails, LoggedPages, MemoryPages, MemorySink, NoMemory, PageSource, Steps,
+    ByteList, ChangingPages, Fails, LoggedPages, MemoryPages, MemorySink, NoMemory, PageSource,
+    Steps,
 };
 use schema_text::Schema;
 use std::alloc::Global;
@@ -52,22 +53,38 @@ fn sink_of(alloc: Global, room: usize, fails: &[u64]) -> Result<MemorySink, NoMe
     MemorySink::new(alloc, room, Fails::of(alloc, fails)?)
 }
 
-/// The lines, and that no more pages are fetched than five for each page, and 64.
+/// How many pages a dump of so many may fetch.
+fn most_fetches(pages: u32) -> usize {
+    5 * (pages as usize) + 64
+}
+
+/// Fails the test where a dump of this file writes other lines, answers other numbers, or fetches too many pages.
+fn expect_lines(
+    rt: &impl Abort,
+    alloc: Global,
+    bytes: ByteList,
+    table: &Schema,
+    numbers: [u32; 5],
+    lines: &str,
+) -> Result<(), Fail> {
+    let [pages, _, rows, _, _] = numbers;
+    let mut file = LoggedPages::new(alloc, bytes, 1000)?;
+    let mut sink = sink_of(alloc, ROOM, &[])?;
+    let checked = dump_of(alloc, &mut file, table, &mut sink)?;
+    assert_eq!(rt; sink.bytes(), lines.as_bytes());
+    assert_eq!(rt; checked.pages, pages);
+    assert_eq!(rt; checked.rows, u64::from(rows));
+    assert!(rt; file.log().len() <= most_fetches(pages));
+    Ok(())
+}
+
 #[test]
 fn writes_the_rows_of_a_sound_file(rt: HostRuntime) -> Result<(), Fail> {
     let alloc = rt.alloc();
     for (which, edits, numbers, lines) in SOUND {
         let table = table_of(alloc, which)?;
-        let mut file = LoggedPages::new(alloc, edited(alloc, which, &[edits])?, 1000)?;
-        let mut sink = sink_of(alloc, ROOM, &[])?;
-        let checked = dump_of(alloc, &mut file, &table, &mut sink)?;
-        assert_eq!(rt; sink.bytes(), lines.as_bytes(), "{which:?} {edits:?}");
-        assert_eq!(rt;
-            (checked.pages, checked.rows),
-            (numbers[0], u64::from(numbers[2]))
-        );
-        let most = 5 * (numbers[0] as usize) + 64;
-        assert!(rt; file.log().len() <= most, "{which:?} {edits:?}");
+        let bytes = edited(alloc, which, &[edits])?;
+        expect_lines(&rt, alloc, bytes, &table, numbers, lines)?;
     }
     Ok(())
 }

@@ -3,10 +3,8 @@
 
 mod pieces;
 
-use self::pieces::{
-    CASES, CHAINED, DATES, DEEP, HIDDEN, INDEXED, NULLS, ORDERS, SPACES, TABS, Table,
-};
-use super::command::{Command, Made, expect_both};
+use self::pieces::{CASES, CHAINED, DATES, DEEP, HIDDEN, INDEXED, NULLS, ORDERS, SPACES, TABS};
+use super::command::{Command, Table, expect_both, expect_broken, expect_sound};
 use page_source::Rule;
 use std::test::Fail;
 use vectors::{Piece, edited};
@@ -179,19 +177,10 @@ const BROKEN: [Broken; 5] = [
     ),
 ];
 
-fn made<'a>(table: Table, edits: &'a [Piece<'a>]) -> Made<'a> {
-    let (which, pieces, schema) = table;
-    Made {
-        which,
-        parts: [pieces, edits],
-        schema,
-    }
-}
-
 #[test]
 fn serves_sound_tables(rt: HostRuntime) -> Result<(), Fail> {
     for (table, edits, numbers, lines) in SOUND {
-        made(table, edits).expect_sound(&rt, rt.alloc(), numbers, lines)?;
+        expect_sound(&rt, rt.alloc(), table, edits, numbers, lines)?;
     }
     Ok(())
 }
@@ -200,7 +189,7 @@ fn serves_sound_tables(rt: HostRuntime) -> Result<(), Fail> {
 fn names_the_first_broken_rule_of_tables(rt: HostRuntime) -> Result<(), Fail> {
     for (table, cases) in BROKEN {
         for (edits, rule, page) in cases {
-            made(table, edits).expect_broken(&rt, rt.alloc(), *rule, *page)?;
+            expect_broken(&rt, rt.alloc(), table, edits, *rule, *page)?;
         }
     }
     Ok(())

@@ -1,9 +1,7 @@
 //! What is put on the files to make the tables.
 
-use vectors::{Piece, Which};
-
-/// The file that a table is made from, what is put on that, and its schema text.
-pub type Table = (Which, &'static [Piece<'static>], &'static str);
+use crate::tests::command::Table;
+use vectors::Which;
 
 /// A key, and nine columns that may be null.
 const NINE_NULLS: &str =
