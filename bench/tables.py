@@ -4,7 +4,8 @@
 usage: bench/tables.py PROGRAM BUILDER..
 
 PROGRAM is the program that is measured. BUILDER is a command that makes a tablespace: three words are put behind it, the
-schema text, the row lines and the file to make. Each time is the best of three runs.
+schema text, the row lines and the file to make. Nothing in this repository does that as long as `ibd build` isn't
+served. Each time is the best of three runs.
 """
 import os
 import subprocess
@@ -68,6 +69,8 @@ def measure(program, builder, name, schema_text, rows, folder):
 
 
 def main():
+    if len(sys.argv) < 3:
+        sys.exit(__doc__)
     program, *builder = sys.argv[1:]
     for name, (schema_text, rows) in TABLES.items():
         with tempfile.TemporaryDirectory() as folder:
