@@ -8,6 +8,7 @@ use schema_text::decimal_number;
 use std::alloc::Global;
 use std::marker::Model;
 
+/// The most rows of a sample.
 const MOST_ROWS: u32 = 200_000;
 
 /// The command line without the program's name.
@@ -35,6 +36,7 @@ pub enum Task {
 /// What the words ask for.
 #[derive(Clone, Copy, Debug, PartialEq, Eq)]
 pub enum Form {
+    /// `check SCHEMA FILE` or `dump SCHEMA FILE`
     Table(Task),
     /// `build SCHEMA ROWS FILE`
     Build,

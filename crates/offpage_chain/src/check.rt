@@ -127,9 +127,10 @@ fn check_pages<S: PageSource, L: Ledger>(
     Ok(count)
 }
 
-/// Checks the chain of an externally stored field by the rules 48, 49 and 51, marks its pages, and
-/// answers how many there are. `segment` is the one of the clustered leaves, `holder` the leaf with
-/// the record. `text` was fed the local bytes before the reference, and is fed those of the chain.
+/// Checks the chain of an externally stored field (btr0cur), marks its pages, and answers how many there are. `segment`
+/// is the one of the clustered leaves, `holder` the leaf with the record. `text` was fed the local bytes before the
+/// reference, and is fed those of the chain. `Broken` names the first broken one of the rules 48, 49 and 51, and the leaf
+/// or the page of the chain that breaks it; `Source` comes where the file's count of faults rose.
 pub fn check_chain<S: PageSource, L: Ledger>(
     source: &mut S,
     space: &Space,

@@ -20,7 +20,8 @@ use table_check::laws::checks_are_validity;
 use table_check::{Checked, LiveRows, check_table};
 
 /// Checks a tablespace by the rules 1 to 51, and then writes one line for each row of its table that has no delete
-/// mark, in the order of the clustered index.
+/// mark, in the order of the clustered index. `Broken` names the first broken rule and its page, `Source` and `Sink`
+/// come where an object's count of faults rose, `Memory` where memory ran out, before the first line.
 pub fn dump<S: PageSource, O: ByteSink, L: Ledger>(
     alloc: Global,
     source: &mut S,

@@ -9,8 +9,9 @@ pub struct Checked {
     pub pages: u32,
     /// How many pages below it are used.
     pub used: u32,
-    /// How many records of the clustered leaves have no delete mark, and how many have one.
+    /// How many records of the clustered leaves have no delete mark.
     pub rows: u64,
+    /// How many records of the clustered leaves have the delete mark.
     pub deleted: u64,
     /// How many used pages of segments are in no tree and in no chain of a live row.
     pub unreached: u32,
@@ -19,6 +20,7 @@ pub struct Checked {
 /// A checked table, and what reading its rows needs besides.
 #[derive(Clone, Copy, Debug, PartialEq, Eq)]
 pub struct Table {
+    /// The numbers of the file.
     pub checked: Checked,
     /// The space id.
     pub space: u32,

@@ -17,7 +17,9 @@ use space_audit::audit;
 use std::alloc::Global;
 use std::sync::ledger::Ledger;
 
-/// Checks a tablespace by the rules 1 to 51. `Broken` names the first broken one and its page.
+/// Checks a tablespace by the rules 1 to 51. `Broken` names the first broken one and its page; over a source that doesn't
+/// tell its content it names one that the bytes broke as they came. `Source` comes where the file's count of faults rose,
+/// `Memory` where memory ran out.
 pub fn check<S: PageSource, L: Ledger>(
     alloc: Global,
     source: &mut S,
@@ -37,7 +39,7 @@ pub fn check<S: PageSource, L: Ledger>(
     Ok(check_table(alloc, source, schema, steps)?.checked)
 }
 
-/// The same, with what reading the rows of the table needs besides.
+/// The same, with what reading the rows of the table needs besides. Each error comes as with `check`.
 pub fn check_table<S: PageSource, L: Ledger>(
     alloc: Global,
     source: &mut S,

@@ -10,15 +10,19 @@ use crate::tree::root::Top;
 pub struct TreeEnds {
     /// The index id of the root.
     pub index_id: u64,
+    /// The level of the root; 0 where it is a leaf.
     pub root_level: u16,
-    /// The leftmost leaf, and how many leaves there are.
+    /// The number of the leftmost leaf.
     pub first_leaf: u32,
+    /// How many leaves there are.
     pub leaves: u32,
-    /// The segments that the root names, by position.
+    /// The segment of the leaves, by its position among the segments of the space.
     pub leaf_segment: u32,
+    /// The segment of the pages above them.
     pub top_segment: u32,
-    /// How many leaf records have no delete mark, and how many have one.
+    /// How many leaf records have no delete mark.
     pub live: u64,
+    /// How many leaf records have the delete mark.
     pub deleted: u64,
     made: (),
 }

@@ -17,13 +17,15 @@ pub struct Walk {
     pub after: Page,
     /// The page that is checked.
     pub child: Page,
+    /// Where the records of that page are looked at.
     pub scratch: Scratch,
     /// The node pointer in hand, whose key is the low separator of its child.
     pub low: Located,
     /// The node pointer behind it, whose key is the high separator.
     pub high: Located,
-    /// The first and the last record of the page that is checked.
+    /// The first record of the page that is checked.
     pub first: Located,
+    /// The last record of that page.
     pub last: Located,
 }
 

@@ -31,10 +31,11 @@ fn segment_of(level: u16, top: Top) -> u32
     if level == 0 { top.leaf } else { top.upper }
 }
 
-/// The checks of the tree with this root, level by level downward: the first broken one of the rules 27 to 45. `leaf`
-/// and `node` are the fields of its leaf records and of its node pointers. `named` are the segments that earlier
-/// indexes named, and `marks` the pages of earlier trees; at `Ok` each grew by those of this one. It takes no memory,
-/// and fetches each page once as a child, and each page above the leaves once more as a parent.
+/// The checks of the tree with this root, level by level downward (btr0btr, btr_validate_index). `leaf` and `node` are
+/// the fields of its leaf records and of its node pointers. `named` are the segments that earlier indexes named, and
+/// `marks` the pages of earlier trees; at `Ok` each grew by those of this one. `Broken` names the first broken one of
+/// the rules 27 to 45 and its page; `Source` comes where the file's count of faults rose. It takes no memory, and
+/// fetches each page once as a child, and each page above the leaves once more as a parent.
 #[tactic(auto, using(crate::proofs::Rooms::has_room))]
 pub fn walk_tree<S: PageSource, L: Ledger>(
     walk: &mut Walk,
