@@ -110,7 +110,7 @@ fn open_word<R: Files>(rt: &R, word: Option<&[u8]>, opening: Opening) -> io::Res
     how.open(rt, path)
 }
 
-/// A file that is read page by page.
+/// A file that is read page by page, of 16,384 bytes each.
 #[derive(Drop)]
 pub struct FilePages<'a, R: Files> {
     named: NamedFile<'a, R>,

@@ -26,7 +26,7 @@ pub use memory::{
     SparsePages,
 };
 pub use objects::{ByteSink, ByteSource, PageSource, PageStore};
-pub use page::{PAGE_SIZE, Page, read_be, write_be};
+pub use page::{FIL_NULL, PAGE_SIZE, Page, read_be, write_be};
 pub use pieces::put_pieces;
 pub use rule::{Fault, Rule};
 pub use steps::Steps;

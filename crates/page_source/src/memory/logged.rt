@@ -18,7 +18,7 @@ use std::alloc::Global;
 use std::marker::Model;
 use std::sync::ledger::Ledger;
 
-/// A file held in memory, and the numbers of the pages that it gave, the first of them, up to a room.
+/// A file held in memory, and the numbers of the pages that it gave, at most the first `room`.
 #[derive(Drop)]
 pub struct LoggedPages {
     file: MemoryPages,
@@ -55,7 +55,7 @@ impl LoggedPages {
         })
     }
 
-    /// The numbers of the pages that were fetched, in order.
+    /// The numbers of the pages that were fetched, in order, at most the first `room`.
     pub fn log(&self) -> &[u32]
         ensures { result.now ≡ self.now.fetched }
     {
