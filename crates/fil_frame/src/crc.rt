@@ -12,7 +12,7 @@ pub const ALL_ONES: u32 = 0xFFFF_FFFF;
 /// How many bytes are looked up at a time.
 const GROUP: usize = 8;
 
-/// The CRC-32C of the bytes.
+/// The CRC-32C of the bytes, from all ones on, with the bits of the last state turned (ut_crc32).
 pub fn crc32c(bytes: &[u8]) -> u32
     ensures { result ≡ crc32c_of bytes.now }
 {

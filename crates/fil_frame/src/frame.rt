@@ -48,18 +48,20 @@ const ECHO: usize = 16380;
 /// The number that stands where a page has no checksum (BUF_NO_CHECKSUM_MAGIC).
 const NO_SUM: u32 = 0xDEAD_BEEF;
 
-/// The kind of a page's two checksums (innodb_checksum_algorithm).
+/// The kind of a page's two checksums (innodb_checksum_algorithm, buf0checksum): 4 bytes at 0, and 4
+/// at 16376.
 #[derive(Clone, Copy, Debug, PartialEq, Eq)]
 pub enum SumKind {
     /// `crc32`: CRC-32C, at both places.
     Crc32,
-    /// `innodb`: two folds.
+    /// `innodb`: two folds, that of bytes 0 to 25 at 16376.
     Innodb,
-    /// `none`: a fixed number, at both places.
+    /// `none`: BUF_NO_CHECKSUM_MAGIC, at both places.
     Fixed,
 }
 
-/// The checksum of a page: the CRC-32C of bytes 4 to 25, exclusive-or that of bytes 38 to 16375.
+/// The checksum of the kind `crc32` (buf_calc_page_crc32): the CRC-32C of bytes 4 to 25 of the page,
+/// exclusive-or that of bytes 38 to 16375.
 #[tactic(auto, unfolding(crate::specs::Sums::page_sum_of))]
 pub fn page_sum(page: &Page) -> u32
     ensures { result ≡ page_sum_of page.now }
@@ -109,7 +111,8 @@ fn has_sums(page: &Page, kind: SumKind) -> bool
     }
 }
 
-/// The first kind that the page's checksums are of; none where they are of no kind.
+/// The first kind that the page's two checksums are of, in the order `crc32`, `innodb`, `none`; none
+/// where they are of no kind.
 pub fn sum_kind(page: &Page) -> Option<SumKind>
     ensures { IsSumKind page.now result }
 {
@@ -124,15 +127,16 @@ pub fn sum_kind(page: &Page) -> Option<SumKind>
     }
 }
 
-/// The type of a page, as 17855 for one of an index (FIL_PAGE_INDEX).
+/// The type of a page, 2 bytes at 24 (FIL_PAGE_TYPE); the module `kinds` has those of tablespaces.
 pub fn kind(page: &Page) -> u16
     ensures { result ≡ kind_of page.now }
 {
     read_be::<2>(page, KIND) as u16
 }
 
-/// Whether the frame is broken as that of page `n` of the tablespace `space`. The links, the flush
-/// LSN and the type may be any.
+/// Whether the frame is broken as that of page `n` of the tablespace `space`: its checksums are of no
+/// kind, the low 4 bytes of the LSN (at 20) don't stand again at 16380, or the page number (at 4) or
+/// the space id (at 34) is another. The links, the flush LSN and the type may be any.
 pub fn frame_fault(page: &Page, n: u32, space: u32) -> bool
     ensures broken { OnTrue result (¬ IsFramed page.now n space) }
     ensures whole { OnFalse result (IsFramed page.now n space) }
@@ -156,7 +160,7 @@ fn has_some_sums(page: &Page) -> bool
 }
 
 /// Makes the frame that of page `n` of the tablespace `space`, with this LSN and type and checksums
-/// of the kind `crc32`. The links, the flush LSN and the body stay.
+/// of the kind `crc32`. The links, the flush LSN and the body, bytes 38 to 16375, stay.
 pub fn seal(page: &mut Page, n: u32, space: u32, lsn: u64, kind: u16)
     ensures exact { page.new ≡ sealed page.old n space lsn kind }
     ensures seals { Seals page.old page.new n space lsn kind }
@@ -165,7 +169,7 @@ pub fn seal(page: &mut Page, n: u32, space: u32, lsn: u64, kind: u16)
     seal_as(page, n, space, lsn, kind, SumKind::Crc32);
 }
 
-/// Does the same with checksums of this kind.
+/// Does what `seal` does, with checksums of this kind.
 pub fn seal_as(page: &mut Page, n: u32, space: u32, lsn: u64, kind: u16, sum: SumKind)
     ensures exact { page.new ≡ sealed_as page.old n space lsn kind sum }
     ensures seals { SealsAs page.old page.new n space lsn kind sum }

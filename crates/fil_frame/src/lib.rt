@@ -5,6 +5,7 @@
 mod body;
 mod crc;
 mod frame;
+pub mod kinds;
 pub mod laws;
 mod rnd;
 pub mod tables;

@@ -3,13 +3,13 @@
 ghost use Rattle.std.specs.Prelude.{◌≡◌};
 ghost use Rattle.fil_frame.specs.Fold.{fold_step, fold_of};
 
-/// UT_HASH_RANDOM_MASK.
+/// UT_HASH_RANDOM_MASK2, which a byte is mixed with first.
 const FIRST_MASK: u32 = 1_653_893_711;
 
-/// UT_HASH_RANDOM_MASK2.
+/// UT_HASH_RANDOM_MASK.
 const SECOND_MASK: u32 = 1_463_735_687;
 
-/// The fold of the bytes.
+/// The fold of the bytes (ut_fold_binary), from 0 on.
 pub fn fold(bytes: &[u8]) -> u32
     ensures { result ≡ fold_of bytes.now }
 {
