@@ -6,6 +6,7 @@ use Rattle.space_header.specs.declared.address.Base.{Base}
 use Rattle.space_header.specs.declared.address.Node.{Node}
 use Rattle.space_header.specs.declared.header.SpaceHeader.{SpaceHeader}
 
+-- the bytes of an address, 6, of a list base, 16, and of a list node, 12
 unfoldable pub address_bytes : Address → List ℕ
 address_bytes address = be_bytes 4 address.page ++ be_bytes 2 address.offset
 
@@ -15,11 +16,12 @@ base_bytes base = be_bytes 4 base.length ++ address_bytes base.first ++ address_
 unfoldable pub node_bytes : Node → List ℕ
 node_bytes node = address_bytes node.prev ++ address_bytes node.next
 
--- the numbers fit the bytes of their fields
+-- the numbers of an address fit the bytes of their fields
 pub record FitsAddress (address : Address) : Type 0 where
   pub page : address.page < 2 ^ 32
   pub offset : address.offset < 2 ^ 16
 
+-- and those of a list base, of a list node and of the header
 pub record FitsBase (base : Base) : Type 0 where
   pub length : base.length < 2 ^ 32
   pub first : FitsAddress base.first

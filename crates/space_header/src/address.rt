@@ -5,45 +5,42 @@ ghost use Rattle.page_source.specs.Pages.{with_bytes};
 ghost use Rattle.space_header.specs.Header.{address_at, base_at, node_at, IsNull};
 ghost use Rattle.space_header.specs.Writing.{address_bytes, base_bytes, node_bytes, FitsAddress, FitsBase};
 
-use page_source::{PAGE_SIZE, Page, read_be, write_be};
-
-/// FIL_NULL, the page number that stands for no page.
-const NO_PAGE: u32 = 0xFFFF_FFFF;
+use page_source::{FIL_NULL, PAGE_SIZE, Page, read_be, write_be};
 
 /// The address of a list node (fil_addr_t): its page, and its byte there. It takes 6 bytes.
 #[derive(Clone, Copy, Debug, PartialEq, Eq)]
 pub struct Address {
-    /// FIL_ADDR_PAGE, 4 bytes; that of no page where the address is null.
+    /// FIL_ADDR_PAGE, 4 bytes at 0: the page number; FIL_NULL where the address is null.
     pub page: u32,
-    /// FIL_ADDR_BYTE, 2 bytes.
+    /// FIL_ADDR_BYTE, 2 bytes at 4: the byte of the page at which the node begins.
     pub offset: u16,
 }
 
 /// The base of a list (flst_base_node_t). It takes 16 bytes.
 #[derive(Clone, Copy, Debug, PartialEq, Eq)]
 pub struct Base {
-    /// FLST_LEN, 4 bytes.
+    /// FLST_LEN, 4 bytes at 0: how many members the list has.
     pub length: u32,
-    /// FLST_FIRST.
+    /// FLST_FIRST, 6 bytes at 4: the first node; null where the list is empty.
     pub first: Address,
-    /// FLST_LAST.
+    /// FLST_LAST, 6 bytes at 10: the last node; null where the list is empty.
     pub last: Address,
 }
 
 /// The node of a member of a list (flst_node_t). It takes 12 bytes.
 #[derive(Clone, Copy, Debug, PartialEq, Eq)]
 pub struct Node {
-    /// FLST_PREV.
+    /// FLST_PREV, 6 bytes at 0: the node before; null in the first one.
     pub prev: Address,
-    /// FLST_NEXT.
+    /// FLST_NEXT, 6 bytes at 6: the node behind; null in the last one.
     pub next: Address,
 }
 
-/// Whether the address is that of no page.
+/// Whether the address is null: its page is FIL_NULL, and its byte may be any.
 pub fn is_null(address: &Address) -> bool
     ensures { IsTrue result ↔ IsNull address.now }
 {
-    address.page == NO_PAGE
+    address.page == FIL_NULL
 }
 
 #[tactic(auto, unfolding(crate::specs::Header::address_at))]
@@ -67,7 +64,7 @@ fn write_address(page: &mut Page, at: usize, address: &Address)
     write_be::<2>(page, at + 4, u64::from(address.offset));
 }
 
-/// The list base at byte `at`.
+/// The list base that begins at byte `at` of the page.
 #[tactic(auto, unfolding(crate::specs::Header::base_at))]
 pub fn read_base(page: &Page, at: usize) -> Base
     requires { at + 16 ≤ 16384 }
@@ -80,7 +77,7 @@ pub fn read_base(page: &Page, at: usize) -> Base
     }
 }
 
-/// Makes this the list base at byte `at`.
+/// Makes this the list base that begins at byte `at` of the page. The other bytes stay.
 pub fn write_base(page: &mut Page, at: usize, base: &Base)
     requires { at + 16 ≤ 16384 }
     ensures exact { page.new ≡ with_bytes page.old at (base_bytes base.now) }
@@ -102,7 +99,7 @@ pub(crate) fn put_base(page: &mut Page, at: usize, base: &Base)
     write_address(page, at + 10, &base.last);
 }
 
-/// The list node at byte `at`.
+/// The list node that begins at byte `at` of the page.
 #[tactic(auto, unfolding(crate::specs::Header::node_at))]
 pub fn read_node(page: &Page, at: usize) -> Node
     requires { at + 12 ≤ 16384 }
@@ -114,7 +111,7 @@ pub fn read_node(page: &Page, at: usize) -> Node
     }
 }
 
-/// Makes this the list node at byte `at`.
+/// Makes this the list node that begins at byte `at` of the page. The other bytes stay.
 pub fn write_node(page: &mut Page, at: usize, node: &Node)
     requires { at + 12 ≤ 16384 }
     ensures exact { page.new ≡ with_bytes page.old at (node_bytes node.now) }

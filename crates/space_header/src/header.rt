@@ -38,30 +38,32 @@ const INODES_FULL: usize = 118;
 /// FSP_SEG_INODES_FREE, a list base.
 const INODES_FREE: usize = 134;
 
-/// The space header on page 0.
+/// The space header on page 0 (fsp_header_t). Each field has its name in fsp0fsp.h and its first byte
+/// on the page.
 #[derive(Clone, Copy, Debug, PartialEq, Eq)]
 pub struct SpaceHeader {
-    /// The space id.
+    /// FSP_SPACE_ID, 4 bytes at 38: the space id.
     pub space: u32,
-    /// The size in pages.
+    /// FSP_SIZE, 4 bytes at 46: the size in pages.
     pub size: u32,
-    /// The free limit: pages from here on were never used.
+    /// FSP_FREE_LIMIT, 4 bytes at 50: the free limit. Pages from this number on were never used.
     pub limit: u32,
-    /// The flags: 33 for DYNAMIC, 0 for COMPACT; 1024 more for a table with DATA DIRECTORY.
+    /// FSP_SPACE_FLAGS, 4 bytes at 54: 33 for DYNAMIC, 0 for COMPACT; 1024 more for a table with DATA
+    /// DIRECTORY.
     pub flags: u32,
-    /// The number of used pages of the extents on FREE_FRAG.
+    /// FSP_FRAG_N_USED, 4 bytes at 58: the number of used pages of the extents on FREE_FRAG.
     pub frag_used: u32,
-    /// The id that the next segment gets.
+    /// FSP_SEG_ID, 8 bytes at 110: the id that the next segment gets.
     pub next_segment: u64,
-    /// FREE: extents without a used page.
+    /// FSP_FREE, a base at 62: extents without a used page.
     pub free: Base,
-    /// FREE_FRAG: fragment extents with some used pages.
+    /// FSP_FREE_FRAG, a base at 78: fragment extents with some used pages.
     pub free_frag: Base,
-    /// FULL_FRAG: fragment extents whose pages are all used.
+    /// FSP_FULL_FRAG, a base at 94: fragment extents whose pages are all used.
     pub full_frag: Base,
-    /// INODES_FULL: inode pages whose inodes are all used.
+    /// FSP_SEG_INODES_FULL, a base at 118: inode pages whose inodes are all used.
     pub inodes_full: Base,
-    /// INODES_FREE: inode pages with a free inode.
+    /// FSP_SEG_INODES_FREE, a base at 134: inode pages with a free inode.
     pub inodes_free: Base,
 }
 
@@ -70,7 +72,7 @@ impl SpaceHeader {
     ghost use Rattle.space_header.specs.Header.{header_of};
     ghost use Rattle.space_header.specs.Writing.{with_header};
 
-    /// The header of a page.
+    /// The space header that a page has, if it is page 0. No byte is judged.
     #[tactic(auto, unfolding(crate::specs::Header::header_of))]
     pub fn read(page: &Page) -> SpaceHeader
         ensures { result ≡ header_of page.now }
@@ -90,7 +92,7 @@ impl SpaceHeader {
         }
     }
 
-    /// Makes this the header of a page. The other bytes stay.
+    /// Makes this the space header of a page, bytes 38 to 41 and 46 to 149. The other bytes stay.
     pub fn write(&self, page: &mut Page)
         ensures exact { page.new ≡ with_header page.old self.now }
         ensures read { header_of page.new ≡ self.now }

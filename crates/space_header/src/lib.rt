@@ -11,4 +11,7 @@ mod tests;
 
 pub use address::{Address, Base, Node, is_null, read_base, read_node, write_base, write_node};
 pub use header::SpaceHeader;
-pub use list::{ExtentList, FollowError, descriptor_address, follow};
+pub use list::{
+    DESCRIBED_EXTENTS, DESCRIBED_PAGES, DESCRIPTOR_SIZE, ExtentList, FIRST_DESCRIPTOR, FollowError,
+    descriptor_address, follow,
+};

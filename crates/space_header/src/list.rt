@@ -12,18 +12,22 @@ use std::marker::Model;
 use std::sync::ledger::Ledger;
 use thiserror::Error;
 
-/// The first extent of a descriptor page has its node here; each further one XDES_SIZE bytes on.
-const FIRST_NODE: u16 = 158;
+/// XDES_ARR_OFFSET, the byte at which the first descriptor of a descriptor page begins.
+pub const FIRST_DESCRIPTOR: u32 = 150;
+
+/// The first one has its node (XDES_FLST_NODE) here; each further one XDES_SIZE bytes on.
+const FIRST_NODE: u16 = FIRST_DESCRIPTOR as u16 + 8;
 
 /// XDES_SIZE, the bytes of a descriptor.
-const DESCRIPTOR: u32 = 40;
+pub const DESCRIPTOR_SIZE: u32 = 40;
 
-/// The extents whose descriptors stand on one page, and the pages from one such page to the next.
-const EXTENTS: u32 = 256;
+/// The extents whose descriptors stand on one page.
+pub const DESCRIBED_EXTENTS: u32 = 256;
 
-const PAGES: u32 = 16384;
+/// The pages from one descriptor page to the next (UNIV_PAGE_SIZE).
+pub const DESCRIBED_PAGES: u32 = 16384;
 
-/// Why there is no list.
+/// Why `follow` gives no list.
 #[derive(Clone, Copy, Debug, PartialEq, Eq, Error)]
 pub enum FollowError {
     /// The base and the nodes link no list.
@@ -67,7 +71,7 @@ impl Model for ExtentList {
 }
 
 impl ExtentList {
-    /// The extents as a slice.
+    /// The extents by their numbers, in the order of the list.
     pub fn items(&self) -> &[u32]
         ensures { result.now ≡ self.now }
     {
@@ -75,14 +79,15 @@ impl ExtentList {
     }
 }
 
-/// The address of the list node in the descriptor of an extent.
+/// The address of the list node in the descriptor of an extent: page 0 for the first 256 extents, page
+/// 16384 for the next ones.
 pub fn descriptor_address(extent: u32) -> Address
     requires { extent < 65536 }
     ensures { result ≡ extent_address extent }
 {
     Address {
-        page: PAGES * (extent / EXTENTS),
-        offset: FIRST_NODE + (DESCRIPTOR * (extent % EXTENTS)) as u16,
+        page: DESCRIBED_PAGES * (extent / DESCRIBED_EXTENTS),
+        offset: FIRST_NODE + (DESCRIPTOR_SIZE * (extent % DESCRIBED_EXTENTS)) as u16,
     }
 }
 
@@ -92,14 +97,16 @@ fn extent_at(address: &Address, count: usize) -> Option<u32>
     ensures none { IfNone result ((e : ℕ) → e < count → address.now ≢ extent_address e) }
     ensures some { IfSome result (λ e. (e < count) × (address.now ≡ extent_address e)) }
 {
-    if address.page % PAGES != 0 || address.offset < FIRST_NODE {
+    if address.page % DESCRIBED_PAGES != 0 || address.offset < FIRST_NODE {
         return None;
     }
-    let place = u32::from(address.offset - FIRST_NODE);
-    if place % DESCRIPTOR != 0 || place / DESCRIPTOR >= EXTENTS || address.page / PAGES >= EXTENTS {
+    let holder = address.page / DESCRIBED_PAGES;
+    let bytes = u32::from(address.offset - FIRST_NODE);
+    let place = bytes / DESCRIPTOR_SIZE;
+    if bytes % DESCRIPTOR_SIZE != 0 || place >= DESCRIBED_EXTENTS || holder >= DESCRIBED_EXTENTS {
         return None;
     }
-    let extent = address.page / PAGES * EXTENTS + place / DESCRIPTOR;
+    let extent = holder * DESCRIBED_EXTENTS + place;
     if extent as usize >= count {
         return None;
     }
@@ -117,8 +124,9 @@ fn points_to(address: &Address, before: Option<u32>) -> bool
     }
 }
 
-/// The extents of the list with this base, whose nodes are those of all extents. `ChainBroken` comes
-/// exactly where no linked list is there. A node is followed once at the most, in one step.
+/// The extents of the list with this base (flst_base_node_t), where `nodes` has the node of each extent
+/// at its number. `ChainBroken` comes exactly where no linked list is there, `Memory` where memory ran
+/// out. A node is followed once at the most, in one step.
 pub fn follow<L: Ledger>(
     alloc: Global,
     base: &Base,
