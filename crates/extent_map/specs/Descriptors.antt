@@ -41,6 +41,7 @@ ExtentChecks file extent =
 abbrev pub IsDescriptorPage : List ℕ → ℕ → Type 0
 IsDescriptorPage file n = Framed file n × (kind_of (page_of file n) ≡ descriptor_kind)
 
+-- the checks of a later descriptor page
 abbrev pub DescriptorPageChecks : List ℕ → ℕ → Option Fault → Type 0
 DescriptorPageChecks file n = Then (Holds XdesFrame n (Framed file n)) (Holds XdesType n (kind_of
     (page_of file n) ≡ descriptor_kind))

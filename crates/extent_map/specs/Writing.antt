@@ -10,9 +10,11 @@ use Rattle.extent_map.specs.declared.extent.Extent.{Extent}
 unfoldable pub bitmap_byte : ℕ → ℕ → ℕ
 bitmap_byte used i = sum_by (λ k. (3 - used / 2 ^ (4 * i + k) % 2) * 4 ^ k) (range_with_len 0 4)
 
+-- the whole bitmap, 16 bytes
 unfoldable pub bitmap_bytes : ℕ → List ℕ
 bitmap_bytes used = map (bitmap_byte used) (range_with_len 0 16)
 
+-- the 40 bytes of a descriptor
 unfoldable pub extent_bytes : Extent → List ℕ
 extent_bytes extent =
     be_bytes 8 extent.id ++ node_bytes extent.node ++ be_bytes 4 extent.state ++ bitmap_bytes extent.used

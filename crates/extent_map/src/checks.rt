@@ -7,21 +7,9 @@ ghost use Rattle.extent_map.specs.Extents.{extent_state, used_in, used_count, Is
 ghost use Rattle.extent_map.specs.Descriptors.{ExtentChecks, FitsUse, HasSystemPages};
 
 use crate::extent::Extent;
+use crate::states::{FREE, FREE_FRAG, FSEG, FULL_FRAG};
 use page_source::{Fault, Rule};
-
-// The states of an extent, with their names in fsp0fsp.h.
-
-/// XDES_FREE.
-const FREE: u32 = 1;
-
-/// XDES_FREE_FRAG.
-pub const FREE_FRAG: u32 = 2;
-
-/// XDES_FULL_FRAG.
-pub const FULL_FRAG: u32 = 3;
-
-/// XDES_FSEG.
-const FSEG: u32 = 4;
+use space_header::DESCRIBED_EXTENTS;
 
 /// Checks extent `e` of a tablespace of `size` pages, whose descriptor stands on page `holder`.
 #[tactic(auto, unfolding(crate::specs::Descriptors::ExtentChecks))]
@@ -40,7 +28,7 @@ pub fn check_extent(extent: &Extent, e: u32, size: u32, holder: u32) -> Result<(
     if !is_within(extent, e, size) {
         return Err(Rule::ExtentPastEnd.at(holder));
     }
-    if e % 256 == 0 && !has_system_pages(extent, e) {
+    if e % DESCRIBED_EXTENTS == 0 && !has_system_pages(extent, e) {
         return Err(Rule::ExtentSystem.at(holder));
     }
     Ok(())

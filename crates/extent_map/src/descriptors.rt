@@ -16,28 +16,18 @@ ghost use Rattle.extent_map.specs.Head.{HasBounds, HasHeader};
 use crate::checks::check_extent;
 use crate::extent::read_extent;
 use crate::extents::Extents;
+use fil_frame::kinds::FIL_PAGE_TYPE_XDES;
 use fil_frame::{frame_fault, kind};
 use page_source::{Fault, Page, PageSource, Rule, Steps, Stop};
-use space_header::SpaceHeader;
+use space_header::{
+    DESCRIBED_EXTENTS, DESCRIBED_PAGES, DESCRIPTOR_SIZE, FIRST_DESCRIPTOR, SpaceHeader,
+};
 use std::alloc::Global;
 use std::sync::ledger::Ledger;
 
-/// FIL_PAGE_TYPE_XDES, the type of the descriptor pages behind page 0.
-const DESCRIPTOR_KIND: u16 = 9;
-
-/// The first extent of a page has its descriptor here (XDES_ARR_OFFSET).
-const FIRST: usize = 150;
-
-/// XDES_SIZE, the bytes of a descriptor.
-const DESCRIPTOR: usize = 40;
-
-/// The extents whose descriptors stand on one page, and the pages from one such page to the next.
-const EXTENTS: u32 = 256;
-
-const PAGES: u32 = 16384;
-
-/// Reads the descriptors of all extents below the free limit by the rules 8 to 13. Each descriptor
-/// page is fetched once.
+/// Reads the descriptors of all extents below the free limit by the rules 8 to 13 (fsp0fsp). Each
+/// descriptor page is fetched once. `Broken` names the first broken rule and the descriptor page where
+/// it is broken; `Source` comes where a fetch failed, and `Memory` where memory ran out.
 pub fn read_extents<S: PageSource, L: Ledger>(
     alloc: Global,
     source: &mut S,
@@ -54,10 +44,10 @@ pub fn read_extents<S: PageSource, L: Ledger>(
 {
     let mut page = Page::zeroed(alloc)?;
     let mut extents = Extents::with_room(alloc, header.limit / 64)?;
-    for k in 0..header.limit.div_ceil(PAGES) {
-        source.fetch(PAGES * k, &mut page, steps)?;
+    for k in 0..header.limit.div_ceil(DESCRIBED_PAGES) {
+        source.fetch(DESCRIBED_PAGES * k, &mut page, steps)?;
         if k > 0 {
-            check_descriptor_page(&page, PAGES * k, header.space)?;
+            check_descriptor_page(&page, DESCRIBED_PAGES * k, header.space)?;
         }
         read_page(&mut extents, &page, k, header)?;
     }
@@ -72,7 +62,7 @@ fn check_descriptor_page(page: &Page, n: u32, space: u32) -> Result<(), Fault>
     if frame_fault(page, n, space) {
         return Err(Rule::XdesFrame.at(n));
     }
-    if kind(page) != DESCRIPTOR_KIND {
+    if kind(page) != FIL_PAGE_TYPE_XDES {
         return Err(Rule::XdesType.at(n));
     }
     Ok(())
@@ -90,10 +80,11 @@ fn read_page(extents: &mut Extents, page: &Page, k: u32, header: &SpaceHeader) -
     ensures count { OnOk result (length extents.new ≡ min (256 * k + 256) (header.now.limit / 64)) }
     ensures source { result ≢ Err Stop.Source }
 {
-    let count = EXTENTS.min(header.limit / 64 - EXTENTS * k);
+    let first = DESCRIBED_EXTENTS * k;
+    let count = DESCRIBED_EXTENTS.min(header.limit / 64 - first);
     for i in 0..count {
-        let extent = read_extent(page, FIRST + DESCRIPTOR * i as usize);
-        check_extent(&extent, EXTENTS * k + i, header.size, PAGES * k)?;
+        let extent = read_extent(page, (FIRST_DESCRIPTOR + DESCRIPTOR_SIZE * i) as usize);
+        check_extent(&extent, first + i, header.size, DESCRIBED_PAGES * k)?;
         extents.push(extent)?;
     }
     Ok(())

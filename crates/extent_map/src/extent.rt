@@ -19,20 +19,22 @@ const STATE: usize = 20;
 /// XDES_BITMAP, 16 bytes.
 const BITMAP: usize = 24;
 
-/// The descriptor of an extent.
+/// The descriptor of an extent (xdes_t). Each field has its name in fsp0fsp.h and its first byte within
+/// the 40 of a descriptor.
 #[derive(Clone, Copy, Debug, PartialEq, Eq)]
 pub struct Extent {
-    /// XDES_ID: the segment that has the extent, where the state is FSEG.
+    /// XDES_ID, 8 bytes at 0: the segment that has the extent, where the state is FSEG.
     pub id: u64,
-    /// The node in the list of extents where it stands.
+    /// XDES_FLST_NODE, 12 bytes at 8: its node in the list of extents where it stands.
     pub node: Node,
-    /// FREE 1, FREE_FRAG 2, FULL_FRAG 3, FSEG 4.
+    /// XDES_STATE, 4 bytes at 20: FREE 1, FREE_FRAG 2, FULL_FRAG 3, FSEG 4.
     pub state: u32,
-    /// A bit for each page, the first one lowest: 1 where the page is used.
+    /// XDES_BITMAP, 16 bytes at 24, as a bit for each page, the first one lowest: 1 where the page is
+    /// used. In the file a page has two bits, of which the first (XDES_FREE_BIT) is 0 where it is used.
     pub used: u64,
 }
 
-/// The descriptor at byte `at`.
+/// The descriptor that begins at byte `at` of the page.
 #[tactic(auto, unfolding(crate::specs::Extents::extent_at))]
 pub fn read_extent(page: &Page, at: usize) -> Extent
     requires { at + 40 ≤ 16384 }
@@ -62,7 +64,8 @@ fn read_used(page: &Page, at: usize) -> u64
     used
 }
 
-/// Makes this the descriptor at byte `at`. The second bits of its pages are made 1.
+/// Makes this the descriptor that begins at byte `at` of the page, and the second bit of each of its
+/// pages (XDES_CLEAN_BIT) 1. The other bytes stay.
 pub fn write_extent(page: &mut Page, at: usize, extent: &Extent)
     requires { at + 40 ≤ 16384 }
     ensures exact { page.new ≡ with_bytes page.old at (extent_bytes extent.now) }

@@ -3,17 +3,18 @@
 ghost use Rattle.std.specs.Prelude.{◌≡◌, ◌<◌, ◌≤◌, ◌/◌, ◌++◌, IsTrue, [], ◌∷◌};
 ghost use Rattle.std.specs.Prelude.{List, ℕ, Some, length, map, slice_get, IfOk, OnOk, OnErr};
 ghost use Rattle.extent_map.specs.Extents.{AreExtents, extent_nodes, is_used};
-ghost use Rattle.extent_map.specs.Extents.{is_fragment_extent, is_fragment_page, fragment_flags};
+ghost use Rattle.extent_map.specs.Extents.{is_fragment_extent, is_system_page, is_fragment_page, fragment_flags};
 
-use crate::checks::{FREE_FRAG, FULL_FRAG};
 use crate::extent::Extent;
 use crate::flags::FlagList;
+use crate::states::{FREE_FRAG, FULL_FRAG};
 use page_source::NoMemory;
-use space_header::Node;
+use space_header::{DESCRIBED_PAGES, Node};
 use std::alloc::Global;
 use std::marker::Model;
 
-/// The descriptors of all extents below the free limit, with their list nodes.
+/// The descriptors of all extents below the free limit, by their numbers, with their list nodes. Pages
+/// `64 * e` to `64 * e + 63` are extent `e`.
 #[derive(Debug, Drop)]
 pub struct Extents {
     extents: Vec<Extent>,
@@ -55,7 +56,7 @@ impl Extents {
         Ok(())
     }
 
-    /// The number of extents.
+    /// The number of extents, each of 64 pages.
     pub fn count(&self) -> u32
         ensures count { result ≡ length self.now }
         ensures most { result ≤ 65536 }
@@ -63,7 +64,7 @@ impl Extents {
         self.extents.len() as u32
     }
 
-    /// The descriptor of an extent.
+    /// The descriptor of extent `e`.
     pub fn extent(&self, e: u32) -> &Extent
         requires { e < length self.now }
         ensures { slice_get self.now e ≡ Some result.now }
@@ -71,7 +72,7 @@ impl Extents {
         &self.extents[e as usize]
     }
 
-    /// The list nodes of all extents.
+    /// The list nodes of all extents, that of extent `e` at `e`.
     pub fn nodes(&self) -> &[Node]
         ensures exact { result.now ≡ map (λ x. x.node) self.now }
         ensures told { (file : List ℕ) → AreExtents file self.now → result.now ≡ extent_nodes file }
@@ -79,7 +80,7 @@ impl Extents {
         &self.nodes
     }
 
-    /// Whether a page is used. No page at or above the free limit is.
+    /// Whether a page is used, by the bitmap of its extent. No page at or above the free limit is.
     pub fn is_used(&self, page: u32) -> bool
         ensures told { (file : List ℕ) → AreExtents file self.now → result ≡ is_used file page }
         ensures within { IsTrue result → page / 64 < length self.now }
@@ -92,7 +93,7 @@ impl Extents {
     }
 
     /// For each page below the free limit, whether it is used, in a fragment extent, and no system
-    /// page.
+    /// page. It takes a byte a page.
     pub fn fragment_pages(&self, alloc: Global) -> Result<FlagList, NoMemory>
         ensures { IfOk result (λ flags. (file : List ℕ) → AreExtents file self.now → flags ≡ fragment_flags file) }
     {
@@ -107,14 +108,22 @@ impl Extents {
     fn is_fragment_page(&self, page: u32) -> bool
         ensures { (file : List ℕ) → AreExtents file self.now → result ≡ is_fragment_page file page }
     {
-        self.is_used(page) && self.is_fragment_extent(page / 64) && page % 16384 >= 2
+        self.is_used(page) && self.is_fragment_extent(page / 64) && !is_system_page(page)
     }
 
-    fn is_fragment_extent(&self, e: u32) -> bool
+    /// Whether the pages of extent `e` are given out one by one: its state is FREE_FRAG or FULL_FRAG.
+    pub fn is_fragment_extent(&self, e: u32) -> bool
         requires { e < length self.now }
         ensures { (file : List ℕ) → AreExtents file self.now → result ≡ is_fragment_extent file e }
     {
         let state = self.extent(e).state;
         state == FREE_FRAG || state == FULL_FRAG
     }
+}
+
+/// Whether a page is the system's: page 0 or a later descriptor page, or the bitmap page behind it.
+pub fn is_system_page(page: u32) -> bool
+    ensures { result ≡ is_system_page page }
+{
+    page % DESCRIBED_PAGES < 2
 }

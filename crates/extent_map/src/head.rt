@@ -8,13 +8,11 @@ ghost use Rattle.fil_frame.specs.Frame.{space_of};
 ghost use Rattle.space_header.specs.Header.{header_of};
 ghost use Rattle.extent_map.specs.Head.{HeadChecks, HeaderChecks, IsSize, IsLimit, HasBounds, HasHeader};
 
+use fil_frame::kinds::FIL_PAGE_TYPE_FSP_HDR;
 use fil_frame::{frame_fault, kind};
 use page_source::{Fault, Halt, Page, PageSource, Rule, Steps, read_be};
 use space_header::SpaceHeader;
 use std::sync::ledger::Ledger;
-
-/// FIL_PAGE_TYPE_FSP_HDR, the type of page 0.
-const HEADER_KIND: u16 = 8;
 
 /// FIL_PAGE_ARCH_LOG_NO_OR_SPACE_ID, 4 bytes.
 const FRAME_SPACE: usize = 34;
@@ -36,7 +34,9 @@ const FLAGS: usize = 54;
 /// The flag for a table with a DATA DIRECTORY clause, which may stand besides.
 const DATA_DIRECTORY: u32 = 1024;
 
-/// Reads page 0 by the rules of the head, 1 to 7, and leaves it in `page`.
+/// Reads page 0 by the rules of the head, 1 to 7, and leaves it in `page`. The space has these flags
+/// (FSP_SPACE_FLAGS), with the bit for DATA DIRECTORY or without it. `Broken` names the first broken
+/// rule, at page 0; `Source` comes where the size or page 0 couldn't be read.
 pub fn check_head<S: PageSource, L: Ledger>(
     source: &mut S,
     flags: u32,
@@ -71,7 +71,7 @@ fn check_header(page: &Page, pages: u32, flags: u32) -> Result<SpaceHeader, Faul
     if frame_fault(page, 0, space) {
         return Err(Rule::HeadFrame.at(0));
     }
-    if kind(page) != HEADER_KIND {
+    if kind(page) != FIL_PAGE_TYPE_FSP_HDR {
         return Err(Rule::HeadType.at(0));
     }
     if space != number(page, SPACE) {

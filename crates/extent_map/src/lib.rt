@@ -8,11 +8,12 @@ mod extents;
 mod flags;
 mod head;
 pub mod laws;
+pub mod states;
 #[cfg(test)]
 mod tests;
 
 pub use descriptors::read_extents;
 pub use extent::{Extent, read_extent, write_extent};
-pub use extents::Extents;
+pub use extents::{Extents, is_system_page};
 pub use flags::FlagList;
 pub use head::check_head;
