@@ -94,6 +94,7 @@ inode_of file place = inode_at (page_of file place.page) place.offset
 unfoldable pub inodes_of : List ℕ → List Inode
 inodes_of file = map (inode_of file) (segments file)
 
+-- the id of the segment whose inode stands at an address
 abbrev pub segment_id : List ℕ → Address → ℕ
 segment_id file place = (inode_of file place).id
 

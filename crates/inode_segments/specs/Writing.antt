@@ -8,6 +8,7 @@ use Rattle.inode_segments.specs.declared.inode.Inode.{Inode}
 unfoldable pub slots_bytes : List ℕ → List ℕ
 slots_bytes slots = flat_map (be_bytes 4) slots
 
+-- the 192 bytes of an inode
 unfoldable pub inode_bytes : Inode → List ℕ
 inode_bytes inode =
     be_bytes 8 inode.id ++ be_bytes 4 inode.not_full_used ++ base_bytes inode.free ++ base_bytes inode.not_full

@@ -31,26 +31,28 @@ const SLOTS: usize = 64;
 /// FSEG_FRAG_ARR_N_SLOTS, the slots of an inode.
 const SLOT_COUNT: usize = 32;
 
-/// The inode of a segment.
+/// The inode of a segment (fseg_inode_t). Each field has its name in fsp0fsp.h and its first byte
+/// within the 192 of an inode.
 #[derive(Clone, Copy, Debug, PartialEq, Eq)]
 pub struct Inode {
-    /// FSEG_ID: the segment's id, 0 where the inode isn't used.
+    /// FSEG_ID, 8 bytes at 0: the segment's id, 0 where the inode isn't used.
     pub id: u64,
-    /// The number of used pages of the extents on NOT_FULL.
+    /// FSEG_NOT_FULL_N_USED, 4 bytes at 8: the number of used pages of the extents on NOT_FULL.
     pub not_full_used: u32,
-    /// FREE: extents without a used page.
+    /// FSEG_FREE, a base at 12: extents without a used page.
     pub free: Base,
-    /// NOT_FULL: extents with some used pages.
+    /// FSEG_NOT_FULL, a base at 28: extents with some used pages.
     pub not_full: Base,
-    /// FULL: extents whose pages are all used.
+    /// FSEG_FULL, a base at 44: extents whose pages are all used.
     pub full: Base,
-    /// 97937874 where the inode is sound.
+    /// FSEG_MAGIC_N, 4 bytes at 60: 97937874 where the inode is sound.
     pub magic: u32,
-    /// The fragment pages of the segment; 4,294,967,295 in an empty slot.
+    /// FSEG_FRAG_ARR, 4 bytes each from 64 on: the numbers of the segment's fragment pages, FIL_NULL in
+    /// an empty slot.
     pub slots: [u32; 32],
 }
 
-/// The inode at byte `at`.
+/// The inode that begins at byte `at` of the page.
 #[tactic(auto, unfolding(crate::specs::Inodes::inode_at))]
 pub fn read_inode(page: &Page, at: usize) -> Inode
     requires { at + 192 ≤ 16384 }
@@ -78,7 +80,7 @@ fn read_slots(page: &Page, at: usize) -> [u32; 32]
     slots
 }
 
-/// Makes this the inode at byte `at`.
+/// Makes this the inode that begins at byte `at` of the page. The other bytes stay.
 pub fn write_inode(page: &mut Page, at: usize, inode: &Inode)
     requires { at + 192 ≤ 16384 }
     ensures exact { page.new ≡ with_bytes page.old at (inode_bytes inode.now) }

@@ -89,7 +89,7 @@ impl Inodes {
         Ok(())
     }
 
-    /// The number of inodes.
+    /// The number of used inodes, which is that of segments.
     pub fn count(&self) -> u32
         ensures count { result ≡ length self.now.places }
         ensures same { result ≡ length self.now.inodes }
@@ -98,7 +98,7 @@ impl Inodes {
         self.segments.len() as u32
     }
 
-    /// An inode.
+    /// Inode `i` in that order.
     pub fn inode(&self, i: u32) -> &Inode
         requires { i < length self.now.places }
         ensures { slice_get self.now.inodes i ≡ Some result.now }
@@ -106,7 +106,7 @@ impl Inodes {
         &self.segments[i as usize].inode
     }
 
-    /// The address where an inode stands.
+    /// The address of inode `i`: its page, and the byte there at which it begins.
     pub fn place(&self, i: u32) -> Address
         requires { i < length self.now.places }
         ensures { slice_get self.now.places i ≡ Some result }
@@ -114,7 +114,7 @@ impl Inodes {
         self.segments[i as usize].place
     }
 
-    /// Whether a page stands on a list of inode pages.
+    /// Whether a page stands on one of the two lists of inode pages. None from the size on does.
     pub fn is_inode_page(&self, page: u32) -> bool
         ensures { result ≡ flag_in self.now.pages page }
     {

@@ -16,9 +16,11 @@ use space_header::SpaceHeader;
 use std::alloc::Global;
 use std::sync::ledger::Ledger;
 
-/// Reads the used inodes by the rules 14 to 19. `fragments` says of each page whether it is a used
-/// page of a fragment extent and no system page; a page past its end isn't. Each inode page is
-/// fetched once, and where a list loops or leaves the file none is fetched again.
+/// Reads the used inodes by the rules 14 to 19 (fsp0fsp). `fragments` says of each page whether it is a
+/// used page of a fragment extent and no system page; a page past its end isn't. Each inode page is
+/// fetched once, and where a list loops or leaves the file none is fetched again. `Broken` names the
+/// first broken rule and its page; `Source` comes where a fetch failed, and `Memory` where memory ran
+/// out.
 pub fn read_inodes<S: PageSource, L: Ledger>(
     alloc: Global,
     source: &mut S,

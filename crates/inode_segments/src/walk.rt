@@ -13,13 +13,11 @@ ghost use Rattle.inode_segments.specs.Kept.{AreKept, none_kept};
 ghost use Rattle.inode_segments.specs.Walk.{DescribesFile, Grew};
 
 use crate::inodes::{INODES, Inodes, used_inodes};
+use fil_frame::kinds::FIL_PAGE_INODE;
 use fil_frame::{frame_fault, kind};
 use page_source::{Fault, Page, PageSource, Rule, Steps, Stop};
 use space_header::{Address, Base, SpaceHeader, is_null, read_node};
 use std::sync::ledger::Ledger;
-
-/// FIL_PAGE_INODE, the type of an inode page.
-const INODE_KIND: u16 = 3;
 
 /// FSEG_INODE_PAGE_NODE: the list node of an inode page stands here.
 const NODE: u16 = 38;
@@ -75,7 +73,7 @@ fn check_page(page: &Page, space: u32, full: bool, step: &Step) -> Result<Addres
     if frame_fault(page, n, space) {
         return Err(Rule::InodeFrame.at(n));
     }
-    if kind(page) != INODE_KIND {
+    if kind(page) != FIL_PAGE_INODE {
         return Err(Rule::InodeType.at(n));
     }
     let node = read_node(page, usize::from(NODE));
