@@ -34,13 +34,6 @@ use Rattle.space_audit.proofs.Claims.{used_in_has}
 use Rattle.space_audit.proofs.Held.{claimed_pages, Holders, held_one, held_none}
 use Rattle.space_audit.proofs.HeldOwners.{pages_claimed, mapped, whose, once_is_claimed}
 
--- a used page of a fragment extent, by its extent's descriptor
-pub claimable : (file : List ℕ) (n : ℕ) (x : Extent) → extent_of file (n / 64) ≡ x → is_used file n ≡ true
-    → ((x.state == 2) || (x.state == 3)) ≡ (is_used file n && is_fragment_extent file (n / 64))
-claimable file n x is u =
-    ap (λ (y : Extent). (y.state == 2) || (y.state == 3)) (sym is)
-    ∙ sym (ap (λ b. b && is_fragment_extent file (n / 64)) u)
-
 pub slot_holds : (file : List ℕ) (n size : ℕ) (b : Bool) → b ≡ (is_used file n && is_fragment_extent file (n / 64))
     → b ≡ true
     → n < size → size ≡ size_of file → IsFragmentUse file n

@@ -25,12 +25,13 @@ use Rattle.space_audit.specs.Lists.{HoldThree, HasHome}
 use Rattle.extent_map.specs.Extents.{extent_nodes}
 use Rattle.space_audit.specs.Owners.{system_pages, owner_of, IsPartition}
 
--- a slot is empty, or has a used page of a fragment extent
+-- a page below the size is a used one of a fragment extent
 pub record IsFragmentUse (file : List ℕ) (n : ℕ) : Type 0 where
   pub below : n < size_of file
   pub used : IsUsed file n
   pub fragment : is_fragment_extent file (n / 64) ≡ true
 
+-- a slot is empty, or has such a page
 abbrev pub IsSlot : List ℕ → ℕ → Type 0
 IsSlot file slot = slot ≢ fil_null → IsFragmentUse file slot
 
@@ -46,7 +47,7 @@ HasNotFullCount file place =
 unfoldable pub fragment_claims : List ℕ → List ℕ
 fragment_claims file = system_pages file ++ inode_pages file ++ flat_map (slot_pages file) (segments file)
 
--- the checks of a slot, of all slots of a segment, of a segment's count, and of a page of a fragment extent
+-- the checks of a slot, of all slots of a segment, and of a segment's count
 abbrev pub SlotCheck : List ℕ → Address → List ℕ → ℕ → Option Fault → Type 0
 SlotCheck file place before slot = Holds FragmentSlot place.page (IsSlot file slot)
 
@@ -56,9 +57,11 @@ SlotsCheck file before place = EachOf (inode_of file place).slots (SlotCheck fil
 abbrev pub CountCheck : List ℕ → List Address → Address → Option Fault → Type 0
 CountCheck file before place = Holds UseCounts place.page (HasNotFullCount file place)
 
+-- a page is a used one of a fragment extent
 abbrev pub IsUsedFragment : List ℕ → ℕ → Type 0
 IsUsedFragment file n = IsUsed file n × (is_fragment_extent file (n / 64) ≡ true)
 
+-- it is claimed once
 abbrev pub ClaimCheck : List ℕ → ℕ → Option Fault → Type 0
 ClaimCheck file n = Where (IsUsedFragment file n) (Holds PageOwner n (times_in (fragment_claims file) n ≡ 1))
 
@@ -84,6 +87,7 @@ IsKindFor n owners.InodePage kind = kind ≡ inode_kind
 IsKindFor n (owners.Used segment) kind = (kind ≡ allocated_kind) ⊎ (kind ≡ blob_kind) ⊎ (kind ≡ index_kind)
 IsKindFor n _ kind = ⊤
 
+-- a page of a file has such a type
 abbrev pub HasAllowedKind : List ℕ → ℕ → Type 0
 HasAllowedKind file n = IsKindFor n (owner_of file n) (kind_of (page_of file n))
 
@@ -91,6 +95,7 @@ HasAllowedKind file n = IsKindFor n (owner_of file n) (kind_of (page_of file n))
 abbrev pub PageChecks : List ℕ → ℕ → Option Fault → Type 0
 PageChecks file n = Then (Holds Frame n (Framed file n)) (Holds PageKind n (HasAllowedKind file n))
 
+-- they are made of a used page alone
 abbrev pub FrameCheck : List ℕ → ℕ → Option Fault → Type 0
 FrameCheck file n = Where (IsUsed file n) (PageChecks file n)
 

@@ -16,6 +16,7 @@ pub record Claim : Type 0 where
   pub page : ℕ
   pub who : ℕ
 
+-- the mark of an inode page, that of no claim, and that of more than one
 abbrev pub inode_holder : ℕ
 inode_holder = 0xFFFF_FFFF
 
@@ -34,6 +35,7 @@ held_after holder [] n = holder
 held_after holder (claim ∷ claims) n =
     held_after (if claim.page == n then held_more holder claim.who else holder) claims n
 
+-- these are the holders of the pages after these claims
 abbrev pub AreHeld : List ℕ → List Claim → Type 0
 AreHeld holders claims = (n : ℕ) → n < length holders → slice_index holders n ≡ held_after no_holder claims n
 

@@ -120,13 +120,15 @@ pub record HomesView : Type 0 where
   pub uses : List ℕ
   pub lists : ℕ
 
--- the number of the list on which an extent must stand: FREE, FREE_FRAG and FULL_FRAG, then three for each segment
+-- a segment's list for an extent with so many used pages: FREE, NOT_FULL or FULL
 abbrev pub home_part : ℕ → ℕ
 home_part count = if count == 0 then 0 else (if count == 64 then 2 else 1)
 
+-- the number of the list on which an extent must stand: FREE, FREE_FRAG and FULL_FRAG, then three for each segment
 abbrev pub home_by : ℕ → ℕ → ℕ → ℕ
 home_by state segment used = if state == 4 then 3 + (3 * segment + home_part used) else state - 1
 
+-- the number of an extent's home, and those of all extents
 unfoldable pub home_number : List ℕ → ℕ → ℕ
 home_number file extent =
     home_by (extent_state file extent)

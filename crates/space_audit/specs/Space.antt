@@ -62,5 +62,6 @@ FindsSegment segments address (Some segment) =
 abbrev pub address_key : Address → ℕ
 address_key address = 65536 * address.page + address.offset
 
+-- the offset is one of 2 bytes
 abbrev pub HasSmallOffset : Address → Type 0
 HasSmallOffset address = address.offset < 65536

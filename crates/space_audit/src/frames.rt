@@ -15,34 +15,16 @@ ghost use Rattle.space_audit.specs.Read.{AwaitsFrames, IsKind, AreKinds, fetches
 use crate::owner::{Owner, owner_by};
 use extent_map::Extents;
 use extent_map::laws::used_pages_are_of_extents;
+use fil_frame::kinds::{
+    FIL_PAGE_IBUF_BITMAP, FIL_PAGE_INDEX, FIL_PAGE_INODE, FIL_PAGE_TYPE_ALLOCATED,
+    FIL_PAGE_TYPE_BLOB, FIL_PAGE_TYPE_FSP_HDR, FIL_PAGE_TYPE_XDES,
+};
 use fil_frame::{frame_fault, kind};
 use inode_segments::Inodes;
 use page_source::{Fault, NoMemory, Page, PageSource, Rule, Steps, Stop};
+use space_header::DESCRIBED_PAGES;
 use std::alloc::Global;
 use std::sync::ledger::Ledger;
-
-// The types of pages, with their names in fil0fil.h.
-
-/// FIL_PAGE_TYPE_ALLOCATED.
-const ALLOCATED: u16 = 0;
-
-/// FIL_PAGE_INODE.
-const INODE: u16 = 3;
-
-/// FIL_PAGE_IBUF_BITMAP.
-const BITMAP: u16 = 5;
-
-/// FIL_PAGE_TYPE_FSP_HDR.
-const HEADER: u16 = 8;
-
-/// FIL_PAGE_TYPE_XDES.
-const DESCRIPTOR: u16 = 9;
-
-/// FIL_PAGE_TYPE_BLOB.
-const BLOB: u16 = 10;
-
-/// FIL_PAGE_INDEX.
-const INDEX: u16 = 17855;
 
 /// The types of the used pages, 0 for the others, and how many pages are used.
 #[derive(Debug, Drop)]
@@ -132,7 +114,7 @@ fn find_kind<S: PageSource, L: Ledger>(
     ensures over { StopsOver S.PageSource source.old source.new result }
 {
     if inodes.is_inode_page(n) {
-        return Ok(Some(INODE));
+        return Ok(Some(FIL_PAGE_INODE));
     }
     if !extents.is_used(n) {
         return Ok(None);
@@ -163,8 +145,10 @@ fn is_kind_for(n: u32, owner: Owner, kind: u16) -> bool
 {
     match owner {
         Owner::System => kind == system_kind(n),
-        Owner::InodePage => kind == INODE,
-        Owner::Used(_) => kind == ALLOCATED || kind == BLOB || kind == INDEX,
+        Owner::InodePage => kind == FIL_PAGE_INODE,
+        Owner::Used(_) => {
+            kind == FIL_PAGE_TYPE_ALLOCATED || kind == FIL_PAGE_TYPE_BLOB || kind == FIL_PAGE_INDEX
+        }
         _ => true,
     }
 }
@@ -174,10 +158,10 @@ fn system_kind(n: u32) -> u16
     ensures { result ≡ system_kind n }
 {
     if n == 0 {
-        return HEADER;
+        return FIL_PAGE_TYPE_FSP_HDR;
     }
-    if n % 16384 == 0 {
-        return DESCRIPTOR;
+    if n % DESCRIBED_PAGES == 0 {
+        return FIL_PAGE_TYPE_XDES;
     }
-    BITMAP
+    FIL_PAGE_IBUF_BITMAP
 }

@@ -13,15 +13,12 @@ ghost use Rattle.space_audit.specs.Holders.{Claim, AreHeld, claims_of, claims_in
 ghost use Rattle.space_audit.specs.Audit.{SlotCheck, SlotsCheck, ClaimCheck};
 ghost use Rattle.space_audit.specs.Read.{IsRead};
 
-use extent_map::Extents;
 use extent_map::laws::used_pages_are_of_extents;
+use extent_map::{Extents, is_system_page};
 use inode_segments::Inodes;
-use page_source::{Fault, NoMemory, Rule};
+use page_source::{FIL_NULL, Fault, NoMemory, Rule};
 use space_header::Address;
 use std::alloc::Global;
-
-/// FIL_NULL, in a slot without a page.
-const NO_PAGE: u32 = 0xFFFF_FFFF;
 
 /// The holder of an inode page. That of another page is the number of the segment with a slot for it.
 pub(crate) const INODE_HOLDER: u32 = 0xFFFF_FFFF;
@@ -31,11 +28,6 @@ const NO_HOLDER: u32 = 0xFFFF_FFFD;
 
 /// Two have claimed it.
 const MANY_HOLDERS: u32 = 0xFFFF_FFFC;
-
-/// XDES_FREE_FRAG and XDES_FULL_FRAG, the states of the extents whose pages are given out one by one.
-const FREE_FRAG: u32 = 2;
-
-const FULL_FRAG: u32 = 3;
 
 /// The inode pages are claimed, and no other page.
 pub(crate) fn first_holders(alloc: Global, inodes: &Inodes, size: u32) -> Result<Vec<u32>, NoMemory>
@@ -96,7 +88,7 @@ fn claim_slots(
         → AreHeld holders.new (claims ++ claims_of who slots.now)) }
 {
     for slot in slots {
-        if *slot != NO_PAGE {
+        if *slot != FIL_NULL {
             if *slot >= size || !is_claimable(extents, *slot) {
                 return Err(Rule::FragmentSlot.at(place.page));
             }
@@ -111,11 +103,7 @@ fn is_claimable(extents: &Extents, n: u32) -> bool
     ensures { (file : List ℕ) → AreExtents file extents.now
         → result ≡ (is_used file n && is_fragment_extent file (n / 64)) }
 {
-    if !extents.is_used(n) {
-        return false;
-    }
-    let state = extents.extent(n / 64).state;
-    state == FREE_FRAG || state == FULL_FRAG
+    extents.is_used(n) && extents.is_fragment_extent(n / 64)
 }
 
 /// Claims a page.
@@ -139,13 +127,14 @@ pub(crate) fn check_holders(extents: &Extents, holders: &[u32]) -> Result<(), Fa
 {
     used_pages_are_of_extents();
     for n in 0..holders.len() as u32 {
-        if is_claimable(extents, n) && !is_once(n % 16384 < 2, holders[n as usize]) {
+        if is_claimable(extents, n) && !is_once(is_system_page(n), holders[n as usize]) {
             return Err(Rule::PageOwner.at(n));
         }
     }
     Ok(())
 }
 
+/// Whether a used page of a fragment extent has the holder that it must have.
 fn is_once(system: bool, holder: u32) -> bool
     ensures { IsTrue result ↔ IsOnce system holder }
 {

@@ -7,12 +7,10 @@ ghost use Rattle.space_audit.specs.Lists.{at_home, home_by, home_part, homes_of,
 
 use crate::numbering::Numbering;
 use extent_map::Extents;
+use extent_map::states::FSEG;
 use page_source::NoMemory;
 use std::alloc::Global;
 use std::marker::Model;
-
-/// XDES_FSEG, the state of the extents of segments.
-const FSEG: u32 = 4;
 
 /// The pages of an extent.
 const EXTENT_PAGES: u32 = 64;

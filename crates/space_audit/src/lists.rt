@@ -12,7 +12,9 @@ use extent_map::laws::used_pages_are_of_extents;
 use inode_segments::Inodes;
 use page_source::{Fault, Rule, Steps, Stop};
 use space_header::laws::links_one_list;
-use space_header::{Base, FollowError, Node, SpaceHeader, follow};
+use space_header::{
+    Base, DESCRIBED_EXTENTS, DESCRIBED_PAGES, FollowError, Node, SpaceHeader, follow,
+};
 use std::alloc::Global;
 use std::sync::ledger::Ledger;
 
@@ -153,7 +155,8 @@ fn check_homes(numbers: &[u32], lists: u32) -> Result<(), Fault>
 {
     for extent in 0..numbers.len() as u32 {
         if numbers[extent as usize] >= lists {
-            return Err(Rule::ExtentHome.at(16384 * (extent / 256)));
+            let holder = DESCRIBED_PAGES * (extent / DESCRIBED_EXTENTS);
+            return Err(Rule::ExtentHome.at(holder));
         }
     }
     Ok(())

@@ -22,7 +22,7 @@ impl Model for Marks {
 }
 
 impl Marks {
-    /// No number is marked yet, of so many.
+    /// No number is marked yet, of those from 0 on, so many. It takes a byte each.
     pub fn new(alloc: Global, members: u32) -> Result<Marks, NoMemory>
         ensures { IfOk result (λ marks. marks ≡ replicate members false) }
     {
@@ -31,7 +31,7 @@ impl Marks {
         })
     }
 
-    /// Whether a number is marked.
+    /// Whether a number below the count is marked.
     pub fn has(&self, n: u32) -> bool
         requires { n < length self.now }
         ensures { result ≡ is_set self.now n }
@@ -39,7 +39,7 @@ impl Marks {
         self.flags[n as usize]
     }
 
-    /// Marks a number.
+    /// Marks a number below the count; it may be marked already.
     #[tactic(auto, using(crate::proofs::Marking::marked_more, crate::proofs::Marking::unmarked_fewer))]
     pub fn mark(&mut self, n: u32)
         requires { n < length self.old }

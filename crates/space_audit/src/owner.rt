@@ -3,14 +3,14 @@
 ghost use Rattle.std.specs.Prelude.{◌≡◌};
 ghost use Rattle.space_audit.specs.Owners.{IsSmall, owner_by};
 
-/// The owner of a page.
+/// The owner of a page (fsp0fsp). A segment is named by its place in the order of the inodes, from 0 on.
 #[derive(Clone, Copy, Debug, PartialEq, Eq)]
 pub enum Owner {
-    /// A header, descriptor or bitmap page.
+    /// Page 0, a later descriptor page, or the bitmap page behind one of these.
     System,
     /// A page of one of the two lists of inode pages.
     InodePage,
-    /// A page that this segment uses, by its place in the order of the inodes.
+    /// A page that this segment uses: one in a slot of its inode, or a used one of its extents.
     Used(u32),
     /// A free page of an extent of this segment.
     Spare(u32),

@@ -9,12 +9,8 @@ ghost use Rattle.space_audit.specs.Read.{IsOwned};
 
 use crate::holders::INODE_HOLDER;
 use crate::owner::{Owner, number_of};
-use extent_map::Extents;
-
-/// XDES_FREE and XDES_FSEG, the states of the extents whose pages are given out together.
-const FREE: u32 = 1;
-
-const FSEG: u32 = 4;
+use extent_map::states::{FREE, FSEG};
+use extent_map::{Extents, is_system_page};
 
 /// Makes the holder of each page the number of its owner, where the extents have these homes.
 pub(crate) fn settle_owners(extents: &Extents, homes: &[u32], holders: &mut [u32])
@@ -69,7 +65,7 @@ fn fragment_owner(n: u32, holder: u32, used: bool) -> Owner
     if !used {
         return Owner::FragmentFree;
     }
-    if n % 16384 < 2 {
+    if is_system_page(n) {
         return Owner::System;
     }
     if holder == INODE_HOLDER {

@@ -86,7 +86,7 @@ impl Space {
         })
     }
 
-    /// The size in pages.
+    /// The size in pages that page 0 states; the file may be longer.
     pub fn size(&self) -> u32
         ensures is { result ≡ self.now.size }
         ensures told { (file : List ℕ) → IsAuditOf file self.now → HasAuditedSize file result }
@@ -98,7 +98,7 @@ impl Space {
         self.size
     }
 
-    /// The space id of page 0.
+    /// The space id in the frame of page 0.
     pub fn space_id(&self) -> u32
         ensures is { result ≡ self.now.id }
         ensures told { (file : List ℕ) → IsAuditOf file self.now → result ≡ space_of (page_of file 0) }
@@ -106,14 +106,14 @@ impl Space {
         self.id
     }
 
-    /// The number of used pages.
+    /// The number of used pages below the size.
     pub fn used_pages(&self) -> u32
         ensures { result ≡ self.now.used }
     {
         self.used
     }
 
-    /// Who owns a page below the size.
+    /// Who owns page `n`, which is below the size.
     #[tactic(auto, using(crate::proofs::Audited::audited_owner))]
     pub fn owner(&self, n: u32) -> Owner
         requires { n < self.now.size }
@@ -123,7 +123,7 @@ impl Space {
         owner_by(self.owners[n as usize])
     }
 
-    /// The type field of a used page below the size; 0 of a page that isn't used.
+    /// The type field (FIL_PAGE_TYPE) of page `n`, which is below the size; 0 of a page that isn't used.
     #[tactic(auto, using(crate::proofs::Audited::audited_kind))]
     pub fn kind(&self, n: u32) -> u16
         requires { n < self.now.size }
@@ -133,7 +133,7 @@ impl Space {
         self.kinds[n as usize]
     }
 
-    /// Whether a page lies below the size, is used by this segment, and has this type.
+    /// Whether page `n` lies below the size, is used by this segment, and has this type.
     pub fn has_page(&self, segment: u32, kind: u16, n: u32) -> bool
         ensures told { (file : List ℕ) → IsAuditOf file self.now → IsTrue result ↔ IsPageOf file segment kind n }
         ensures within { result ≡ true → n < self.now.size }
@@ -147,7 +147,7 @@ impl Space {
         owner == segment && self.kind(n) == kind
     }
 
-    /// The number of segments.
+    /// The number of segments; they are numbered from 0 on, in the order of the inodes.
     pub fn segment_count(&self) -> u32
         ensures count { result ≡ length self.now.segments }
         ensures most { result ≤ 356515840 }
@@ -155,8 +155,8 @@ impl Space {
         self.inodes.count()
     }
 
-    /// The segment whose inode has this address, by its position. None where it is the address of no
-    /// used inode on a listed inode page.
+    /// The segment whose inode has this address, by its number. None where it is the address of no used
+    /// inode on a listed inode page.
     pub fn segment_at(&self, address: Address) -> Option<u32>
         ensures { FindsSegment self.now.segments address result }
     {

@@ -36,8 +36,10 @@ use space_header::SpaceHeader;
 use std::alloc::Global;
 use std::sync::ledger::Ledger;
 
-/// Audits a tablespace whose flags are these, with the bit for DATA DIRECTORY or without it, by the
-/// rules 1 to 26. Each used page is fetched once, the descriptor pages twice, page 0 three times.
+/// Audits a tablespace whose flags (FSP_SPACE_FLAGS) are these, with the bit for DATA DIRECTORY or
+/// without it, by the rules 1 to 26. Each used page is fetched once, the descriptor pages twice, page 0
+/// three times. `Broken` names the first broken rule and its page; `Source` comes where the size or a
+/// page couldn't be read, and `Memory` where memory ran out.
 pub fn audit<S: PageSource, L: Ledger>(
     alloc: Global,
     source: &mut S,

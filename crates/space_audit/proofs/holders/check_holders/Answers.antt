@@ -1,8 +1,9 @@
-use Rattle.std.proofs.Common.{◌/◌, None, sym, ◌∙◌, arith, below_more}
+use Rattle.std.proofs.Common.{◌/◌, None, get_or, sym, ◌∙◌, subst, arith, below_more}
 use Rattle.std.proofs.lemmas.Bool.{false≢true}
 use Rattle.extent_map.specs.Extents.{is_used, is_fragment_extent}
 use Rattle.space_audit.proofs.Fragments.{and_left, and_right, both_true, used_below}
 use Rattle.space_audit.specs.Audit.{ClaimCheck}
+use Rattle.space_audit.specs.Holders.{IsOnce}
 use Rattle.space_audit.proofs.ClaimSteps.{holder_tells, used_in_size}
 use Rattle.space_audit.proofs.holders.check_holders.Goals.{else-is_claimable-via-then-is_claimable+else-not-is_once}
 use Rattle.space_audit.proofs.holders.check_holders.Goals.{else-is_claimable-via-else-is_claimable}
@@ -20,7 +21,11 @@ returns-then-not-is_once c = λ file h.
       c.loop-n.invariant file h,
       (
         (used, fragment),
-        ((λ once. false≢true (sym c.if-not-is_once.true ∙ c.is_once.ensures.1 (tells.1 once))), c.at.ensures),
+        (
+          (λ once. false≢true (sym c.if-not-is_once.true ∙ c.is_once.ensures.1
+              (subst (λ b. IsOnce b (get_or c.args.holders.now n 0)) (sym c.is_system_page.ensures) (tells.1 once)))),
+          c.at.ensures,
+        ),
       ),
     )
 
@@ -33,7 +38,8 @@ loop-n-preserved c = λ file h.
     elim c.else-is_claimable.branch [
       | else-is_claimable-via-then-is_claimable+else-not-is_once w ↦
           (holder_tells file c.args.extents.now c.args.holders.now n h c.loop-n-test.true u.0).0
-          (w.is_once.ensures.0 w.if-not-is_once.false)
+          (subst (λ b. IsOnce b (get_or c.args.holders.now n 0)) w.is_system_page.ensures
+          (w.is_once.ensures.0 w.if-not-is_once.false))
       | else-is_claimable-via-else-is_claimable w ↦ absurd (false≢true (sym w.if-is_claimable.false ∙ claimed))
     ])
 
