@@ -53,7 +53,7 @@ pub enum Rule {
     FragmentSlot,
     /// The stated numbers of used pages are right.
     UseCounts,
-    /// A used page of a fragment extent is one of: a system page, a listed inode page, in one slot.
+    /// A used page of a fragment extent is claimed once: by the system, an inode list or a slot.
     PageOwner,
     /// A used page has right checksums, its number, the space's id and the end of its LSN.
     Frame,
@@ -73,7 +73,7 @@ pub enum Rule {
     Level,
     /// An index page is in the new format; its directory slots, heap top and counts fit together.
     PageHeader,
-    /// Infimum and supremum have their names, heap numbers and statuses; nothing follows the last.
+    /// Infimum and supremum have their names, heap numbers and statuses; the supremum is last.
     PageEnds,
     /// The records of a page make one chain, of as many as the page states.
     RecordChain,

@@ -61,7 +61,7 @@ CountCheck file before place = Holds UseCounts place.page (HasNotFullCount file 
 abbrev pub IsUsedFragment : List ℕ → ℕ → Type 0
 IsUsedFragment file n = IsUsed file n × (is_fragment_extent file (n / 64) ≡ true)
 
--- it is claimed once
+-- the check that such a page is claimed once
 abbrev pub ClaimCheck : List ℕ → ℕ → Option Fault → Type 0
 ClaimCheck file n = Where (IsUsedFragment file n) (Holds PageOwner n (times_in (fragment_claims file) n ≡ 1))
 

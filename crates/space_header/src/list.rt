@@ -15,7 +15,7 @@ use thiserror::Error;
 /// XDES_ARR_OFFSET, the byte at which the first descriptor of a descriptor page begins.
 pub const FIRST_DESCRIPTOR: u32 = 150;
 
-/// The first one has its node (XDES_FLST_NODE) here; each further one XDES_SIZE bytes on.
+/// The node (XDES_FLST_NODE) in the first descriptor; that in each further one is XDES_SIZE bytes on.
 const FIRST_NODE: u16 = FIRST_DESCRIPTOR as u16 + 8;
 
 /// XDES_SIZE, the bytes of a descriptor.
