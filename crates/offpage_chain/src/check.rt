@@ -16,12 +16,10 @@ ghost use Rattle.offpage_chain.specs.ChainChecks.{ChainChecks, IsChainPlace, IsC
 use crate::part::{is_part, next_part, part_bytes, part_length};
 use crate::reference::Reference;
 use column_values::Utf8;
+use fil_frame::kinds::FIL_PAGE_TYPE_BLOB;
 use page_source::{Halt, Page, PageSource, Rule, Steps};
 use space_audit::{Marks, Space};
 use std::sync::ledger::Ledger;
-
-/// FIL_PAGE_TYPE_BLOB, the type of a page of an externally stored value.
-const BLOB_KIND: u16 = 10;
 
 /// The first byte of a part's header on its page, which a reference names.
 const PART_HEADER: u32 = 38;
@@ -36,7 +34,7 @@ fn is_place(space: &Space, segment: u32, marks: &Marks, n: u32) -> bool
     ensures new { result ≡ true → is_set marks.now n ≡ false }
 {
     let _size = space.size();
-    space.has_page(segment, BLOB_KIND, n) && !marks.has(n)
+    space.has_page(segment, FIL_PAGE_TYPE_BLOB, n) && !marks.has(n)
 }
 
 /// Whether a reference is to a page of the space.

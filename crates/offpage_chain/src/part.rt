@@ -4,7 +4,7 @@ ghost use Rattle.std.specs.Prelude.{◌≡◌, ◌≤◌, ◌+◌, ◌↔◌, Is
 ghost use Rattle.offpage_chain.specs.Chain.{part_length, next_part, part_bytes};
 ghost use Rattle.offpage_chain.specs.ChainChecks.{IsChainPart};
 
-use page_source::{Page, read_be};
+use page_source::{FIL_NULL, Page, read_be};
 
 /// FIL_PAGE_DATA, where the header of the part begins: BTR_BLOB_HDR_PART_LEN, 4 bytes.
 const PART_LENGTH: usize = 38;
@@ -17,9 +17,6 @@ const PART: usize = 46;
 
 /// The most bytes of a part: up to the trailer of the page.
 const MOST: u32 = 16330;
-
-/// FIL_NULL, for no page.
-const FIL_NULL: u32 = 0xFFFF_FFFF;
 
 /// The number of bytes that the page has of the value.
 pub(crate) fn part_length(page: &Page) -> u32
