@@ -30,6 +30,7 @@ use Rattle.table_check.specs.First.{ValueChecksOf}
 use Rattle.table_check.specs.Values.{RowChecks}
 use Rattle.table_check.specs.Trees.{clustered_tree, all_tree_pages, index_in, index_count, IndexCheck, NamedCheck}
 use Rattle.table_check.specs.Trees.{NamedChecks, pages_of_trees, segments_of_trees, leaf_segments_of}
+use Rattle.table_check.specs.declared.trees.Taken.{Taken}
 use Rattle.table_check.specs.Taken.{AreExactly, AreTaken, AreWalked}
 use Rattle.table_check.proofs.Progress.{is_in_append}
 use Rattle.table_check.proofs.RecordSteps.{flat_map_more, range_more, below_more}
@@ -45,7 +46,7 @@ pub exactly_more : (old new : List Bool) (list more : List ℕ) → AreExactly o
 exactly_more old new list more a b n =
     b n ∙ ap (λ (s : Bool). cond s true (is_in more n)) (a n) ∙ sym (is_in_append list more n)
 
-module _ (file : List ℕ) (table : TableDef) (j : ℕ) (leaf node : Fields) (indexes : List IndexDef) (d : IndexDef)
+module _ (file : List ℕ) (table : TableDef) (j : ℕ) {leaf node : Fields} {indexes : List IndexDef} (d : IndexDef)
     (within : j < length table.indexes) (all : indexes ≡ table.indexes)
     (is_leaf : leaf ≡ leaf_fields table j) (is_node : node ≡ node_fields table j) where
   -- the index that is walked
@@ -61,37 +62,41 @@ module _ (file : List ℕ) (table : TableDef) (j : ℕ) (leaf node : Fields) (in
       ∙ ap (λ (f : Fields). index_of file (index_at table j).root f node) is_leaf
       ∙ ap (index_of file (index_at table j).root (leaf_fields table j)) is_node
 
-  pub tree_checked : (marks named : List Bool) → AreTaken file table j marks named → (v : Option Fault)
-      → TreeChecks (index_of file (get_or indexes j d).root leaf node) (is_set marks) (is_set named) v
+  pub tree_checked : {before : Taken} → AreTaken file table j before → (v : Option Fault)
+      → TreeChecks (index_of file (get_or indexes j d).root leaf node) (is_set before.pages) (is_set before.segments) v
       → IndexCheck file table j v
-  tree_checked marks named taken v check =
+  tree_checked {before = before} are v check =
       subst (λ (t : ℕ → Bool). TreeChecks (index_in file table j) t (is_in (segments_of_trees file table j)) v)
-      (fun_ext taken.pages)
-      (subst (λ (t : ℕ → Bool). TreeChecks (index_in file table j) (is_set marks) t v) (fun_ext taken.segments)
-      (subst (λ (i : Index). TreeChecks i (is_set marks) (is_set named) v) index_is check))
+      (fun_ext are.pages)
+      (subst (λ (t : ℕ → Bool). TreeChecks (index_in file table j) (is_set before.pages) t v) (fun_ext are.segments)
+      (subst (λ (i : Index). TreeChecks i (is_set before.pages) (is_set before.segments) v) index_is check))
 
-  pub tree_halts : (marks named : List Bool) → AreTaken file table j marks named → (halt : Halt)
-      → HaltsAt halt (TreeChecks (index_of file (get_or indexes j d).root leaf node) (is_set marks) (is_set named))
+  pub tree_halts : {before : Taken} → AreTaken file table j before → (halt : Halt)
+      → HaltsAt halt (TreeChecks (index_of file (get_or indexes j d).root leaf node) (is_set before.pages)
+      (is_set before.segments))
       → Stops (stop_of halt) (IndexCheck file table j)
-  tree_halts marks named taken (Broken fault) at = tree_checked marks named taken (Some fault) at
-  tree_halts marks named taken Source at = tt
+  tree_halts are (Broken fault) at = tree_checked are (Some fault) at
+  tree_halts are Source at = tt
 
   -- and what it takes
-  pub tree_taken : (marks named now now_named : List Bool) → AreTaken file table j marks named
-      → Marked (is_set marks) now (tree_pages (index_of file (get_or indexes j d).root leaf node))
-      → Marked (is_set named) now_named (named_segments (index_of file (get_or indexes j d).root leaf node))
-      → AreTaken file table (j + 1) now now_named
+  pub tree_taken : {before : Taken} (after : Taken) → AreTaken file table j before
+      → Marked (is_set before.pages) after.pages (tree_pages (index_of file (get_or indexes j d).root leaf node))
+      → Marked (is_set before.segments) after.segments
+      (named_segments (index_of file (get_or indexes j d).root leaf node))
+      → AreTaken file table (j + 1) after
   unfolding pages_of_trees segments_of_trees
-  tree_taken marks named now now_named taken pages segments =
-      let page_list = subst (λ (i : Index). Marked (is_set marks) now (tree_pages i)) index_is pages in
-      let segment_list = subst (λ (i : Index). Marked (is_set named) now_named (named_segments i)) index_is segments in
+  tree_taken {before = before} after are pages segments =
+      let page_list = subst (λ (i : Index). Marked (is_set before.pages) after.pages (tree_pages i)) index_is pages in
+      let segment_list = subst (λ (i : Index). Marked (is_set before.segments) after.segments (named_segments i))
+      index_is segments in
       record {
-        pages = subst (AreExactly now) (sym (flat_map_more (λ i. tree_pages (index_in file table i)) j))
-            (exactly_more marks now (pages_of_trees file table j) (tree_pages
-            (index_in file table j)) taken.pages page_list);
-        segments = subst (AreExactly now_named) (sym (flat_map_more (λ i. named_segments (index_in file table i)) j))
-            (exactly_more named now_named (segments_of_trees file table j) (named_segments (index_in file table j))
-            taken.segments segment_list);
+        pages = subst (AreExactly after.pages) (sym (flat_map_more (λ i. tree_pages (index_in file table i)) j))
+            (exactly_more before.pages after.pages (pages_of_trees file table j) (tree_pages
+            (index_in file table j)) are.pages page_list);
+        segments = subst (AreExactly after.segments)
+            (sym (flat_map_more (λ i. named_segments (index_in file table i)) j))
+            (exactly_more before.segments after.segments (segments_of_trees file table j)
+            (named_segments (index_in file table j)) are.segments segment_list);
       }
 
 -- a check that stops behind others that hold
@@ -119,26 +124,25 @@ module _ (file : List ℕ) (table : TableDef) where
       ∙ ap (λ (x : ℕ). leaf_segments_of file table j ++ x ∷ []) is.leaf ∙ sym (leaves_more j)
 
   -- the first tree was walked
-  pub walked_first : (marks named : List Bool) (ends : TreeEnds) (leaves now : List ℕ) → leaves ≡ []
-      → now ≡ leaves ++ ends.leaf_segment ∷ [] → IndexCheck file table 0 None → AreTaken file table 1 marks named
+  pub walked_first : (after : Taken) (ends : TreeEnds) (leaves now : List ℕ) → leaves ≡ []
+      → now ≡ leaves ++ ends.leaf_segment ∷ [] → IndexCheck file table 0 None → AreTaken file table 1 after
       → IsWalked (index_in file table 0) → IsEndsOf (index_in file table 0) ends
-      → AreWalked file table 1 marks named ends now
+      → AreWalked file table 1 after ends now
   unfolding leaf_segments_of
-  walked_first marks named ends leaves now none added check taken walked is = record {
-    taken = taken;
+  walked_first after ends leaves now none added check taken walked is = record {
+    are_taken = taken;
     held = below_more (IndexCheck file table) 0 (λ j below. absurd (omega (arith, below))) check;
     has_clustered = record { walked = walked; has_ends = is };
     has_leaves = leaf_added 0 leaves now ends none is added;
   }
 
   -- one more tree was walked
-  pub walked_more : (j : ℕ) (marks named marks_now named_now : List Bool) (clustered ends : TreeEnds)
-      (leaves now : List ℕ)
-      → AreWalked file table j marks named clustered leaves → IndexCheck file table j None
-      → AreTaken file table (j + 1) marks_now named_now → IsEndsOf (index_in file table j) ends
-      → now ≡ leaves ++ ends.leaf_segment ∷ [] → AreWalked file table (j + 1) marks_now named_now clustered now
-  walked_more j marks named marks_now named_now clustered ends leaves now are check taken is added = record {
-    taken = taken;
+  pub walked_more : (j : ℕ) (before after : Taken) (clustered ends : TreeEnds) (leaves now : List ℕ)
+      → AreWalked file table j before clustered leaves → IndexCheck file table j None
+      → AreTaken file table (j + 1) after → IsEndsOf (index_in file table j) ends
+      → now ≡ leaves ++ ends.leaf_segment ∷ [] → AreWalked file table (j + 1) after clustered now
+  walked_more j before after clustered ends leaves now are check taken is added = record {
+    are_taken = taken;
     held = below_more (IndexCheck file table) j are.held check;
     has_clustered = are.has_clustered;
     has_leaves = leaf_added j leaves now ends are.has_leaves is added;
@@ -151,12 +155,11 @@ none_marked_yet (suc size) zero = refl
 none_marked_yet (suc size) (suc n) = none_marked_yet size n
 
 module _ (file : List ℕ) (table : TableDef) where
-  pub none_taken : (marks named : List Bool) (size count : ℕ) → marks ≡ replicate size false → named
-      ≡ replicate count false
-      → AreTaken file table 0 marks named
+  pub none_taken : (taken : Taken) (size count : ℕ) → taken.pages ≡ replicate size false
+      → taken.segments ≡ replicate count false → AreTaken file table 0 taken
   unfolding pages_of_trees segments_of_trees
-  none_taken marks named size count m s = record {
-    pages = λ n. ap (λ (list : List Bool). is_set list n) m ∙ none_marked_yet size n;
+  none_taken taken size count p s = record {
+    pages = λ n. ap (λ (list : List Bool). is_set list n) p ∙ none_marked_yet size n;
     segments = λ n. ap (λ (list : List Bool). is_set list n) s ∙ none_marked_yet count n;
   }
 

@@ -1,12 +1,16 @@
 -- What is known of a table's trees while they are walked one after another, and once all were.
-use Rattle.std.specs.Prelude.{◌≡◌, ℕ, ◌+◌, ◌*◌, ◌≤◌, Bool, List, None}
+use Rattle.std.specs.Prelude.{◌≡◌, ℕ, ◌+◌, ◌*◌, ◌≤◌, Bool, List, length, None}
+use Rattle.page_source.specs.declared.objects.PageSource.{Ghosts as FileOf}
 use Rattle.page_source.specs.Lists.{unmarked}
 use Rattle.space_audit.specs.Marks.{is_in, is_set}
+use Rattle.space_audit.specs.Space.{SpaceView}
 use Rattle.schema_text.specs.TableDef.{TableDef}
 use Rattle.tree_walk.specs.declared.ends.TreeEnds.{TreeEnds}
 use Rattle.tree_walk.specs.Leaf.{IsWalked}
 use Rattle.tree_walk.specs.Walk.{IsEndsOf}
+use Rattle.table_check.specs.declared.trees.Taken.{Taken}
 use Rattle.table_check.specs.declared.trees.Trees.{Trees}
+use Rattle.table_check.specs.Marking.{CanMark}
 use Rattle.table_check.specs.First.{is_reached}
 use Rattle.table_check.specs.Trees.{clustered_tree, pages_of_trees, segments_of_trees, all_tree_pages}
 use Rattle.table_check.specs.Trees.{leaf_segments, leaf_segments_of, AllTreeChecks, NamedChecks, IndexCheck}
@@ -16,10 +20,15 @@ use Rattle.page_source.specs.Verdict.{AllBelow}
 abbrev pub AreExactly : List Bool → List ℕ → Type 0
 AreExactly marks list = (n : ℕ) → is_set marks n ≡ is_in list n
 
+-- the space is the audit of the file, and there is a mark for each of its pages and of its segments
+pub record CanTake {S : Type 0} (g : FileOf S) (source : S) (space : SpaceView) (taken : Taken) : Type 0 where
+  pub pages : CanMark g source space taken.pages
+  pub segments : length taken.segments ≡ length space.segments
+
 -- the pages of the first j trees are marked, and the segments that they name
-pub record AreTaken (file : List ℕ) (table : TableDef) (j : ℕ) (marks named : List Bool) : Type 0 where
-  pub pages : AreExactly marks (pages_of_trees file table j)
-  pub segments : AreExactly named (segments_of_trees file table j)
+pub record AreTaken (file : List ℕ) (table : TableDef) (j : ℕ) (taken : Taken) : Type 0 where
+  pub pages : AreExactly taken.pages (pages_of_trees file table j)
+  pub segments : AreExactly taken.segments (segments_of_trees file table j)
 
 -- the tree of the clustered index was walked, and these are its ends
 pub record IsClustered (file : List ℕ) (table : TableDef) (ends : TreeEnds) : Type 0 where
@@ -27,9 +36,9 @@ pub record IsClustered (file : List ℕ) (table : TableDef) (ends : TreeEnds) : 
   pub has_ends : IsEndsOf (clustered_tree file table) ends
 
 -- the first j trees hold
-pub record AreWalked (file : List ℕ) (table : TableDef) (j : ℕ) (marks named : List Bool) (clustered : TreeEnds)
+pub record AreWalked (file : List ℕ) (table : TableDef) (j : ℕ) (taken : Taken) (clustered : TreeEnds)
     (leaves : List ℕ) : Type 0 where
-  pub taken : AreTaken file table j marks named
+  pub are_taken : AreTaken file table j taken
   pub held : AllBelow (IndexCheck file table) j
   pub has_clustered : IsClustered file table clustered
   pub has_leaves : leaves ≡ leaf_segments_of file table j

@@ -10,10 +10,9 @@ ghost use Rattle.space_audit.specs.Space.{IsAuditOf};
 ghost use Rattle.tree_walk.specs.Leaf.{IsWalked};
 ghost use Rattle.tree_walk.specs.Room.{HasRoom};
 ghost use Rattle.tree_walk.specs.Walk.{IsEndsOf};
-ghost use Rattle.table_check.specs.Marking.{CanMark};
 ghost use Rattle.table_check.specs.Trees.{index_in, index_count, IndexCheck, AllTreeChecks, NamedCheck};
 ghost use Rattle.table_check.specs.First.{TableTreeChecks};
-ghost use Rattle.table_check.specs.Taken.{AreTaken, AreWalked, AreTrees, LeavesRoom, LeavesSome};
+ghost use Rattle.table_check.specs.Taken.{CanTake, AreTaken, AreWalked, AreTrees, LeavesRoom, LeavesSome};
 
 use page_source::{Fault, NoMemory, PageSource, Rule, Steps, Stop};
 use schema_text::Schema;
@@ -35,7 +34,15 @@ pub(crate) struct Trees {
     pub(crate) marks: Marks,
 }
 
-/// Checks the tree of an index. Its pages are marked, and its segments are named from now on.
+/// What the trees that were walked so far take: a mark for each of their pages, and one for each segment that they
+/// name.
+#[derive(Debug, Drop)]
+struct Taken {
+    pages: Marks,
+    segments: Marks,
+}
+
+/// Checks the tree of an index. Its pages and its segments are taken from now on.
 fn walk_index<S: PageSource, L: Ledger>(
     alloc: Global,
     walk: &mut Walk,
@@ -43,33 +50,41 @@ fn walk_index<S: PageSource, L: Ledger>(
     space: &Space,
     schema: &Schema,
     j: usize,
-    named: &mut Marks,
-    marks: &mut Marks,
+    taken: &mut Taken,
     steps: &mut Steps<L>,
 ) -> Result<TreeEnds, Stop>
     requires index { j < length schema.now.indexes }
-    requires ready { CanMark S.PageSource source.old space.now marks.old }
-    requires segments { length named.old ≡ length space.now.segments }
+    requires ready { CanTake S.PageSource source.old space.now taken.old }
     requires room { HasRoom walk.old 128 }
-    requires told { OfFile S.PageSource source.old (λ file. AreTaken file schema.now j marks.old named.old) }
+    requires told { OfFile S.PageSource source.old (λ file. AreTaken file schema.now j taken.old) }
     ensures exact { OfFile S.PageSource source.old (λ file. Answers result (IndexCheck file schema.now j)) }
     ensures ends { IfOk result (λ ends. OfFile S.PageSource source.old (λ file.
         IsEndsOf (index_in file schema.now j) ends)) }
     ensures walked { OnOk result (OfFile S.PageSource source.old (λ file. IsWalked (index_in file schema.now j))) }
-    ensures taken { OnOk result (OfFile S.PageSource source.old (λ file.
-        AreTaken file schema.now (j + 1) marks.new named.new)) }
-    ensures members { length marks.new ≡ length marks.old }
-    ensures segments { length named.new ≡ length named.old }
+    ensures taken { OnOk result (OfFile S.PageSource source.old (λ file. AreTaken file schema.now (j + 1) taken.new)) }
+    ensures members { length taken.new.pages ≡ length taken.old.pages }
+    ensures segments { length taken.new.segments ≡ length taken.old.segments }
     ensures room { HasRoom walk.new 128 }
-    ensures leaves { IfOk result (λ ends. LeavesRoom ends.leaves marks.old marks.new steps.old steps.new) }
-    ensures steps { steps.new ≤ steps.old + 2 * unmarked marks.old + 2 }
+    ensures leaves { IfOk result (λ ends.
+        LeavesRoom ends.leaves taken.old.pages taken.new.pages steps.old steps.new) }
+    ensures steps { steps.new ≤ steps.old + 2 * unmarked taken.old.pages + 2 }
     ensures over { StopsOver S.PageSource source.old source.new result }
 {
     lists_are_of_one_index();
     let leaf = schema.fields(alloc, j, true)?;
     let node = schema.fields(alloc, j, false)?;
     let root = schema.indexes()[j].root;
-    Ok(walk_tree(walk, source, space, root, &leaf, &node, named, marks, steps)?)
+    Ok(walk_tree(
+        walk,
+        source,
+        space,
+        root,
+        &leaf,
+        &node,
+        &mut taken.segments,
+        &mut taken.pages,
+        steps,
+    )?)
 }
 
 /// Adds a segment.
@@ -88,33 +103,28 @@ fn walk_indexes<S: PageSource, L: Ledger>(
     space: &Space,
     schema: &Schema,
     leaf_segments: &mut Vec<u32>,
-    named: &mut Marks,
-    marks: &mut Marks,
+    taken: &mut Taken,
     steps: &mut Steps<L>,
 ) -> Result<TreeEnds, Stop>
     requires empty { leaf_segments.old.items ≡ [] }
-    requires ready { CanMark S.PageSource source.old space.now marks.old }
-    requires segments { length named.old ≡ length space.now.segments }
-    requires told { OfFile S.PageSource source.old (λ file. AreTaken file schema.now 0 marks.old named.old) }
+    requires ready { CanTake S.PageSource source.old space.now taken.old }
+    requires told { OfFile S.PageSource source.old (λ file. AreTaken file schema.now 0 taken.old) }
     ensures exact { OfFile S.PageSource source.old (λ file. Answers result (AllTreeChecks file schema.now)) }
     ensures walked { IfOk result (λ clustered. OfFile S.PageSource source.old (λ file.
-        AreWalked file schema.now (index_count schema.now) marks.new named.new clustered leaf_segments.new.items)) }
-    ensures members { length marks.new ≡ length marks.old }
-    ensures segments { length named.new ≡ length named.old }
-    ensures leaves { IfOk result (λ ends. LeavesRoom ends.leaves marks.old marks.new steps.old steps.new) }
-    ensures steps { steps.new ≤ steps.old + 2 * unmarked marks.old + 2 }
+        AreWalked file schema.now (index_count schema.now) taken.new clustered leaf_segments.new.items)) }
+    ensures members { length taken.new.pages ≡ length taken.old.pages }
+    ensures segments { length taken.new.segments ≡ length taken.old.segments }
+    ensures leaves { IfOk result (λ ends.
+        LeavesRoom ends.leaves taken.old.pages taken.new.pages steps.old steps.new) }
+    ensures steps { steps.new ≤ steps.old + 2 * unmarked taken.old.pages + 2 }
     ensures over { StopsOver S.PageSource source.old source.new result }
 {
     let count = schema.indexes().len();
     let mut walk = Walk::new(alloc, MOST_FIELDS)?;
-    let clustered = walk_index(
-        alloc, &mut walk, source, space, schema, 0, named, marks, steps,
-    )?;
+    let clustered = walk_index(alloc, &mut walk, source, space, schema, 0, taken, steps)?;
     push(leaf_segments, clustered.leaf_segment)?;
     for j in 1..count {
-        let ends = walk_index(
-            alloc, &mut walk, source, space, schema, j, named, marks, steps,
-        )?;
+        let ends = walk_index(alloc, &mut walk, source, space, schema, j, taken, steps)?;
         push(leaf_segments, ends.leaf_segment)?;
     }
     Ok(clustered)
@@ -150,8 +160,9 @@ pub(crate) fn check_trees<S: PageSource, L: Ledger>(
     ensures steps { steps.new ≤ steps.old + 2 * space.now.size + 2 }
     ensures over { StopsOver S.PageSource source.old source.new result }
 {
-    let mut named = Marks::new(alloc, space.segment_count())?;
-    let mut marks = Marks::new(alloc, space.size())?;
+    let pages = Marks::new(alloc, space.size())?;
+    let segments = Marks::new(alloc, space.segment_count())?;
+    let mut taken = Taken { pages, segments };
     let mut leaf_segments = Vec::new(alloc);
     let clustered = walk_indexes(
         alloc,
@@ -159,14 +170,13 @@ pub(crate) fn check_trees<S: PageSource, L: Ledger>(
         space,
         schema,
         &mut leaf_segments,
-        &mut named,
-        &mut marks,
+        &mut taken,
         steps,
     )?;
-    check_named(space, &named)?;
+    check_named(space, &taken.segments)?;
     Ok(Trees {
         clustered,
         leaf_segments,
-        marks,
+        marks: taken.pages,
     })
 }

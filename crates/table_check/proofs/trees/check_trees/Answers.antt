@@ -7,9 +7,9 @@ use Rattle.table_check.proofs.trees.check_trees.Goals as goal
 pub walk_indexes-requires-clause-told : goal.walk_indexes-requires-clause-told
 walk_indexes-requires-clause-told g c =
     told0 (g.S.PageSource.content c.args.source.now)
-    (λ file. none_taken file c.args.schema.now c.in_ok-marks.marks c.in_ok-named.named c.size.result
-    c.segment_count.result
-    c.in_ok-marks.ensures c.in_ok-named.ensures)
+    (λ file. none_taken file c.args.schema.now
+    (record { pages = c.in_ok-pages.pages; segments = c.in_ok-segments.segments }) c.size.result c.segment_count.result
+    c.in_ok-pages.ensures c.in_ok-segments.ensures)
 
 pub returns-in_err-check_named-clause-exact : goal.returns-in_err-check_named-clause-exact
 returns-in_err-check_named-clause-exact g c =
@@ -19,8 +19,8 @@ returns-in_err-check_named-clause-exact g c =
     (told3 (g.S.PageSource.content c.args.source.now)
     (λ file audit trees are. inr (
       trees,
-      named_checked file c.args.schema.now c.walk_indexes.new.named c.args.space.now.segments
-          audit.has_segments are.taken.segments (Some c.in_err-check_named.field-0.0) c.in_err-check_named.ensures,
+      named_checked file c.args.schema.now c.walk_indexes.new.taken.segments c.args.space.now.segments
+          audit.has_segments are.are_taken.segments (Some c.in_err-check_named.field-0.0) c.in_err-check_named.ensures,
     ))
     c.requires.audit c.in_ok-clustered.ensures.exact c.in_ok-clustered.ensures.walked)
 
@@ -29,8 +29,8 @@ returns-clause-exact g c =
     told3 (g.S.PageSource.content c.args.source.now)
     (λ file audit trees are. (
       trees,
-      named_checked file c.args.schema.now c.walk_indexes.new.named c.args.space.now.segments
-          audit.has_segments are.taken.segments None c.in_ok-check_named.ensures,
+      named_checked file c.args.schema.now c.walk_indexes.new.taken.segments c.args.space.now.segments
+          audit.has_segments are.are_taken.segments None c.in_ok-check_named.ensures,
     ))
     c.requires.audit c.in_ok-clustered.ensures.exact c.in_ok-clustered.ensures.walked
 
@@ -39,9 +39,9 @@ returns-clause-trees g c =
     told3 (g.S.PageSource.content c.args.source.now)
     (λ file audit trees are. record {
       sound = trees;
-      named = named_checked file c.args.schema.now c.walk_indexes.new.named c.args.space.now.segments audit.has_segments
-          are.taken.segments None c.in_ok-check_named.ensures;
-      pages = are.taken.pages;
+      named = named_checked file c.args.schema.now c.walk_indexes.new.taken.segments c.args.space.now.segments
+          audit.has_segments are.are_taken.segments None c.in_ok-check_named.ensures;
+      pages = are.are_taken.pages;
       has_clustered = are.has_clustered;
       has_leaves = are.has_leaves;
     })

@@ -12,43 +12,37 @@ returns-in_err-walk_tree-clause-exact g c =
     let r = err_from_is_err_and c.from_residual-in_err-walk_tree.result c.from_residual-in_err-walk_tree.ensures.1 in
     rw (r.1, r.2)
     (told2 (g.S.PageSource.content c.args.source.now)
-    (λ file taken at. tree_halts file c.args.schema.now c.args.j c.in_ok-leaf.leaf c.in_ok-node.node
-    c.indexes.result.now
-    c.index-indexes-j.result c.requires.index c.indexes.ensures.same c.in_ok-leaf.ensures.value
-    c.in_ok-node.ensures.value c.args.marks.now c.args.named.now taken c.in_err-walk_tree.field-0.0 at)
+    (λ file are at. tree_halts file c.args.schema.now c.args.j c.index-indexes-j.result c.requires.index
+    c.indexes.ensures.same c.in_ok-leaf.ensures.value c.in_ok-node.ensures.value are c.in_err-walk_tree.field-0.0 at)
     c.requires.told c.in_err-walk_tree.ensures.exact)
 
 pub returns-clause-exact : goal.returns-clause-exact
 returns-clause-exact g c =
     told2 (g.S.PageSource.content c.args.source.now)
-    (λ file taken check. tree_checked file c.args.schema.now c.args.j c.in_ok-leaf.leaf c.in_ok-node.node
-    c.indexes.result.now c.index-indexes-j.result c.requires.index c.indexes.ensures.same
-    c.in_ok-leaf.ensures.value c.in_ok-node.ensures.value c.args.marks.now c.args.named.now taken None check)
+    (λ file are check. tree_checked file c.args.schema.now c.args.j c.index-indexes-j.result c.requires.index
+    c.indexes.ensures.same c.in_ok-leaf.ensures.value c.in_ok-node.ensures.value are None check)
     c.requires.told c.in_ok-walk_tree.ensures.exact
 
 pub returns-clause-ends : goal.returns-clause-ends
 returns-clause-ends g c =
     told1 (g.S.PageSource.content c.args.source.now)
     (λ file ends. subst (λ (i : Index). IsEndsOf i c.in_ok-walk_tree.field-0)
-    (index_is file c.args.schema.now c.args.j c.in_ok-leaf.leaf c.in_ok-node.node c.indexes.result.now
-    c.index-indexes-j.result c.requires.index c.indexes.ensures.same c.in_ok-leaf.ensures.value
-    c.in_ok-node.ensures.value) ends)
+    (index_is file c.args.schema.now c.args.j c.index-indexes-j.result c.requires.index c.indexes.ensures.same
+    c.in_ok-leaf.ensures.value c.in_ok-node.ensures.value) ends)
     c.in_ok-walk_tree.ensures.ends
 
 pub returns-clause-walked : goal.returns-clause-walked
 returns-clause-walked g c =
     told1 (g.S.PageSource.content c.args.source.now)
     (λ file walked. subst IsWalked
-    (index_is file c.args.schema.now c.args.j c.in_ok-leaf.leaf c.in_ok-node.node c.indexes.result.now
-    c.index-indexes-j.result c.requires.index c.indexes.ensures.same c.in_ok-leaf.ensures.value
-    c.in_ok-node.ensures.value) walked)
+    (index_is file c.args.schema.now c.args.j c.index-indexes-j.result c.requires.index c.indexes.ensures.same
+    c.in_ok-leaf.ensures.value c.in_ok-node.ensures.value) walked)
     c.in_ok-walk_tree.ensures.walked
 
 pub returns-clause-taken : goal.returns-clause-taken
 returns-clause-taken g c =
     told3 (g.S.PageSource.content c.args.source.now)
-    (λ file taken pages segments. tree_taken file c.args.schema.now c.args.j c.in_ok-leaf.leaf c.in_ok-node.node
-    c.indexes.result.now c.index-indexes-j.result c.requires.index c.indexes.ensures.same
-    c.in_ok-leaf.ensures.value c.in_ok-node.ensures.value c.args.marks.now c.args.named.now c.walk_tree.new.marks
-    c.walk_tree.new.named taken pages segments)
+    (λ file are pages segments. tree_taken file c.args.schema.now c.args.j c.index-indexes-j.result c.requires.index
+    c.indexes.ensures.same c.in_ok-leaf.ensures.value c.in_ok-node.ensures.value
+    (record { pages = c.walk_tree.new.marks; segments = c.walk_tree.new.named }) are pages segments)
     c.requires.told c.in_ok-walk_tree.ensures.grew c.in_ok-walk_tree.ensures.names

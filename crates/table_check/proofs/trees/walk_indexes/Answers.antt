@@ -27,7 +27,7 @@ loop-j-init g c = record {
   leaves = c.in_ok-clustered.ensures.leaves;
   told =
       told4 (g.S.PageSource.content c.args.source.now)
-      (λ file check taken walked ends. walked_first file c.args.schema.now c.walk_index.new.marks c.walk_index.new.named
+      (λ file check taken walked ends. walked_first file c.args.schema.now c.walk_index.new.taken
       c.in_ok-clustered.clustered c.args.leaf_segments.now.items c.push.new.segments.items c.requires.empty
       c.in_ok-push.ensures check
       taken walked ends)
@@ -64,8 +64,8 @@ loop-j-preserved g c =
       };
       told =
           told4 (g.S.PageSource.content c.args.source.now)
-          (λ file are check taken ends. walked_more file c.args.schema.now c.loop-j.j c.loop-j.marks c.loop-j.named
-          c.walk_index-in-loop-j.new.marks c.walk_index-in-loop-j.new.named c.in_ok-clustered.clustered
+          (λ file are check taken ends. walked_more file c.args.schema.now c.loop-j.j c.loop-j.taken
+          c.walk_index-in-loop-j.new.taken c.in_ok-clustered.clustered
           c.in_ok-ends.ends
           c.loop-j.leaf_segments.items c.push-in-loop-j.new.segments.items are check taken ends c.in_ok-push-2.ensures)
           inv.told check taken ends;
@@ -95,5 +95,5 @@ returns-clause-walked g c =
       c.indexes-count.ensures.table.clustered,
     ) in
     told1 (g.S.PageSource.content c.args.source.now)
-    (λ file are. subst (λ (n : ℕ). AreWalked file c.args.schema.now n c.loop-j.marks c.loop-j.named
+    (λ file are. subst (λ (n : ℕ). AreWalked file c.args.schema.now n c.loop-j.taken
     c.in_ok-clustered.clustered c.loop-j.leaf_segments.items) e are) c.loop-j.invariant.told

@@ -11,10 +11,10 @@ invariant-loop-j g l =
     record {
       same : content l.source ≡ content l.fn.source;
       later : g.S.PageSource.faults l.fn.source ≤ g.S.PageSource.faults l.source;
-      members : length l.marks ≡ length l.fn.marks;
-      segments : length l.named ≡ length l.fn.named;
+      members : length l.taken.pages ≡ length l.fn.taken.pages;
+      segments : length l.taken.segments ≡ length l.fn.taken.segments;
       room : HasRoom l.walk 128;
-      leaves : LeavesRoom l.clustered.leaves l.fn.marks l.marks l.fn.steps l.steps;
+      leaves : LeavesRoom l.clustered.leaves l.fn.taken.pages l.taken.pages l.fn.steps l.steps;
       told : OfFile g.S.PageSource l.fn.source (λ file.
-          AreWalked file l.schema l.j l.marks l.named l.clustered l.leaf_segments.items);
+          AreWalked file l.schema l.j l.taken l.clustered l.leaf_segments.items);
     }
