@@ -3,9 +3,11 @@ use Rattle.std.proofs.Common.{◌≡◌, ◌==◌, IfSome, ℕ, ◌+◌, ◌≤�
 use Rattle.std.proofs.Common.{Option, None, Result, Ok, Err, refl, sym, ap, ◌∙◌, subst, arith, length-append}
 use Rattle.std.specs.Prelude.{not}
 use Rattle.std.proofs.lemmas.List.Sums.{count_by-le-length}
+use Rattle.std.proofs.lemmas.Result.{on_ok_weaker}
 use Rattle.page_source.specs.declared.objects.PageSource.{Ghosts as FileOf}
 use Rattle.page_source.specs.declared.rule.Fault.{Fault}
 use Rattle.page_source.specs.declared.checks.Halt.{Halt}
+use Rattle.page_source.specs.declared.checks.Halt.TheVariants.{Broken, Source}
 use Rattle.page_source.specs.Lists.{unmarked}
 use Rattle.page_source.specs.Faults.{Rose}
 use Rattle.page_source.specs.Checks.{HaltsAt}
@@ -68,6 +70,18 @@ marked_more taken old new list more a b n =
     b n ∙ ap (λ (s : Bool). cond s true (is_in more n)) (a n) ∙ cond_twice (taken n) (is_in list n) (is_in more n)
     ∙ ap (λ (s : Bool). cond (taken n) true s) (sym (is_in_append list more n))
 
+-- the source of a halt, behind calls that went on
+pub over_both : {S A B : Type 0} {g : FileOf S} {first old new : S} {result : Result A Halt} (answer : Result B Halt)
+    → g.content old ≡ g.content first → g.faults first ≤ g.faults old → (answer ≡ Err Source → result ≡ Err Source)
+    → HaltsOver g old new result → HaltsOver g first new answer
+over_both {g = g} {first = first} {old = old} {new = new} answer same later back over = record {
+  same = over.same ∙ same;
+  cause = record {
+    later = omega (arith, later, over.cause.later);
+    source = λ is. rose_before (g.faults first) (g.faults old) (g.faults new) later (over.cause.source (back is));
+  };
+}
+
 module _ {S : Type 0} (g : FileOf S) (first old new : S) (start before after : List Bool) (steps mid spent count : ℕ)
     (pages more : List ℕ → List ℕ) (Checks : List ℕ → Option Fault → Type 0)
     (has : HasMarked g first old start before steps mid count pages) where
@@ -111,13 +125,7 @@ module _ {S : Type 0} (g : FileOf S) (first old new : S) (start before after : L
     fewer = tt;
     cost = omega (arith, has.cost, has.fewer, call.cost);
     at_ok = tt;
-    over = record {
-      same = call.over.same ∙ has.same;
-      cause = record {
-        later = omega (arith, has.later, call.over.cause.later);
-        source = λ is. rose_before (g.faults first) (g.faults old) (g.faults new) has.later (call.over.cause.source is);
-      };
-    };
+    over = over_both (Err halt) has.same has.later (λ is. is) call.over;
   }
 
 -- all of them held
@@ -152,54 +160,42 @@ moved g first old new start marks steps mid spent count pages result less over h
   grew = has.grew;
 }
 
--- the same call, counted from another number of steps
-pub shifted : {S : Type 0} (g : FileOf S) (old new : S) (before after : List Bool) (steps spent k : ℕ)
-    (result : Result ℕ Halt) (Checks : List ℕ → Option Fault → Type 0) (pages : List ℕ → List ℕ)
-    → ChecksPages g old new before after steps spent result Checks pages
-    → ChecksPages g old new before after (steps + k) (spent + k) result Checks pages
-shifted g old new before after steps spent k (Ok n) Checks pages call = record {
-  exact = call.exact;
-  count = call.count;
-  grew = call.grew;
-  members = call.members;
-  fewer = call.fewer;
-  cost = omega (arith, call.cost);
-  at_ok = let at_ok = call.at_ok in omega (arith, at_ok);
-  over = call.over;
-}
-shifted g old new before after steps spent k (Err halt) Checks pages call = record {
-  exact = call.exact;
+-- the same halt, as an answer of another call
+pub halt_as : {A B : Type 0} (halt : Halt) → ◌≡◌ {A = Result A Halt} (Err halt) (Err Source)
+    → ◌≡◌ {A = Result B Halt} (Err halt) (Err Source)
+halt_as (Broken fault) is = absurd (cc)
+halt_as Source is = refl
+
+-- or breaks off
+pub between_breaks : {S A : Type 0} {g : FileOf S} {first old new : S} {start marks : List Bool}
+    {steps mid count : ℕ} {pages : List ℕ → List ℕ} (spent : ℕ) (halt : Halt)
+    (All : List ℕ → Option Fault → Type 0) (all : List ℕ → List ℕ)
+    → HasMarked g first old start marks steps mid count pages → HaltsOver {A = A} g old new (Err halt) → spent ≤ mid
+    → OfFile g first (λ file. HaltsAt halt (All file))
+    → ChecksPages g first new start marks steps spent (Err halt) All all
+between_breaks {A = A} spent halt All all has over less exact = record {
+  exact = exact;
   count = tt;
   grew = tt;
-  members = call.members;
+  members = has.members;
   fewer = tt;
-  cost = omega (arith, call.cost);
+  cost = omega (arith, less, has.cost);
   at_ok = tt;
-  over = call.over;
+  over = over_both {A = A} (Err halt) has.same has.later (halt_as halt) over;
 }
 
--- it took fewer steps
-pub sooner : {S : Type 0} (g : FileOf S) (old new : S) (before after : List Bool) (steps spent k : ℕ)
-    (result : Result ℕ Halt) (Checks : List ℕ → Option Fault → Type 0) (pages : List ℕ → List ℕ)
-    → ChecksPages g old new before after steps (spent + k) result Checks pages
-    → ChecksPages g old new before after steps spent result Checks pages
-sooner g old new before after steps spent k (Ok n) Checks pages call = record {
+-- the same call, counted from other steps, of which it takes no more
+pub recounted : {S : Type 0} {g : FileOf S} {old new : S} {before after : List Bool} {steps spent : ℕ}
+    {result : Result ℕ Halt} {Checks : List ℕ → Option Fault → Type 0} {pages : List ℕ → List ℕ} (first last : ℕ)
+    → ChecksPages g old new before after steps spent result Checks pages → last + steps ≤ first + spent
+    → ChecksPages g old new before after first last result Checks pages
+recounted {result = result} first last call no_more = record {
   exact = call.exact;
   count = call.count;
   grew = call.grew;
   members = call.members;
   fewer = call.fewer;
-  cost = omega (arith, call.cost);
-  at_ok = let at_ok = call.at_ok in omega (arith, at_ok);
-  over = call.over;
-}
-sooner g old new before after steps spent k (Err halt) Checks pages call = record {
-  exact = call.exact;
-  count = tt;
-  grew = tt;
-  members = call.members;
-  fewer = tt;
-  cost = omega (arith, call.cost);
-  at_ok = tt;
+  cost = omega (arith, no_more, call.cost);
+  at_ok = on_ok_weaker result (λ few. omega (arith, no_more, few)) call.at_ok;
   over = call.over;
 }

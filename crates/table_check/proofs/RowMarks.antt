@@ -1,41 +1,116 @@
 -- The rows of a table are checked one after another.
-use Rattle.std.proofs.Common.{◌≡◌, ℕ, ◌+◌, Bool, List, take, get_or, Option, Some}
-use Rattle.std.proofs.Common.{None, IfSome, Ok, Err, subst}
+use Rattle.std.proofs.Common.{◌≡◌, ℕ, ◌+◌, ◌≤◌, Bool, List, take, get_or, Option, Some, None, IfSome}
+use Rattle.std.proofs.Common.{Ok, Err, sym, ap, ◌∙◌, subst, arith}
 use Rattle.page_source.specs.declared.objects.PageSource.{Ghosts as FileOf}
 use Rattle.page_source.specs.declared.rule.Fault.{Fault}
 use Rattle.page_source.specs.declared.checks.Halt.{Halt}
 use Rattle.page_source.specs.Verdict.{AllBefore}
 use Rattle.page_source.specs.Checks.{HaltsAt}
-use Rattle.page_source.specs.Calls.{OfFile}
-use Rattle.page_source.proofs.Told.{told1, told2, told5}
+use Rattle.page_source.specs.Calls.{OfFile, HaltsOver}
+use Rattle.page_source.proofs.Told.{told0, told1, told2, told3, told5}
 use Rattle.column_values.specs.Types.{Fields}
 use Rattle.schema_text.specs.TableDef.{TableDef}
 use Rattle.schema_text.specs.IndexFields.{leaf_fields}
 use Rattle.space_audit.specs.Marks.{is_set, Marked}
+use Rattle.tree_walk.specs.Laws.{RowsCanBeRead}
+use Rattle.tree_walk.specs.Records.{IsRecord}
 use Rattle.tree_walk.specs.Index.{Row}
 use Rattle.table_check.specs.Trees.{clustered_tree}
 use Rattle.table_check.specs.Live.{LiveView, FindsLive, HasGivenLive, GivesAll}
 use Rattle.table_check.specs.Marking.{ChecksPages}
 use Rattle.table_check.specs.Values.{RecordChecks, RowCheck, RowChecks, pages_of_record, all_chain_pages, live_rows}
-use Rattle.table_check.proofs.Progress.{HasMarked, more_marked, breaks_off, shifted, sooner}
+use Rattle.table_check.proofs.Progress.{HasMarked, none_marked, more_marked, all_marked, breaks_off, moved, recounted}
 use Rattle.table_check.proofs.RecordMarks.{halts_as}
-use Rattle.table_check.proofs.RowSteps.{pages_before, before_more, each_of_breaks, row_checked}
-use Rattle.table_check.proofs.RowSteps.{row_more}
+use Rattle.table_check.proofs.RowSteps.{NextExact, pages_before, no_rows, before_more, each_of_breaks, each_of_holds}
+use Rattle.table_check.proofs.RowSteps.{row_checked, row_more, row_readable, all_pages, finds}
 
 -- the checks of the rows before one hold
 abbrev pub HeldBefore : {S : Type 0} → FileOf S → S → TableDef → List Bool → ℕ → Type 0
 HeldBefore g first table start j = OfFile g first (λ file.
     AllBefore (live_rows (clustered_tree file table)) (RowCheck (clustered_tree file table) (is_set start)) j)
 
-module _ {S : Type 0} (g : FileOf S) (first old new : S) (start before after : List Bool)
-    (base mid spent left count j origin segment number : ℕ) (page : List ℕ) (table : TableDef) (rows view : LiveView)
-    (fields : Fields)
-    (has : HasMarked g first old start before base (mid + left) count (λ file. pages_before file table j))
-    (gives : OfFile g first (λ file. GivesAll (clustered_tree file table) rows segment))
-    (found : OfFile g first (λ file. FindsLive (clustered_tree file table) j (Ok (Some origin)) view))
-    (held : HeldBefore g first table start j) (is_number : number ≡ view.leaf.number) (is_page : page ≡ view.leaf.page)
+-- the rows before row j hold, and their pages were marked; the cursor stands behind them
+pub record HaveHeld {S : Type 0} (g : FileOf S) (first now : S) (start marks : List Bool) (steps spent count : ℕ)
+    (table : TableDef) (view : LiveView) (j : ℕ) : Type 0 where
+  pub has : HasMarked g first now start marks steps spent count (λ file. pages_before file table j)
+  pub held : HeldBefore g first table start j
+  pub gives : OfFile g first (λ file. HasGivenLive (clustered_tree file table) view j)
+
+-- the same behind the search for row j
+pub record HaveFound {S : Type 0} (g : FileOf S) (first now : S) (start marks : List Bool) (steps spent count : ℕ)
+    (table : TableDef) (view : LiveView) (j : ℕ) (found : Option ℕ) : Type 0 where
+  pub has : HasMarked g first now start marks steps spent count (λ file. pages_before file table j)
+  pub held : HeldBefore g first table start j
+  pub at_row : OfFile g first (λ file. FindsLive (clustered_tree file table) j (Ok found) view)
+
+-- none was checked yet
+pub none_held : {S : Type 0} {g : FileOf S} {first : S} {table : TableDef} {rows : LiveView}
+    (segment : ℕ) (start : List Bool) (steps j : ℕ) → j ≡ 0
+    → OfFile g first (λ file. GivesAll (clustered_tree file table) rows segment)
+    → HaveHeld g first first start start steps steps 0 table rows j
+none_held {g = g} {first = first} {table = table} {rows = rows} segment start steps j none told = record {
+  has = none_marked g first start steps (λ file. pages_before file table j)
+      (λ file. ap (pages_before file table) none ∙ no_rows file table);
+  held = told0 (g.content first) (λ file. λ i d below. absurd (omega (arith, none, below)));
+  gives = told1 (g.content first)
+      (λ file t. subst (HasGivenLive (clustered_tree file table) rows) (sym none) t.start) told;
+}
+
+-- the next one was searched for
+pub searched : {S : Type 0} {g : FileOf S} {first old new : S} {start marks : List Bool} {steps mid count j : ℕ}
+    {table : TableDef} {before after : LiveView} {result : Option ℕ} (rows : LiveView) (segment spent : ℕ)
+    (found : Option ℕ)
+    → OfFile g first (λ file. GivesAll (clustered_tree file table) rows segment)
+    → HaveHeld g first old start marks steps mid count table before j → result ≡ found → spent ≤ mid
+    → HaltsOver {A = Option ℕ} g old new (Ok result)
+    → OfFile g old (λ file. NextExact file before (Ok result) after)
+    → HaveFound g first new start marks steps spent count table after j found
+searched {g = g} {first = first} {old = old} {new = new} {start = start} {marks = marks} {steps = steps} {mid = mid}
+    {count = count} {j = j} {table = table} {before = before} {after = after} {result = result}
+    rows segment spent found told have is less over exact =
+    let first_exact = subst (λ (o : Option (List ℕ)). IfSome o (λ file. NextExact file before (Ok result) after))
+    have.has.same exact in
+    record {
+      has = moved g first old new start marks steps mid spent count (λ file. pages_before file table j) (Ok result) less
+          over have.has;
+      held = have.held;
+      at_row =
+          told3 (g.content first)
+          (λ file t gives x. finds file table before after j (Ok found)
+          (subst (λ (r : Option ℕ). NextExact file before (Ok r) after) is x) t.walked gives)
+          told have.gives first_exact;
+    }
+
+-- there is no further one
+pub all_held : {S : Type 0} {g : FileOf S} {first now : S} {start marks : List Bool} {steps spent count j : ℕ}
+    {table : TableDef} {view : LiveView} → HaveFound g first now start marks steps spent count table view j None
+    → ChecksPages g first now start marks steps spent (Ok count)
+    (λ file. RowChecks (clustered_tree file table) (is_set start)) (λ file. all_chain_pages (clustered_tree file table))
+all_held {g = g} {first = first} {now = now} {start = start} {marks = marks} {steps = steps} {spent = spent}
+    {count = count} {j = j} {table = table} have =
+    all_marked g first now start marks steps spent count
+    (λ file. pages_before file table j) (λ file. all_chain_pages (clustered_tree file table))
+    (λ file. RowChecks (clustered_tree file table) (is_set start))
+    (told1 (g.content first) (λ file all. all_pages file table j all) have.at_row)
+    (told2 (g.content first) (λ file all below. each_of_holds (live_rows (clustered_tree file table))
+    (RowCheck (clustered_tree file table) (is_set start)) j all below) have.at_row have.held)
+    have.has
+
+module _ {S : Type 0} {g : FileOf S} {first old : S} {start before : List Bool} {base count j origin : ℕ}
+    {table : TableDef} {view : LiveView} (rows : LiveView) (segment mid left number : ℕ) (page : List ℕ)
+    (fields : Fields) (told : OfFile g first (λ file. GivesAll (clustered_tree file table) rows segment))
+    (have : HaveFound g first old start before base (mid + left) count table view j (Some origin))
+    (is_number : number ≡ view.leaf.number) (is_page : page ≡ view.leaf.page)
     (is_list : fields ≡ leaf_fields table 0) where
-  -- the checks of this row, and its pages
+  -- the row that was found can be read
+  pub found_readable : RowsCanBeRead → OfFile g first (λ file. IsRecord page fields origin)
+  found_readable can =
+      told2 (g.content first)
+      (λ file t f. row_readable file table j origin segment number page view.leaf fields f.0 is_number is_page t.leaves
+      is_list can t.walked)
+      told have.at_row
+
+  -- its checks, and its pages
   abbrev Here : List ℕ → Option Fault → Type 0
   Here file = RecordChecks file segment number page origin fields (is_set before)
 
@@ -53,47 +128,49 @@ module _ {S : Type 0} (g : FileOf S) (first old new : S) (start before after : L
       start before
       marked d v check
 
-  pub row_breaks : (halt : Halt) → ChecksPages g old new before after mid spent (Err halt) Here here
-      → ChecksPages g first new start after base spent (Err halt)
-      (λ file. RowChecks (clustered_tree file table) (is_set start)) (λ file. all_chain_pages
-      (clustered_tree file table))
-  row_breaks halt call =
-      let exact = subst (λ (o : Option (List ℕ)). IfSome o (λ file. HaltsAt halt (Here file))) has.same call.exact in
-      sooner g first new start after base spent left (Err halt)
-      (λ file. RowChecks (clustered_tree file table) (is_set start)) (λ file. all_chain_pages
-      (clustered_tree file table))
-      (breaks_off g first old new start before after base (mid + left) (spent + left) count
-      (λ file. pages_before file table j)
-      here Here has halt
-      (λ file. RowChecks (clustered_tree file table) (is_set start)) (λ file. all_chain_pages
-      (clustered_tree file table))
-      (told5 (g.content first)
-      (λ file t f marked below at. each_of_breaks (live_rows (clustered_tree file table))
-      (RowCheck (clustered_tree file table) (is_set start)) j halt (f.0).within below
-      (λ d. halts_as halt (Here file) _ (λ v check. checked file t f marked d v check) at))
-      gives found has.grew held exact)
-      (shifted g old new before after mid spent left (Err halt) Here here call))
+  module _ {new : S} {after : List Bool} {spent : ℕ} where
+    -- they break off
+    pub row_breaks : (halt : Halt) → ChecksPages g old new before after mid spent (Err halt) Here here
+        → ChecksPages g first new start after base spent (Err halt)
+        (λ file. RowChecks (clustered_tree file table) (is_set start))
+        (λ file. all_chain_pages (clustered_tree file table))
+    row_breaks halt call =
+        let exact = subst (λ (o : Option (List ℕ)). IfSome o (λ file. HaltsAt halt (Here file))) have.has.same
+        call.exact in
+        recounted base spent
+        (breaks_off g first old new start before after base (mid + left) (spent + left) count
+        (λ file. pages_before file table j)
+        here Here have.has halt
+        (λ file. RowChecks (clustered_tree file table) (is_set start))
+        (λ file. all_chain_pages (clustered_tree file table))
+        (told5 (g.content first)
+        (λ file t f marked below at. each_of_breaks (live_rows (clustered_tree file table))
+        (RowCheck (clustered_tree file table) (is_set start)) j halt (f.0).within below
+        (λ d. halts_as halt (Here file) _ (λ v check. checked file t f marked d v check) at))
+        told have.at_row have.has.grew have.held exact)
+        (recounted (mid + left) (spent + left) call (omega arith)))
+        (omega arith)
 
-  pub row_marked : (n : ℕ) → ChecksPages g old new before after mid spent (Ok n) Here here
-      → HasMarked g first new start after base (spent + left) (count + n) (λ file. pages_before file table (j + 1))
-  row_marked n call =
-      more_marked g first old new start before after base (mid + left) (spent + left) count
-      (λ file. pages_before file table j)
-      here Here has n (λ file. pages_before file table (j + 1))
-      (told2 (g.content first)
-      (λ file t f. row_more file table j origin segment number page view.leaf fields f.0 is_number is_page t.leaves
-      is_list)
-      gives found)
-      (shifted g old new before after mid spent left (Ok n) Here here call)
-
-  pub row_held : (n : ℕ) → ChecksPages g old new before after mid spent (Ok n) Here here
-      → HeldBefore g first table start (j + 1)
-  row_held n call =
-      let exact = subst (λ (o : Option (List ℕ)). IfSome o (λ file. Here file None)) has.same call.exact in
-      told5 (g.content first)
-      (λ file t f marked below check. before_more (live_rows (clustered_tree file table))
-      (RowCheck (clustered_tree file table) (is_set start)) j below (λ d. checked file t f marked d None check))
-      gives found has.grew held exact
-
-  pub row_gives : OfFile g first (λ file. HasGivenLive (clustered_tree file table) view (j + 1))
-  row_gives = told1 (g.content first) (λ file f. f.1) found
+    -- or hold
+    pub row_holds : (n next : ℕ) → j + 1 ≡ next → ChecksPages g old new before after mid spent (Ok n) Here here
+        → HaveHeld g first new start after base (spent + left) (count + n) table view next
+    row_holds n next more call =
+        let exact = subst (λ (o : Option (List ℕ)). IfSome o (λ file. Here file None)) have.has.same call.exact in
+        subst (HaveHeld g first new start after base (spent + left) (count + n) table view) more
+        (record {
+          has = more_marked g first old new start before after base (mid + left) (spent + left) count
+              (λ file. pages_before file table j)
+              here Here have.has n (λ file. pages_before file table (j + 1))
+              (told2 (g.content first)
+              (λ file t f. row_more file table j origin segment number page view.leaf fields f.0 is_number is_page
+              t.leaves is_list)
+              told have.at_row)
+              (recounted (mid + left) (spent + left) call (omega arith));
+          held =
+              told5 (g.content first)
+              (λ file t f marked below check. before_more (live_rows (clustered_tree file table))
+              (RowCheck (clustered_tree file table) (is_set start)) j below
+              (λ d. checked file t f marked d None check))
+              told have.at_row have.has.grew have.held exact;
+          gives = told1 (g.content first) (λ file f. f.1) have.at_row;
+        })

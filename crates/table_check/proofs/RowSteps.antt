@@ -158,12 +158,6 @@ pub never_breaks : (index : Index) (j : ℕ) (halt : Halt) (view : LiveView) (Al
 never_breaks index j (Broken fault) view All found = absurd found
 never_breaks index j Source view All found = tt
 
--- the same halt, as an answer of another call
-pub halt_as : {A B : Type 0} (halt : Halt) → ◌≡◌ {A = Result A Halt} (Err halt) (Err Source)
-    → ◌≡◌ {A = Result B Halt} (Err halt) (Err Source)
-halt_as (Broken fault) is = absurd (cc)
-halt_as Source is = refl
-
 -- no row was found
 pub none_found : (found : Option ℕ) → ((origin : ℕ) → ¬ (found ≡ Some origin)) → found ≡ None
 none_found None other = refl

@@ -2,6 +2,7 @@
 #![tactic(auto)]
 
 pub mod laws;
+mod leaf;
 mod record;
 mod rows;
 mod table;

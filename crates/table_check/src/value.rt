@@ -7,15 +7,19 @@ ghost use Rattle.page_source.specs.Calls.{OfFile, HaltsOver};
 ghost use Rattle.column_values.specs.Types.{IsColumnType};
 ghost use Rattle.column_values.specs.Characters.{IsTextOfKind};
 ghost use Rattle.column_values.specs.Utf8Reader.{CountsUpTo, WasFed, TakesText};
+ghost use Rattle.compact_record.specs.Keys.{LiesBelow};
 ghost use Rattle.space_audit.specs.Marks.{is_set, Marked};
 ghost use Rattle.table_check.specs.Marking.{CanMark, ChecksPages};
 ghost use Rattle.table_check.specs.Values.{ValueChecks, pages_of_value, front_of};
+ghost use Rattle.table_check.specs.Leaf.{ValueChecksOn, pages_of_value_on};
 ghost use Rattle.offpage_chain.specs.Reference.{reference_of};
 
+use crate::leaf::Leaf;
 use column_values::{ColumnType, Utf8, greatest_length, is_value};
+use compact_record::Place;
 use offpage_chain::{Reference, check_chain, read_reference};
 use page_source::{Halt, Page, PageSource, Rule, Steps};
-use space_audit::{Marks, Space};
+use space_audit::Marks;
 use std::sync::ledger::Ledger;
 
 /// The bytes of a reference, at the end of the local ones (BTR_EXTERN_FIELD_REF_SIZE).
@@ -46,12 +50,10 @@ fn cut(local: &[u8]) -> (&[u8], Reference)
 }
 
 /// Checks a value that goes on in pages of its own, by the rules 47, 48, 49 and 51: these are its local
-/// bytes on the page `leaf`. Its pages are marked. Answers how many there are.
+/// bytes on the leaf. Its pages are marked. Answers how many there are.
 fn check_external<S: PageSource, L: Ledger>(
     source: &mut S,
-    space: &Space,
-    segment: u32,
-    leaf: u32,
+    leaf: &Leaf,
     kind: &ColumnType,
     local: &[u8],
     marks: &mut Marks,
@@ -60,51 +62,54 @@ fn check_external<S: PageSource, L: Ledger>(
 ) -> Result<u32, Halt>
     requires least { 20 ≤ length local.now }
     requires most { length local.now ≤ 16384 }
-    requires ready { CanMark S.PageSource source.old space.now marks.old }
+    requires ready { CanMark S.PageSource source.old leaf.now.leaves.space.now marks.old }
     ensures { ChecksPages S.PageSource source.old source.new marks.old marks.new steps.old steps.new result
-        (λ file. ValueChecks file segment leaf kind.now local.now true (is_set marks.old))
+        (λ file. ValueChecks file leaf.now.leaves.segment leaf.now.number kind.now local.now true (is_set marks.old))
         (λ file. pages_of_value file local.now true) }
 {
     let (front, reference) = cut(local);
     if front.len() + reference.length as usize > greatest_length(*kind) {
-        return Err(Halt::Broken(Rule::Value.at(leaf)));
+        return Err(Halt::Broken(Rule::Value.at(leaf.number)));
     }
     let mut text = text_of(kind);
     text.feed(front);
     check_chain(
-        source, space, segment, leaf, &reference, &mut text, marks, page, steps,
+        source,
+        leaf.leaves.space,
+        leaf.leaves.segment,
+        leaf.number,
+        &reference,
+        &mut text,
+        marks,
+        page,
+        steps,
     )
 }
 
-/// Checks a value that isn't null, by the rules 47, 48, 49 and 51: these are its local bytes on the page
-/// `leaf`, and it goes on elsewhere where it is external.
+/// Checks the value of a column that isn't null, by the rules 47, 48, 49 and 51. Its local bytes lie here on the leaf.
+/// Marks the pages that it goes on in, and answers how many there are.
 pub(crate) fn check_value<S: PageSource, L: Ledger>(
     source: &mut S,
-    space: &Space,
-    segment: u32,
-    leaf: u32,
+    leaf: &Leaf,
     kind: &ColumnType,
-    local: &[u8],
-    external: bool,
+    place: Place,
     marks: &mut Marks,
     page: &mut Page,
     steps: &mut Steps<L>,
 ) -> Result<u32, Halt>
     requires known { IsColumnType kind.now }
-    requires least { external ≡ true → 20 ≤ length local.now }
-    requires most { length local.now ≤ 16384 }
-    requires ready { CanMark S.PageSource source.old space.now marks.old }
+    requires lies { LiesBelow 16384 place }
+    requires ready { CanMark S.PageSource source.old leaf.now.leaves.space.now marks.old }
     ensures { ChecksPages S.PageSource source.old source.new marks.old marks.new steps.old steps.new result
-        (λ file. ValueChecks file segment leaf kind.now local.now external (is_set marks.old))
-        (λ file. pages_of_value file local.now external) }
+        (λ file. ValueChecksOn file leaf.now kind.now place (is_set marks.old))
+        (λ file. pages_of_value_on file leaf.now place) }
 {
-    if external {
-        return check_external(
-            source, space, segment, leaf, kind, local, marks, page, steps,
-        );
+    let local = &leaf.page.bytes()[place.from..place.until];
+    if place.external {
+        return check_external(source, leaf, kind, local, marks, page, steps);
     }
     if !is_value(kind, local) {
-        return Err(Halt::Broken(Rule::Value.at(leaf)));
+        return Err(Halt::Broken(Rule::Value.at(leaf.number)));
     }
     Ok(0)
 }

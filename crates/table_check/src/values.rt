@@ -14,11 +14,12 @@ ghost use Rattle.table_check.specs.First.{ValueChecksOf};
 ghost use Rattle.table_check.specs.Taken.{AreExactly, IsClustered, IsReached};
 ghost use Rattle.table_check.specs.Marking.{CanMark, ChecksPages};
 ghost use Rattle.table_check.specs.Live.{GivesAll};
-ghost use Rattle.table_check.specs.Values.{RecordChecks, RowChecks, pages_of_record, all_chain_pages};
+ghost use Rattle.table_check.specs.Values.{RowChecks, all_chain_pages};
+ghost use Rattle.table_check.specs.Leaf.{RecordChecksOn, pages_of_record_on};
 
+use crate::leaf::{Leaf, Leaves};
 use crate::record::check_record;
 use crate::rows::LiveRows;
-use column_values::FieldList;
 use compact_record::Located;
 use page_source::{Halt, PAGE_SIZE, Page, PageSource, Rule, Steps, Stop};
 use schema_text::Schema;
@@ -32,79 +33,64 @@ use tree_walk::laws::rows_can_be_read;
 /// there are. A record that can't be read breaks rule 40; in a file that tells its bytes none is met.
 fn check_row<S: PageSource, L: Ledger>(
     source: &mut S,
-    space: &Space,
-    segment: u32,
-    number: u32,
-    fields: &FieldList,
-    leaf: &Page,
+    leaf: &Leaf,
     origin: usize,
     located: &mut Located,
     marks: &mut Marks,
     page: &mut Page,
     steps: &mut Steps<L>,
 ) -> Result<u32, Halt>
-    requires fields { AreFields fields.now }
+    requires fields { AreFields leaf.now.leaves.fields.now }
     requires origin { IsHeapOrigin origin }
-    requires room { length fields.now.fields ≤ located.old.members }
-    requires record { OfFile S.PageSource source.old (λ _. IsRecord leaf.now fields.now origin) }
-    requires ready { CanMark S.PageSource source.old space.now marks.old }
+    requires room { length leaf.now.leaves.fields.now.fields ≤ located.old.members }
+    requires record { OfFile S.PageSource source.old (λ _.
+        IsRecord leaf.now.page.now leaf.now.leaves.fields.now origin) }
+    requires ready { CanMark S.PageSource source.old leaf.now.leaves.space.now marks.old }
     ensures checks { ChecksPages S.PageSource source.old source.new marks.old marks.new steps.old steps.new result
-        (λ file. RecordChecks file segment number leaf.now origin fields.now (is_set marks.old))
-        (λ file. pages_of_record file leaf.now origin fields.now) }
+        (λ file. RecordChecksOn file leaf.now origin (is_set marks.old))
+        (λ file. pages_of_record_on file leaf.now origin) }
     ensures room { located.new.members ≡ located.old.members }
 {
-    if !located.again(leaf, origin, fields) || located.end() > PAGE_SIZE {
-        return Err(Halt::Broken(Rule::RecordSpelling.at(number)));
+    if !located.again(leaf.page, origin, leaf.leaves.fields) || located.end() > PAGE_SIZE {
+        return Err(Halt::Broken(Rule::RecordSpelling.at(leaf.number)));
     }
-    check_record(
-        source, space, segment, number, fields, leaf, located, marks, page, steps,
-    )
+    check_record(source, leaf, located, marks, page, steps)
 }
 
 /// Checks the values of all rows, by the rules 47, 48, 49 and 51. Marks the pages that they go on in, and answers how
 /// many there are.
 pub(crate) fn check_rows<S: PageSource, L: Ledger>(
     source: &mut S,
-    space: &Space,
+    leaves: &Leaves,
     schema: &Schema,
-    segment: u32,
-    fields: &FieldList,
     rows: &mut LiveRows,
     located: &mut Located,
     marks: &mut Marks,
     page: &mut Page,
     steps: &mut Steps<L>,
 ) -> Result<u32, Halt>
-    requires fields { AreFields fields.now }
-    requires list { fields.now ≡ leaf_fields schema.now 0 }
-    requires room { length fields.now.fields ≤ located.old.members }
+    requires fields { AreFields leaves.now.fields.now }
+    requires list { leaves.now.fields.now ≡ leaf_fields schema.now 0 }
+    requires room { length leaves.now.fields.now.fields ≤ located.old.members }
     requires goes_on { rows.old.ended ≡ false }
     requires told { OfFile S.PageSource source.old (λ file.
-        GivesAll (clustered_tree file schema.now) rows.old segment) }
-    requires ready { CanMark S.PageSource source.old space.now marks.old }
+        GivesAll (clustered_tree file schema.now) rows.old leaves.now.segment) }
+    requires ready { CanMark S.PageSource source.old leaves.now.space.now marks.old }
     ensures { ChecksPages S.PageSource source.old source.new marks.old marks.new
         (steps.old + rows.old.leaf.may_fetch) steps.new result
         (λ file. RowChecks (clustered_tree file schema.now) (is_set marks.old))
         (λ file. all_chain_pages (clustered_tree file schema.now)) }
 {
     rows_can_be_read();
-    let _size = space.size();
+    let _size = leaves.space.size();
     let mut count = 0;
     while let Some(origin) = rows.next(source, steps)? {
-        let number = rows.number();
-        count += check_row(
-            source,
-            space,
-            segment,
-            number,
-            fields,
-            rows.page(),
-            origin,
-            located,
-            marks,
-            page,
-            steps,
-        )?;
+        let leaf = Leaf {
+            leaves: *leaves,
+            number: rows.number(),
+            page: rows.page(),
+        };
+        count += check_row(source, &leaf, origin, located, marks, page, steps)?;
     }
     Ok(count)
 }
@@ -135,15 +121,18 @@ pub(crate) fn check_values<S: PageSource, L: Ledger>(
 {
     let _ = schema.indexes();
     let fields = schema.fields(alloc, 0, true)?;
+    let leaves = Leaves {
+        space,
+        segment: clustered.leaf_segment,
+        fields: &fields,
+    };
     let mut rows = LiveRows::start(alloc, clustered)?;
     let mut located = Located::with_room(alloc, fields.fields().len() as u32)?;
     let mut page = Page::zeroed(alloc)?;
     Ok(check_rows(
         source,
-        space,
+        &leaves,
         schema,
-        clustered.leaf_segment,
-        &fields,
         &mut rows,
         &mut located,
         marks,

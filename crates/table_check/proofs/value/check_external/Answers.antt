@@ -20,6 +20,7 @@ check_chain-requires-clause-count g c =
 
 pub returns : goal.returns
 returns g c =
+    let leaf = c.args.leaf.now in
     let local = c.args.local.now in
     let kind = c.args.kind.now in
     let size = ap (λ (r : Reference). r.length) c.cut.ensures.reference in
@@ -33,11 +34,11 @@ returns g c =
     record {
       exact =
           told1 (g.S.PageSource.content c.args.source.now)
-          (λ file chain. value_goes_on file c.args.segment c.args.leaf kind local (is_set c.args.marks.now)
+          (λ file chain. value_goes_on file leaf.leaves.segment leaf.number kind local (is_set c.args.marks.now)
           (λ bytes. TakesText c.feed.new.self (front_of local ++ bytes)) fits
           (text_behind kind local c.text_of-text.result c.feed.new.self c.text_of-text.ensures.takes feeds)
           c.check_chain.result
-          (subst (λ (r : Reference). Halts c.check_chain.result (ChainChecks file c.args.segment c.args.leaf r
+          (subst (λ (r : Reference). Halts c.check_chain.result (ChainChecks file leaf.leaves.segment leaf.number r
           (is_set c.args.marks.now) (λ bytes. TakesText c.feed.new.self (front_of local ++ bytes))))
           c.cut.ensures.reference (chain (front_of local) was)))
           c.check_chain.ensures.exact;

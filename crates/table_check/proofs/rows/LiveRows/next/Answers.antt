@@ -4,6 +4,7 @@ use Rattle.compact_record.specs.Header.{is_deleted}
 use Rattle.page_source.proofs.Told.{told0, told1, told2}
 use Rattle.tree_walk.specs.Index.{index_of}
 use Rattle.table_check.specs.Live.{LiveView, CanGiveLive}
+use Rattle.table_check.proofs.Progress.{over_both, halt_as}
 use Rattle.table_check.proofs.LiveSteps.{passes_over, gives, none_behind, never_breaks}
 use Rattle.table_check.proofs.rows.LiveRows.next.Goals as goal
 use Rattle.table_check.proofs.rows.LiveRows.next.Goals.{then-is_deleted, else-is_deleted}
@@ -58,14 +59,7 @@ pub returns-in_err-origin-clause-over : goal.returns-in_err-origin-clause-over
 returns-in_err-origin-clause-over g c =
     let i = c.loop-origin.invariant in
     let r = err_from_is_err_and c.from_residual.result c.from_residual.ensures.1 in
-    rw (r.1, r.2)
-    (record {
-      same = c.in_err-origin.ensures.keeps.same ∙ i.same;
-      cause = record {
-        later = omega (arith, i.later, c.in_err-origin.ensures.keeps.cause.later);
-        source = λ e. omega (arith, i.later, c.in_err-origin.ensures.keeps.cause.source (cc));
-      };
-    })
+    rw (r.1, r.2) (over_both _ i.same i.later (halt_as c.in_err-origin.field-0.0) c.in_err-origin.ensures.keeps)
 
 pub returns-in_err-origin-clause-steps : goal.returns-in_err-origin-clause-steps
 returns-in_err-origin-clause-steps g c = c.next.ensures.steps ∙ c.loop-origin.invariant.spent
@@ -95,13 +89,7 @@ returns-then-left-eq0-clause-exact g c =
 pub returns-then-left-eq0-clause-over : goal.returns-then-left-eq0-clause-over
 returns-then-left-eq0-clause-over g c =
     let i = c.loop-origin.invariant in
-    record {
-      same = c.next.ensures.keeps.same ∙ i.same;
-      cause = record {
-        later = omega (arith, i.later, c.next.ensures.keeps.cause.later);
-        source = λ e. cc;
-      };
-    }
+    over_both _ i.same i.later (λ e. absurd (cc)) c.next.ensures.keeps
 
 pub returns-then-left-eq0-clause-steps : goal.returns-then-left-eq0-clause-steps
 returns-then-left-eq0-clause-steps g c = c.next.ensures.steps ∙ c.loop-origin.invariant.spent
@@ -134,13 +122,7 @@ returns-then-not-is_deleted-clause-fewer g c =
 pub returns-then-not-is_deleted-clause-over : goal.returns-then-not-is_deleted-clause-over
 returns-then-not-is_deleted-clause-over g c =
     let i = c.loop-origin.invariant in
-    record {
-      same = c.next.ensures.keeps.same ∙ i.same;
-      cause = record {
-        later = omega (arith, i.later, c.next.ensures.keeps.cause.later);
-        source = λ e. cc;
-      };
-    }
+    over_both _ i.same i.later (λ e. absurd (cc)) c.next.ensures.keeps
 
 pub returns-then-not-is_deleted-clause-steps : goal.returns-then-not-is_deleted-clause-steps
 returns-then-not-is_deleted-clause-steps g c = c.next.ensures.steps ∙ c.loop-origin.invariant.spent
@@ -207,13 +189,8 @@ returns-clause-exact g c =
 
 pub returns-clause-over : goal.returns-clause-over
 returns-clause-over g c =
-    record {
-      same = c.next.ensures.keeps.same ∙ c.loop-origin.invariant.same;
-      cause = record {
-        later = omega (arith, c.loop-origin.invariant.later, c.next.ensures.keeps.cause.later);
-        source = λ e. cc;
-      };
-    }
+    let i = c.loop-origin.invariant in
+    over_both _ i.same i.later (λ e. absurd (cc)) c.next.ensures.keeps
 
 pub returns-clause-steps : goal.returns-clause-steps
 returns-clause-steps g c = c.next.ensures.steps ∙ c.loop-origin.invariant.spent

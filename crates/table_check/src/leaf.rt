@@ -1,0 +1,25 @@
+//! The leaves of the clustered tree, whose records are the rows.
+
+use column_values::FieldList;
+use page_source::Page;
+use space_audit::Space;
+
+/// What the leaves of the clustered tree have in common.
+#[derive(Clone, Copy)]
+pub(crate) struct Leaves<'a> {
+    /// The checked space that they are in.
+    pub(crate) space: &'a Space,
+    /// The segment that uses them.
+    pub(crate) segment: u32,
+    /// The fields of their records.
+    pub(crate) fields: &'a FieldList,
+}
+
+/// One of these leaves.
+#[derive(Clone, Copy)]
+pub(crate) struct Leaf<'a> {
+    pub(crate) leaves: Leaves<'a>,
+    /// The number of its page.
+    pub(crate) number: u32,
+    pub(crate) page: &'a Page,
+}
