@@ -11,14 +11,9 @@ ghost use Rattle.table_check.specs.First.{UnreachedChecks, IsLeftOver, is_unreac
 ghost use Rattle.table_check.specs.Taken.{IsReached};
 ghost use Rattle.table_check.specs.Trees.{leaf_segments};
 
+use fil_frame::kinds::{FIL_PAGE_TYPE_ALLOCATED, FIL_PAGE_TYPE_BLOB};
 use page_source::{Fault, Rule};
 use space_audit::{Marks, Owner, Space};
-
-/// FIL_PAGE_TYPE_ALLOCATED, the type of a freed page.
-const ALLOCATED: u16 = 0;
-
-/// FIL_PAGE_TYPE_BLOB, the type of a page of an externally stored value.
-const BLOB: u16 = 10;
 
 /// Whether a page that this segment uses is one that was freed, or that holds an old version, in the segment of some
 /// index's leaves.
@@ -28,7 +23,8 @@ fn is_left_over(space: &Space, leaves: &[u32], segment: u32, n: u32) -> bool
         → IsUsedBy file segment n → IsTrue result ↔ IsLeftOver file table n }
 {
     leaves.contains(&segment)
-        && (space.has_page(segment, ALLOCATED, n) || space.has_page(segment, BLOB, n))
+        && (space.has_page(segment, FIL_PAGE_TYPE_ALLOCATED, n)
+            || space.has_page(segment, FIL_PAGE_TYPE_BLOB, n))
 }
 
 /// Counts the pages that a segment uses and that aren't marked, all of which are left over (rule 50).
