@@ -3,10 +3,8 @@
 ghost use Rattle.std.specs.Prelude.{◌≡◌, ◌↔◌, IsTrue, IsSome};
 ghost use Rattle.tree_walk.specs.Walk.{page_after, origin_after};
 
+pub(crate) use page_source::FIL_NULL;
 use page_source::Page;
-
-/// What stands for no page (FIL_NULL).
-pub(crate) const FIL_NULL: u32 = 0xFFFF_FFFF;
 
 /// The page that holds a node pointer, its origin there, and how many pages of the level come behind that page.
 #[derive(Clone, Copy, Debug, PartialEq, Eq)]

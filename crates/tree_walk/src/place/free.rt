@@ -8,10 +8,8 @@ ghost use Rattle.space_audit.specs.Space.{IsAuditOf};
 ghost use Rattle.tree_walk.specs.Place.{IsPagePlace};
 ghost use Rattle.tree_walk.specs.TreeChecks.{IsRootPlace};
 
+use fil_frame::kinds::FIL_PAGE_INDEX;
 use space_audit::{Marks, Owner, Space};
-
-/// FIL_PAGE_INDEX, the type of a page of an index.
-const INDEX_KIND: u16 = 17855;
 
 /// Whether a page may be a new one of the tree, used by this segment.
 #[tactic(auto, using(crate::proofs::Audit::place_iff))]
@@ -22,7 +20,7 @@ pub(crate) fn is_place(space: &Space, marks: &Marks, segment: u32, n: u32) -> bo
     ensures members { result ≡ true → n < length marks.now }
     ensures new { result ≡ true → is_set marks.now n ≡ false }
 {
-    space.has_page(segment, INDEX_KIND, n) && !marks.has(n)
+    space.has_page(segment, FIL_PAGE_INDEX, n) && !marks.has(n)
 }
 
 /// Whether the segment uses a page.
