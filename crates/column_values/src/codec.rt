@@ -20,10 +20,6 @@ pub fn decode(alloc: Global, kind: &ColumnType, bytes: &[u8]) -> Result<Value, V
     ensures { Decodes kind.now bytes.now result }
 {
     match *kind {
-        ColumnType::Int { width, signed } => {
-            integer(width, signed, bytes).ok_or(ValueError::BadValue)
-        }
-        ColumnType::Date => date(bytes).ok_or(ValueError::BadValue),
         ColumnType::Char { n } => char_text(alloc, n, bytes),
         ColumnType::Varchar { .. }
         | ColumnType::Text { .. }
@@ -32,10 +28,12 @@ pub fn decode(alloc: Global, kind: &ColumnType, bytes: &[u8]) -> Result<Value, V
         ColumnType::Binary { .. } | ColumnType::Varbinary { .. } | ColumnType::Blob { .. } => {
             raw_value(alloc, kind, bytes)
         }
-        ColumnType::DateTime { f } => date_time(f, bytes).ok_or(ValueError::BadValue),
-        ColumnType::Timestamp { f } => timestamp(f, bytes).ok_or(ValueError::BadValue),
-        ColumnType::Year => year(bytes).ok_or(ValueError::BadValue),
-        ColumnType::Decimal { p, s } => decimal(p, s, bytes).ok_or(ValueError::BadValue),
+        ColumnType::Int { .. }
+        | ColumnType::Date
+        | ColumnType::DateTime { .. }
+        | ColumnType::Timestamp { .. }
+        | ColumnType::Year
+        | ColumnType::Decimal { .. } => decode_number(kind, bytes).ok_or(ValueError::BadValue),
     }
 }
 
@@ -62,20 +60,20 @@ pub fn is_value(kind: &ColumnType, bytes: &[u8]) -> bool
     ensures { IsTrue result ↔ IsSpelling kind.now bytes.now }
 {
     match *kind {
-        ColumnType::Int { width, signed } => integer(width, signed, bytes).is_some(),
-        ColumnType::Date => date(bytes).is_some(),
-        ColumnType::DateTime { f } => date_time(f, bytes).is_some(),
-        ColumnType::Timestamp { f } => timestamp(f, bytes).is_some(),
-        ColumnType::Year => year(bytes).is_some(),
-        ColumnType::Decimal { p, s } => decimal(p, s, bytes).is_some(),
         ColumnType::Char { .. }
         | ColumnType::Varchar { .. }
         | ColumnType::Text { .. }
         | ColumnType::Utf8Varchar { .. }
-        | ColumnType::Utf8Text { .. } => fits(kind, bytes),
-        ColumnType::Binary { .. } | ColumnType::Varbinary { .. } | ColumnType::Blob { .. } => {
-            fits(kind, bytes)
-        }
+        | ColumnType::Utf8Text { .. }
+        | ColumnType::Binary { .. }
+        | ColumnType::Varbinary { .. }
+        | ColumnType::Blob { .. } => fits(kind, bytes),
+        ColumnType::Int { .. }
+        | ColumnType::Date
+        | ColumnType::DateTime { .. }
+        | ColumnType::Timestamp { .. }
+        | ColumnType::Year
+        | ColumnType::Decimal { .. } => decode_number(kind, bytes).is_some(),
     }
 }
 

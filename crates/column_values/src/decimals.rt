@@ -12,6 +12,7 @@ ghost use Rattle.column_values.specs.Spell.{Finds, Encodes};
 
 use crate::big_endian::{number_at, push_number};
 use crate::lengths::{decimal_length, group_length};
+use crate::powers::ten_to;
 use crate::texts::list_of;
 use crate::value::{Value, ValueError};
 use page_source::{ByteList, NoMemory};
@@ -19,14 +20,6 @@ use std::alloc::Global;
 
 // The greatest length of a decimal.
 const MOST: usize = 18;
-
-fn ten_to(digits: usize) -> u128
-    requires { digits ≤ 38 }
-    ensures value { result ≡ 10 ^ digits }
-    ensures some { 1 ≤ result }
-{
-    10u128.pow(digits as u32)
-}
 
 fn group_count(p: u8, s: u8) -> usize
     requires { IsColumnType (ColumnType.Decimal p s) }

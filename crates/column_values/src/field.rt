@@ -11,6 +11,7 @@ use std::marker::Model;
 /// What a field of a record holds (rem0rec, data0type).
 #[derive(Clone, Copy, Debug, PartialEq, Eq)]
 pub enum FieldType {
+    /// A column of the table.
     Column(ColumnType),
     /// The hidden row id, 6 bytes.
     RowId,
@@ -22,12 +23,14 @@ pub enum FieldType {
     Child,
 }
 
-/// A field of an index.
+/// A field of an index's records (dict0mem).
 #[derive(Clone, Copy, Debug, PartialEq, Eq)]
 pub struct Field {
+    /// What it holds.
     pub kind: FieldType,
+    /// Whether it may be null, so that each record has a null bit for it.
     pub nullable: bool,
-    /// Whether a part of its value may stand on pages of its own.
+    /// Whether a part of its value may stand on pages of its own, as only big columns behind the key may (btr0cur).
     pub may_leave: bool,
 }
 

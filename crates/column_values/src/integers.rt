@@ -11,7 +11,7 @@ use byteorder::{BigEndian, ByteOrder};
 use page_source::ByteList;
 use std::alloc::Global;
 
-/// The code of whole numbers of `W` bytes.
+/// The code of whole numbers of `W` bytes, 1 to 8: `tinyint` 1, `smallint` 2, `mediumint` 3, `int` 4, `bigint` 8.
 #[derive(Clone, Copy, Debug, PartialEq, Eq)]
 pub struct IntCode<const W: usize>;
 
@@ -27,7 +27,7 @@ impl<const W: usize> IntCode<W> {
     {
         let number = i128::from(BigEndian::read_uint(bytes, W));
         if signed {
-            number - i128::from(1u64 << (8 * W - 1))
+            number - Self::half()
         } else {
             number
         }

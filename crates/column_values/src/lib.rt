@@ -12,6 +12,7 @@ pub mod laws;
 mod lengths;
 mod moments;
 mod order;
+mod powers;
 #[cfg(test)]
 mod tests;
 mod texts;
@@ -22,8 +23,9 @@ pub use codec::{decode, decode_number, encode, is_value};
 pub use field::{Field, FieldList, FieldType};
 pub use integers::IntCode;
 pub use kind::ColumnType;
-pub use lengths::greatest_length;
+pub use lengths::{greatest_length, is_long_kind};
 pub use order::compare;
+pub use powers::ten_to;
 pub use texts::trimmed;
 pub use utf8::Utf8;
 pub use value::{Value, ValueError};

@@ -8,36 +8,22 @@ ghost use Rattle.column_values.specs.Moments.{fraction_bytes};
 ghost use Rattle.column_values.specs.Spell.{Finds, Encodes};
 
 use crate::big_endian::{number_at, push_number};
+use crate::lengths::fraction_length;
+use crate::powers::ten_to;
 use crate::value::{Value, ValueError};
 use page_source::{ByteList, NoMemory};
 use std::alloc::Global;
 
 const TOP: u64 = 1 << 39;
 
-// So many microseconds have this many digits behind them.
-fn ten_to(digits: u32) -> u64
+// How many microseconds the unit is that has so many digits behind it.
+fn unit_before(digits: usize) -> u64
     requires { digits ≤ 6 }
     ensures value { result ≡ 10 ^ digits }
     ensures some { 1 ≤ result }
     ensures few { result ≤ 1000000 }
 {
-    match digits {
-        0 => 1,
-        1 => 10,
-        2 => 100,
-        3 => 1000,
-        4 => 10000,
-        5 => 100000,
-        _ => 1000000,
-    }
-}
-
-fn fraction_length(digits: u8) -> usize
-    requires { digits ≤ 6 }
-    ensures value { result ≡ fraction_length digits }
-    ensures few { result ≤ 3 }
-{
-    usize::from(digits).div_ceil(2)
+    ten_to(digits) as u64
 }
 
 // How many microseconds one unit of the bytes is.
@@ -47,7 +33,7 @@ fn fraction_unit(digits: u8) -> u64
     ensures some { 1 ≤ result }
     ensures few { result ≤ 1000000 }
 {
-    ten_to(6 - 2 * fraction_length(digits) as u32)
+    unit_before(6 - 2 * fraction_length(digits))
 }
 
 // The microseconds that the bytes of a fraction spell.
@@ -58,7 +44,7 @@ fn fraction(digits: u8, bytes: &[u8]) -> Option<u32>
 {
     let units = number_at(bytes, 0, fraction_length(digits));
     let micro = units * fraction_unit(digits);
-    if micro < 1_000_000 && micro % ten_to(6 - u32::from(digits)) == 0 {
+    if micro < 1_000_000 && micro % unit_before(6 - usize::from(digits)) == 0 {
         Some(micro as u32)
     } else {
         None
@@ -145,7 +131,7 @@ fn is_fraction(digits: u8, micro: u32) -> bool
     requires { digits ≤ 6 }
     ensures { IsTrue result ↔ IsFraction digits micro }
 {
-    micro < 1_000_000 && u64::from(micro) % ten_to(6 - u32::from(digits)) == 0
+    micro < 1_000_000 && u64::from(micro) % unit_before(6 - usize::from(digits)) == 0
 }
 
 fn is_moment(year: u16, month: u8, day: u8, hour: u8, minute: u8, second: u8) -> bool

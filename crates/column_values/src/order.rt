@@ -13,11 +13,13 @@ pub fn compare(kind: &FieldType, a: &[u8], b: &[u8]) -> Ordering
     ensures { result ≡ field_cmp kind.now a.now b.now }
 {
     match *kind {
-        FieldType::Column(ColumnType::Char { .. }) => compare_text(a, b),
-        FieldType::Column(ColumnType::Varchar { .. }) => compare_text(a, b),
-        FieldType::Column(ColumnType::Text { .. }) => compare_text(a, b),
-        FieldType::Column(ColumnType::Utf8Varchar { .. }) => compare_text(a, b),
-        FieldType::Column(ColumnType::Utf8Text { .. }) => compare_text(a, b),
+        FieldType::Column(
+            ColumnType::Char { .. }
+            | ColumnType::Varchar { .. }
+            | ColumnType::Text { .. }
+            | ColumnType::Utf8Varchar { .. }
+            | ColumnType::Utf8Text { .. },
+        ) => compare_text(a, b),
         _ => a.cmp(b),
     }
 }

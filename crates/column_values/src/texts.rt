@@ -24,7 +24,7 @@ pub(crate) fn list_of(alloc: Global, bytes: &[u8]) -> Result<ByteList, NoMemory>
     Ok(list)
 }
 
-/// The text without its trailing spaces: the value of a text of fixed length.
+/// The text without its trailing spaces (0x20): the value of a `char`, whose bytes are filled with them (row0mysql).
 pub fn trimmed(bytes: &[u8]) -> &[u8]
     ensures { SpellsChar (length bytes.now) result.now bytes.now }
 {
@@ -95,12 +95,11 @@ pub(crate) fn fits(kind: &ColumnType, bytes: &[u8]) -> bool
     ensures { IsTrue result ↔ FitsText kind.now bytes.now }
 {
     match *kind {
-        ColumnType::Char { n } => bytes.len() == n as usize,
-        ColumnType::Binary { n } => bytes.len() == n as usize,
-        ColumnType::Varchar { n } => bytes.len() <= n as usize,
-        ColumnType::Varbinary { n } => bytes.len() <= n as usize,
-        ColumnType::Text { n } => bytes.len() <= n as usize,
-        ColumnType::Blob { n } => bytes.len() <= n as usize,
+        ColumnType::Char { n } | ColumnType::Binary { n } => bytes.len() == n as usize,
+        ColumnType::Varchar { n }
+        | ColumnType::Varbinary { n }
+        | ColumnType::Text { n }
+        | ColumnType::Blob { n } => bytes.len() <= n as usize,
         ColumnType::Utf8Varchar { n } => is_text_of_characters(n, bytes),
         ColumnType::Utf8Text { n } => is_text_of_bytes(n, bytes),
         _ => false,

@@ -4,7 +4,7 @@ use Rattle.column_values.proofs.moments.fraction.Goals as goal
 
 pub overflow_mul-micro : goal.overflow_mul-micro
 overflow_mul-micro c =
-    let few : c.fraction_length.result ≤ 3 = c.fraction_length.ensures.few in
+    let few : c.fraction_length.result ≤ 3 = omega (arith, c.fraction_length.ensures.half, c.requires.known) in
     let most : 256 ^ c.fraction_length.result ≤ 256 ^ 3 =
     pow-le-pow_right {n = 256} (omega arith) {i = c.fraction_length.result} {j = 3} few in
     let fits = c.number_at-units.ensures.fits in

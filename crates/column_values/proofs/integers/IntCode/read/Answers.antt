@@ -1,7 +1,7 @@
 use Rattle.std.proofs.Common.{◌≡◌, true, false, arith, ◌∙◌}
 use Rattle.std.proofs.lemmas.Int.{ints}
 use Rattle.page_source.specs.Pages.{num}
-use Rattle.column_values.proofs.Numbers.{big_number_is, top_bit_fits, num-lt, flipped_is, signed_range}
+use Rattle.column_values.proofs.Numbers.{big_number_is, num-lt, flipped_is, signed_range}
 use Rattle.column_values.proofs.integers.IntCode.read.Goals as goal
 
 pub returns-then-signed : goal.returns-then-signed
@@ -9,7 +9,7 @@ returns-then-signed g c =
     let W = g.row.W in
     let bytes = c.args.bytes.now in
     let number = big_number_is W bytes in
-    let top = top_bit_fits W c.requires.few in
+    let half = c.half.ensures.value in
     let is_signed : c.args.signed ≡ true = c.if-signed.true in
     let low = num-lt W bytes (λ k. omega (arith, c.type_inv.bytes k)) in
     record {

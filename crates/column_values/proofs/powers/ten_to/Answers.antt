@@ -1,7 +1,7 @@
 use Rattle.std.proofs.Common.{◌^◌, ◌≤◌, arith}
 use Rattle.std.proofs.Math.Nat.{pow-le-pow_right}
 use Rattle.column_values.proofs.Groups.{some_power}
-use Rattle.column_values.proofs.decimals.ten_to.Goals as goal
+use Rattle.column_values.proofs.powers.ten_to.Goals as goal
 
 pub pow-requires : goal.pow-requires
 pow-requires c =
