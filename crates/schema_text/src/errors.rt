@@ -34,7 +34,7 @@ pub enum SchemaWhy {
 /// What reading a schema text fails with.
 #[derive(Clone, Copy, Debug, PartialEq, Eq, Error)]
 pub enum SchemaError {
-    /// The first line, counted from 1, that is refused.
+    /// The first line, counted from 1, that is refused, and the first reason in the order of `SchemaWhy`.
     #[error("line {line} of the schema is refused: {why:?}")]
     Refused { line: u32, why: SchemaWhy },
     /// Memory ran out.

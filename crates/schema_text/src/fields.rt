@@ -189,7 +189,7 @@ fn push_rest(fields: &mut Vec<Field>, schema: &Schema, index: usize) -> Result<(
 impl Schema {
     /// The fields of the leaf records of an index, or of its node pointers: the key (of a secondary index all its
     /// columns and the clustered key's others), then the transaction id, the roll pointer and the other columns
-    /// in a clustered leaf, or the child page in a node pointer.
+    /// in a clustered leaf, or the child page in a node pointer (dict0dict). Index 0 is the clustered one.
     pub fn fields(&self, alloc: Global, index: usize, leaf: bool) -> Result<FieldList, NoMemory>
         requires { index < length self.now.indexes }
         ensures value { IfOk result (λ fields. fields ≡ index_fields self.now index leaf) }

@@ -2,7 +2,6 @@
 
 ghost use Rattle.std.specs.Prelude.{◌≡◌, ◌≤◌, [], ℕ, List, length, drop, decimal, All, Any, IsTrue, IfOk};
 ghost use Rattle.std.specs.Prelude.{MatchResult, Some, None, ◌↔◌, Bool, true, false};
-ghost use Rattle.column_values.specs.Types.{is_long_kind};
 ghost use Rattle.schema_text.specs.declared.table.Column.{Column};
 ghost use Rattle.schema_text.specs.Grammar.{IsRoot};
 ghost use Rattle.schema_text.specs.Refusals.{KeyChecks, HasCounts, HasNewNames, HasKey, IsDeclared};
@@ -15,7 +14,7 @@ use crate::names::{are_declared, column_of, has_index, has_root, keys_differ, po
 use crate::part::Part;
 use crate::table::{Column, Format};
 use crate::words::root_number;
-use column_values::{ColumnType, greatest_length};
+use column_values::{greatest_length, is_long_kind};
 use page_source::NoMemory;
 use std::alloc::Global;
 
@@ -28,16 +27,6 @@ const MOST_KEYS: usize = 16;
 const LONGEST_KEY: usize = 3072;
 
 const LONGEST_COMPACT: usize = 767;
-
-/// Whether it is a text or blob kind.
-fn is_long_kind(kind: ColumnType) -> bool
-    ensures { result ≡ is_long_kind kind }
-{
-    matches!(
-        &kind,
-        ColumnType::Text { .. } | ColumnType::Blob { .. } | ColumnType::Utf8Text { .. }
-    )
-}
 
 /// Whether the column alone may be in a key.
 fn may_join(format: Format, clustered: bool, column: &Column) -> bool

@@ -228,7 +228,7 @@ fn push_indexes(
 }
 
 impl Schema {
-    /// The text of the schema.
+    /// The text of the schema, which `read` reads back: its lines, each with an LF.
     pub fn print(&self, alloc: Global) -> Result<ByteList, NoMemory>
         ensures { IfOk result (λ text. text ≡ schema_text self.now) }
     {

@@ -7,17 +7,21 @@ use column_values::ColumnType;
 use page_source::ByteList;
 use std::marker::Model;
 
-/// The format of a table's rows.
+/// The format of a table's rows (ROW_FORMAT).
 #[derive(Clone, Copy, Debug, PartialEq, Eq)]
 pub enum Format {
+    /// COMPACT: a column of a key has at most 767 bytes.
     Compact,
+    /// DYNAMIC: only the columns of a key together have a limit, 3,072 bytes.
     Dynamic,
 }
 
 /// A column of a table.
 #[derive(Debug, Drop)]
 pub struct Column {
+    /// One to 64 characters, each of one byte.
     pub name: ByteList,
+    /// The type of its values.
     pub kind: ColumnType,
     /// Whether a row may hold no value here.
     pub nullable: bool,
@@ -55,8 +59,9 @@ impl ColumnList {
 pub struct IndexDef {
     /// Empty for the clustered index.
     pub name: ByteList,
-    /// The number of its root page.
+    /// The number of its root page, from 3 on.
     pub root: u32,
+    /// The columns that it names, at most 16; none for a clustered index on the hidden row id.
     pub columns: ColumnList,
     /// The line of the schema text that declares it, counted from 1.
     pub line: u32,

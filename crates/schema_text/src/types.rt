@@ -159,10 +159,7 @@ fn decimal_type(digits: &[u8], behind: &[u8]) -> Option<ColumnType>
 fn one_word(first: &[u8]) -> Option<Option<ColumnType>>
     ensures { IsTypeRead (first.now ∷ []) result }
 {
-    match plain_type(first) {
-        Some(kind) => Some(Some(kind)),
-        None => None,
-    }
+    plain_type(first).map(Some)
 }
 
 fn two_words(first: &[u8], second: &[u8]) -> Option<Option<ColumnType>>

@@ -3,7 +3,7 @@
 ghost use Rattle.std.specs.Prelude.{◌≡◌, ◌<◌, ◌^◌, ◌↔◌, ◌==◌, ◌∷◌, ◌++◌, List, ℕ, IsTrue, IfSome};
 ghost use Rattle.std.specs.Prelude.{IsSomeAnd, MatchOption, Some, decimal, position, bytes_eq};
 ghost use Rattle.schema_text.specs.Grammar.{IsName, IsNameByte, IsRoot};
-ghost use Rattle.schema_text.specs.Cuts.{Lacks, Parses, ParsesPart};
+ghost use Rattle.schema_text.specs.Cuts.{Lacks, Parses};
 
 use itoa::Buffer;
 use std::str;
@@ -37,10 +37,8 @@ pub(crate) fn cut(text: &[u8], byte: u8) -> Option<(&[u8], &[u8])>
     ensures only { (first rest : List ℕ) → Lacks byte first → text.now ≡ first ++ byte ∷ rest
         → IsSomeAnd result (λ parts. (parts.0.now ≡ first) × (parts.1.now ≡ rest)) }
 {
-    match first_place(text, byte) {
-        Some(at) => Some((&text[..at], &text[at + 1..])),
-        None => None,
-    }
+    let at = first_place(text, byte)?;
+    Some((&text[..at], &text[at + 1..]))
 }
 
 /// Whether the byte may stand in a name: `A-Z a-z 0-9 _ $`.
