@@ -1,12 +1,16 @@
 //! Why a record isn't read.
 
 use page_source::NoMemory;
+use thiserror::Error;
 
 /// Why a record wasn't read.
-#[derive(Clone, Copy, Debug, PartialEq, Eq)]
+#[derive(Clone, Copy, Debug, PartialEq, Eq, Error)]
 pub enum LocateError {
-    /// Its null bits or lengths aren't spelled as they must be.
+    /// Its null bits or lengths aren't spelled as they must be, or it begins before the heap does, at byte 120.
+    #[error("the record isn't spelled as it must be")]
     BadRecord,
+    /// Memory ran out.
+    #[error("out of memory")]
     Memory,
 }
 

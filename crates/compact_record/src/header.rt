@@ -6,7 +6,8 @@ ghost use Rattle.compact_record.specs.Header.{owned_by, is_minimum, is_deleted};
 
 use page_source::{PAGE_SIZE, Page, read_be};
 
-/// The next field (REC_NEXT), 0 at the end: the next origin is so far ahead, around the end of the page.
+/// The next field (REC_NEXT), in the two bytes before the origin, 0 at the end: the next origin is so far ahead,
+/// around the end of the page.
 pub fn next_field(page: &Page, origin: usize) -> u16
     requires { HasHeaderBytes origin }
     ensures { result ≡ next_field page.now origin }
@@ -29,7 +30,7 @@ pub fn next_origin(page: &Page, origin: usize) -> usize
     }
 }
 
-/// The heap number (REC_NEW_HEAP_NO).
+/// The heap number (REC_NEW_HEAP_NO): 13 bits, in the two bytes from the fourth before the origin on.
 #[tactic(auto, unfolding(crate::specs::Header::heap_number))]
 pub fn heap_number(page: &Page, origin: usize) -> u16
     requires { HasHeaderBytes origin }
@@ -39,7 +40,8 @@ pub fn heap_number(page: &Page, origin: usize) -> u16
     (read_be::<2>(page, origin - 4) / 8) as u16
 }
 
-/// The status (REC_NEW_STATUS), 0 to 7.
+/// The status (REC_NEW_STATUS), 0 to 7, in the third byte before the origin: 0 a row, 1 a node pointer, 2 the infimum,
+/// 3 the supremum.
 #[tactic(auto, unfolding(crate::specs::Header::status_of))]
 pub fn status(page: &Page, origin: usize) -> u8
     requires { HasHeaderBytes origin }
@@ -48,7 +50,7 @@ pub fn status(page: &Page, origin: usize) -> u8
     page.bytes()[origin - 3] % 8
 }
 
-/// How many records it owns, 0 where it owns none (REC_NEW_N_OWNED).
+/// How many records it owns, 0 where it owns none (REC_NEW_N_OWNED): four bits, in the fifth byte before the origin.
 #[tactic(auto, unfolding(crate::specs::Header::owned_by))]
 pub fn owned(page: &Page, origin: usize) -> u8
     requires { HasHeaderBytes origin }
@@ -57,7 +59,7 @@ pub fn owned(page: &Page, origin: usize) -> u8
     page.bytes()[origin - 5] % 16
 }
 
-/// Whether the record has the minimum mark (REC_INFO_MIN_REC_FLAG).
+/// Whether the record has the minimum mark (REC_INFO_MIN_REC_FLAG): bit 4 of the fifth byte before the origin.
 #[tactic(auto, unfolding(crate::specs::Header::is_minimum))]
 pub fn minimum(page: &Page, origin: usize) -> bool
     requires { HasHeaderBytes origin }
@@ -66,7 +68,7 @@ pub fn minimum(page: &Page, origin: usize) -> bool
     page.bytes()[origin - 5] / 16 % 2 == 1
 }
 
-/// Whether the record has the delete mark (REC_INFO_DELETED_FLAG).
+/// Whether the record has the delete mark (REC_INFO_DELETED_FLAG): bit 5 of the fifth byte before the origin.
 #[tactic(auto, unfolding(crate::specs::Header::is_deleted))]
 pub fn deleted(page: &Page, origin: usize) -> bool
     requires { HasHeaderBytes origin }

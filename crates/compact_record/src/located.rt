@@ -77,10 +77,9 @@ impl Located {
         ensures lies { IsTrue result → All (LiesBelow self.new.end) self.new.places }
         ensures members { self.new.members ≡ self.old.members }
     {
-        let sizes = read_places(&mut self.places, page, origin, fields);
-        if !sizes.spelled {
+        let Some(sizes) = read_places(&mut self.places, page, origin, fields) else {
             return false;
-        }
+        };
         let head = HEADER + (fields.nullable() as usize + 7) / 8 + sizes.lengths;
         if HEAP_START + head > origin {
             return false;
@@ -92,14 +91,14 @@ impl Located {
         true
     }
 
-    /// The record's first byte.
+    /// The offset of the record's first byte on its page.
     pub fn start(&self) -> usize
         ensures { result ≡ self.now.start }
     {
         self.start
     }
 
-    /// The byte after its last.
+    /// The offset of the byte behind its last.
     pub fn end(&self) -> usize
         ensures { result ≡ self.now.end }
     {
@@ -135,7 +134,7 @@ impl Located {
         compare_keys(page, fields, self.places(), other_page, other.places())
     }
 
-    /// The page that a node pointer leads to: the four bytes behind its key.
+    /// The number of the page that a node pointer leads to: the four bytes behind its key, big-endian.
     pub fn child(&self, page: &Page, fields: &FieldList) -> u32
         requires pointers { HaveChild fields.now }
         requires this { IsWholeReading page.now fields.now self.now }
@@ -146,8 +145,8 @@ impl Located {
     }
 }
 
-/// Reads the record at this origin. The end may lie past the page. `BadRecord` comes where it isn't spelled as it
-/// must be.
+/// Reads the record whose fields begin at the byte `origin` of the page. The end may lie past the page. `BadRecord`
+/// comes where it isn't spelled as it must be, and `Memory` where there is no room for the places.
 pub fn locate(
     alloc: Global,
     page: &Page,

@@ -1,6 +1,6 @@
 //! Where the fields of a record lie.
 
-ghost use Rattle.std.specs.Prelude.{◌≡◌, ◌+◌, ◌*◌, ◌≤◌, ◌<◌, ◌↔◌, ℕ, IsTrue, length, slice_index_or};
+ghost use Rattle.std.specs.Prelude.{◌≡◌, ◌+◌, ◌*◌, ◌≤◌, ◌<◌, ◌↔◌, ℕ, IsSome, IfSome, length, slice_index_or};
 ghost use Rattle.column_values.specs.Types.{field_at};
 ghost use Rattle.compact_record.specs.Reading.{IsHeapOrigin, FieldIsSpelled, lengths_before, local_before};
 ghost use Rattle.compact_record.specs.Reading.{field_count, place_of, nullable_before, is_null, has_long_length};
@@ -10,43 +10,45 @@ use crate::field::{field_at, is_field_spelled, read_field};
 use column_values::FieldList;
 use page_source::Page;
 
-/// Where a field lies on its page: from byte `from` on, up to byte `until`. A null field has no bytes. An
-/// external one ends with a reference to the rest of its value.
+/// Where a field lies on its page (rem0rec).
 #[derive(Clone, Copy, Debug, PartialEq, Eq)]
 pub struct Place {
+    /// Whether it is null, by its null bit: it has no bytes.
     pub null: bool,
+    /// Whether its last 20 bytes are a reference to the rest of its value (btr0cur).
     pub external: bool,
+    /// The offset of its first byte on the page.
     pub from: usize,
+    /// The offset of the byte behind its last one, which may lie past the page.
     pub until: usize,
 }
 
-/// The bytes that the lengths and the fields take, where all fields are spelled as they must be.
+/// How many bytes the lengths of a record take, and how many its fields.
 #[derive(Clone, Copy)]
 pub(crate) struct Sizes {
-    pub(crate) spelled: bool,
     pub(crate) lengths: usize,
     pub(crate) local: usize,
 }
 
-/// Reads the places of all fields.
+/// Reads the places of all fields; none where a field isn't spelled as it must be.
 pub(crate) fn read_places(
     places: &mut [Place],
     page: &Page,
     origin: usize,
     fields: &FieldList,
-) -> Sizes
+) -> Option<Sizes>
     requires origin { IsHeapOrigin origin }
     requires room { length fields.now.fields ≤ length places.old }
-    ensures spelled { IsTrue result.spelled
+    ensures spelled { IsSome result
         ↔ ((i : ℕ) → i < field_count fields.now → FieldIsSpelled page.now origin fields.now i) }
-    ensures lengths { IsTrue result.spelled
-        → result.lengths ≡ lengths_before page.now origin fields.now (field_count fields.now) }
-    ensures local { IsTrue result.spelled
-        → result.local ≡ local_before page.now origin fields.now (field_count fields.now) }
-    ensures places { IsTrue result.spelled → (i : ℕ) (d : Place) → i < field_count fields.now
+    ensures lengths { IfSome result
+        (λ sizes. sizes.lengths ≡ lengths_before page.now origin fields.now (field_count fields.now)) }
+    ensures local { IfSome result
+        (λ sizes. sizes.local ≡ local_before page.now origin fields.now (field_count fields.now)) }
+    ensures places { IsSome result → (i : ℕ) (d : Place) → i < field_count fields.now
         → slice_index_or places.new i d ≡ place_of page.now origin fields.now i }
-    ensures few { result.lengths ≤ 256 }
-    ensures short { result.local ≤ 4398046511104 }
+    ensures few { IfSome result (λ sizes. sizes.lengths ≤ 256) }
+    ensures short { IfSome result (λ sizes. sizes.local ≤ 4398046511104) }
 {
     let count = fields.fields().len();
     let mut nulls = 0;
@@ -55,11 +57,7 @@ pub(crate) fn read_places(
     for i in 0..count {
         let read = read_field(page, origin, fields, i, nulls, lengths);
         if !is_field_spelled(page, origin, fields, i, &read) {
-            return Sizes {
-                spelled: false,
-                lengths: 0,
-                local: 0,
-            };
+            return None;
         }
         places[i] = Place {
             null: read.null,
@@ -71,11 +69,7 @@ pub(crate) fn read_places(
         lengths = lengths_with(page, origin, fields, i, read.null, read.long, lengths);
         local += read.length;
     }
-    Sizes {
-        spelled: true,
-        lengths,
-        local,
-    }
+    Some(Sizes { lengths, local })
 }
 
 /// How many nullable fields stand before the one behind field `i`.

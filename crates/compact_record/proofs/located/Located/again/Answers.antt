@@ -1,5 +1,4 @@
 use Rattle.std.proofs.Common.{◌∙◌, ap, refl, length, take, List, arith}
-use Rattle.std.proofs.lemmas.Bool.{not-false}
 use Rattle.compact_record.specs.declared.places.Place.{Place}
 use Rattle.compact_record.specs.Reading.{IsSpelled}
 use Rattle.compact_record.proofs.Steps.{head_is, end_is, places_are, whole_slice}
@@ -8,18 +7,16 @@ use Rattle.compact_record.proofs.located.Located.again.Goals as goal
 
 pub returns-then-head-origin-clause-exact : goal.returns-then-head-origin-clause-exact
 returns-then-head-origin-clause-exact c =
-    let all = not-false _ c.if-not-sizes.false in
-    let head = head_is c.args.page.now c.args.origin c.args.fields.now _ (c.read_places-sizes.ensures.lengths all) in
+    let head = head_is c.args.page.now c.args.origin c.args.fields.now _ c.in-Some.ensures.lengths in
     (λ sound. (cc), λ spelled. absurd (omega (arith, spelled.room, head, c.nullable.ensures, c.if-head-origin.true)))
 
 pub returns-clause-exact : goal.returns-clause-exact
 returns-clause-exact c =
-    let all = not-false _ c.if-not-sizes.false in
-    let head = head_is c.args.page.now c.args.origin c.args.fields.now _ (c.read_places-sizes.ensures.lengths all) in (
+    let head = head_is c.args.page.now c.args.origin c.args.fields.now _ c.in-Some.ensures.lengths in (
       λ _. record {
         room = omega (arith, head, c.nullable.ensures, c.if-head-origin.false);
         each =
-            c.read_places-sizes.ensures.spelled.0 all;
+            c.in-Some.ensures.spelled.0 refl;
       },
       λ _. (cc),
     )
@@ -28,27 +25,26 @@ pub returns-clause-read : goal.returns-clause-read
 returns-clause-read c = λ _.
     let page = c.args.page.now in
     let fields = c.args.fields.now in
-    let all = not-false _ c.if-not-sizes.false in
-    let head = head_is page c.args.origin fields _ (c.read_places-sizes.ensures.lengths all) in
+    let head = head_is page c.args.origin fields _ c.in-Some.ensures.lengths in
     let count = ap (λ xs. length xs) c.fields.ensures.same in
     let spelled : IsSpelled page c.args.origin fields =
     record {
       room = omega (arith, head, c.nullable.ensures, c.if-head-origin.false);
       each =
-          c.read_places-sizes.ensures.spelled.0 all;
+          c.in-Some.ensures.spelled.0 refl;
     } in
-    let whole = c.read_places-sizes.auto.places ∙ c.deref_mut.ensures.len in
+    let whole = c.read_places.auto.places ∙ c.deref_mut.ensures.len in
     record {
       spelled = spelled;
       stands = refl;
       starts = omega (arith, head, c.nullable.ensures);
-      ends = end_is page c.args.origin fields _ (c.read_places-sizes.ensures.local all);
+      ends = end_is page c.args.origin fields _ c.in-Some.ensures.local;
       holds =
           ap (λ (xs : List Place). take (length c.fields.result.now) xs)
-          (whole_slice c.read_places-sizes.new.places _ _ whole)
-          ∙ places_are page c.args.origin fields c.read_places-sizes.new.places _ count
+          (whole_slice c.read_places.new.places _ _ whole)
+          ∙ places_are page c.args.origin fields c.read_places.new.places _ count
           (omega (arith, count, whole, c.requires.room, c.deref_mut.ensures.len, ap (λ r. r.members) c.self.view_is))
-          (c.read_places-sizes.ensures.places all);
+          (c.in-Some.ensures.places refl);
     }
 
 pub returns-clause-lies : goal.returns-clause-lies
