@@ -4,6 +4,7 @@ use Rattle.std.specs.Prelude.{[], ◌∷◌, ◌++◌}
 use Rattle.page_source.specs.Pages.{num}
 use Rattle.compact_record.specs.Header.{next_field, next_origin}
 
+-- the origins of the records at the two ends of the chain
 abbrev pub infimum : ℕ
 infimum = 99
 
@@ -22,6 +23,7 @@ heap_top page = num page 40 2
 abbrev pub heap_field : List ℕ → ℕ
 heap_field page = num page 42 2
 
+-- the number of heap records alone
 abbrev pub heap_count : List ℕ → ℕ
 heap_count page = heap_field page % 32768
 
@@ -29,12 +31,15 @@ heap_count page = heap_field page % 32768
 abbrev pub first_free : List ℕ → ℕ
 first_free page = num page 44 2
 
+-- the number of records in the chain, infimum and supremum not counted
 abbrev pub record_count : List ℕ → ℕ
 record_count page = num page 54 2
 
+-- how far the page stands above the leaves of its tree, which have level 0
 abbrev pub level_of : List ℕ → ℕ
 level_of page = num page 64 2
 
+-- the number of the index that the page belongs to
 abbrev pub index_id_of : List ℕ → ℕ
 index_id_of page = num page 66 8
 

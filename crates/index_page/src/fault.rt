@@ -53,9 +53,10 @@ impl Scratch {
     }
 }
 
-/// The first broken rule of an index page: of its header, its ends, its record chain, its heap numbers, its free
-/// list, its directory, its records and their keys. `leaf`, `root` and `leftmost` say where in its tree the page
-/// stands. Nothing is said of what the scratch holds afterwards.
+/// The first broken rule of an index page (page0page), none where it keeps all. Their order: its header, its ends, its
+/// record chain, its heap numbers, its free list, its directory, the kind of its records, their spelling, their room,
+/// that it has a record, and their keys. `leaf`, `root` and `leftmost` say where in its tree the page stands. Nothing
+/// is said of what the scratch holds afterwards.
 pub fn page_fault(
     scratch: &mut Scratch,
     page: &Page,

@@ -117,6 +117,7 @@ pub(crate) fn slot_at(page: &Page, slot: usize) -> usize
     field(page, DIRECTORY_END - SLOT_SIZE * (slot + 1))
 }
 
+/// Whether the numbers of the header fit together.
 pub(crate) fn has_header(page: &Page) -> bool
     ensures { IsTrue result ↔ HasHeader page.now }
 {
@@ -129,6 +130,7 @@ pub(crate) fn has_header(page: &Page) -> bool
         && record_count(page) + 2 <= heap_count(page)
 }
 
+/// Whether infimum and supremum are as they must be.
 pub(crate) fn has_ends(page: &Page) -> bool
     ensures { IsTrue result ↔ HasEnds page.now }
 {
@@ -142,6 +144,7 @@ pub(crate) fn has_ends(page: &Page) -> bool
         && next_field(page, SUPREMUM) == 0
 }
 
+/// Whether the fields of a record of the heap may begin at this byte.
 pub(crate) fn is_origin(page: &Page, origin: usize) -> bool
     ensures { IsTrue result ↔ IsOrigin page.now origin }
 {

@@ -28,7 +28,7 @@ impl Model for Records {
 }
 
 impl Records {
-    /// Reads the records of a page that was checked.
+    /// Reads the records of a page that was checked. Only memory may run out.
     pub fn of(alloc: Global, page: &Page, fields: &FieldList) -> Result<Records, NoMemory>
         requires header { HasHeader page.now }
         requires chain { IsChain page.now (records_of page.now) }

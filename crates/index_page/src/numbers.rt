@@ -72,6 +72,7 @@ pub(crate) fn has_free_list(numbers: &mut Marks, page: &Page) -> bool
     has_free_walk(page) && mark_numbers(numbers, page, first_free(page), free_count(page))
 }
 
+/// Whether the free records may stand where they do, and the last of them ends the list.
 #[tactic(auto, using(crate::proofs::HeapNumbers::free_steps))]
 fn has_free_walk(page: &Page) -> bool
     requires { HasHeader page.now }

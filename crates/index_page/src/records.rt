@@ -11,6 +11,7 @@ use column_values::FieldList;
 use compact_record::{Located, next_origin, status};
 use page_source::Page;
 
+/// Whether the record is a row, of status 0, or above the leaves a node pointer, of status 1.
 fn has_kind(page: &Page, leaf: bool, origin: usize) -> bool
     requires { IsHeapOrigin origin }
     ensures { IsTrue result ↔ HasKind page.now leaf origin }

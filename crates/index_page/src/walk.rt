@@ -11,7 +11,8 @@ use crate::header::{INFIMUM, SUPREMUM, record_count};
 use compact_record::{minimum, next_field, next_origin};
 use page_source::{PAGE_SIZE, Page};
 
-/// The record behind this one, none at the end of the chain: where the next field is 0, or leads to the supremum.
+/// The origin of the record behind this one, a byte of the page; none at the end of the chain: where the next field is
+/// 0, or leads to the supremum.
 pub fn next_record(page: &Page, origin: usize) -> Option<usize>
     requires { HasHeaderBytes origin }
     ensures { result ≡ next_of page.now origin }
@@ -25,7 +26,8 @@ pub fn next_record(page: &Page, origin: usize) -> Option<usize>
     }
 }
 
-/// Whether the minimum mark of a page that was checked lacks, or is where it mustn't be.
+/// Whether the minimum mark of a page that was checked lacks, or is where it mustn't be: the first record of the
+/// leftmost page of a level above the leaves has it, and no other record.
 pub fn mark_fault(page: &Page, leaf: bool, leftmost: bool) -> bool
     requires header { HasHeader page.now }
     requires chain { IsChain page.now (records_of page.now) }
@@ -41,6 +43,7 @@ pub fn mark_fault(page: &Page, leaf: bool, leftmost: bool) -> bool
     false
 }
 
+/// Whether record `i` of the chain has the minimum mark exactly where it must.
 fn has_mark_at(page: &Page, leaf: bool, leftmost: bool, i: usize, origin: usize) -> bool
     requires { IsHeapOrigin origin }
     ensures { IsTrue result ↔ HasMarkAt page.now leaf leftmost i origin }
@@ -50,6 +53,7 @@ fn has_mark_at(page: &Page, leaf: bool, leftmost: bool, i: usize, origin: usize)
     marked == first
 }
 
+/// Whether record `i` of the chain must have the mark.
 fn is_first(leaf: bool, leftmost: bool, i: usize) -> bool
     ensures { IsTrue result ↔ IsFirst leaf leftmost i }
 {
