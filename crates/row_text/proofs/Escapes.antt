@@ -1,6 +1,7 @@
 -- The escapes of a text in parts.
 use Rattle.std.proofs.Common.{◌≡◌, ◌≢◌, ℕ, zero, suc, ◌+◌, ◌<◌, List, [], ◌∷◌, ◌++◌, flat_map, take, slice_index, refl}
-use Rattle.std.proofs.Common.{sym, ap, ◌∙◌, eqb, get_or, false, Some, position, arith}
+use Rattle.std.proofs.Common.{sym, ap, ◌∙◌, ◌≤◌, eqb, get_or, not, false, Option, None, Some, is_some, position, arith}
+use Rattle.std.specs.Prelude.{MatchOption}
 use Rattle.std.proofs.lemmas.Bool.{cond-true, cond-false, eq-eqb, ne_eqb, eqb-true, eqb-false, not-true, not-false}
 use Rattle.std.proofs.lemmas.List.Quantifiers.{position-Some}
 use Rattle.std.proofs.lemmas.List.{append-nil, take_more}
@@ -18,6 +19,21 @@ itself byte plain = cond-true (eqb (escape_letter byte) 0) (byte ∷ []) (92 ∷
 behind_backslash : (byte : ℕ) → escape_letter byte ≢ 0 → escaped byte ≡ 92 ∷ escape_letter byte ∷ []
 behind_backslash byte some = cond-false (eqb (escape_letter byte) 0) (byte ∷ []) (92 ∷ escape_letter byte ∷ [])
     (ne_eqb _ _ some)
+
+-- a byte has a letter where it is escaped
+pub has_letter : (byte : ℕ) (letter : Option ℕ)
+    → MatchOption letter (escape_letter byte ≡ 0) (λ l. (l ≡ escape_letter byte) × (1 ≤ l))
+    → is_some letter ≡ is_escaped byte
+has_letter byte None plain = ap not (sym (eq-eqb _ _ plain))
+has_letter byte (Some letter) h =
+    let some : escape_letter byte ≢ 0 = λ none. absurd (omega (arith, h.0, h.1, none)) in
+    ap not (sym (ne_eqb _ _ some))
+
+-- the first byte that is escaped has one
+pub first_has_letter : (text : List ℕ) (at : ℕ) → position is_escaped text ≡ Some at
+    → escape_letter (slice_index text at) ≡ 0 → ⊥
+first_has_letter text at found plain =
+    eqb-false _ _ (not-true _ (position-Some is_escaped text at 0 found).1) plain
 
 -- a text whose bytes stand for themselves
 pub escaped_plain : (text : List ℕ) → IsPlain text → escaped_text text ≡ text

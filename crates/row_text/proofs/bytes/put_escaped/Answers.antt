@@ -1,4 +1,4 @@
-use Rattle.std.proofs.Common.{◌≡◌, ◌+◌, ℕ, is_some, List, [], ◌∷◌, ◌++◌, take, drop, subst, sym, ap, ◌∙◌, refl}
+use Rattle.std.proofs.Common.{◌≡◌, ◌+◌, ℕ, List, [], ◌∷◌, ◌++◌, take, drop, subst, sym, ap, ◌∙◌, refl}
 use Rattle.std.proofs.Common.{append_assoc}
 use Rattle.std.proofs.lemmas.List.{take-append-drop}
 use Rattle.page_source.specs.Calls.{Puts}
@@ -17,9 +17,9 @@ returns-in_err-put_pieces g c =
     let done = c.loop-at.invariant in
     let rest = c.loop-at.rest.now in
     let at = c.in-Some.at in
-    let found = sym c.first_escape.ensures.place ∙ c.in-Some.is in
-    let letter = c.escape_letter.result in
-    let step = escape_step rest at letter found c.escape_letter.ensures in
+    let letter = c.in-Some.letter in
+    let found = c.in-Some.ensures.found in
+    let step = escape_step rest at letter found.1 found.2 in
     let more = drop (at + 1) rest in
     let whole : escaped_text c.args.text.now ≡ escaped_text done.before ++
     ((take at rest ++ 92 ∷ letter ∷ []) ++ escaped_text more) =
@@ -40,9 +40,9 @@ loop-at-preserved g c =
     let done = c.loop-at.invariant in
     let rest = c.loop-at.rest.now in
     let at = c.in-Some.at in
-    let found = sym c.first_escape.ensures.place ∙ c.in-Some.is in
-    let letter = c.escape_letter.result in
-    let step = escape_step rest at letter found c.escape_letter.ensures in
+    let letter = c.in-Some.letter in
+    let found = c.in-Some.ensures.found in
+    let step = escape_step rest at letter found.1 found.2 in
     let front = take (at + 1) rest in
     let put = put_more s c.args.sink.now c.loop-at.sink c.put_pieces.new.sink (escaped_text done.before)
     (take at rest ++ 92 ∷ letter ∷ [])
@@ -62,7 +62,7 @@ returns g c =
     let rest = c.loop-at.rest.now in
     let now = c.put.ensures in
     let plain : escaped_text rest ≡ rest = escaped_plain rest
-    (c.first_escape.ensures.none (ap is_some c.in_default.is)) in
+    (c.in_default.ensures.none refl) in
     let whole : escaped_text c.args.text.now ≡ escaped_text done.before ++ rest =
     ap escaped_text done.same ∙ escaped_append done.before rest ∙ ap (λ (t : List ℕ). escaped_text done.before ++ t)
     plain in
