@@ -11,6 +11,7 @@ use Rattle.column_values.specs.declared.value.Value.TheVariants.{Timestamp, Year
 use Rattle.row_text.specs.Digits.{two_digits, four_digits, behind_point, decimal_text}
 use Rattle.row_text.specs.Calendar.{year_of_day, month_of_day, day_of_day}
 
+-- the byte before the letter of an escape
 abbrev pub backslash : ℕ
 backslash = 92
 
@@ -24,6 +25,7 @@ escape_letter byte =
 abbrev pub escaped : ℕ → List ℕ
 escaped byte = if escape_letter byte == 0 then byte ∷ [] else backslash ∷ escape_letter byte ∷ []
 
+-- a text, each of its bytes so
 unfoldable pub escaped_text : List ℕ → List ℕ
 escaped_text text = flat_map escaped text
 
@@ -35,6 +37,7 @@ is_escaped byte = not (escape_letter byte == 0)
 abbrev pub IsPlain : List ℕ → Type 0
 IsPlain text = All (λ byte. escape_letter byte ≡ 0) text
 
+-- a text between single quotes
 abbrev pub quoted : List ℕ → List ℕ
 quoted text = codes "'" ++ text ++ codes "'"
 

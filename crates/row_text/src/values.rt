@@ -1,6 +1,6 @@
 //! A value as it stands in a line.
 
-ghost use Rattle.std.specs.Prelude.{◌≡◌, ◌≤◌, ◌^◌, ℕ};
+ghost use Rattle.std.specs.Prelude.{◌≡◌, ◌≤◌, ℕ};
 ghost use Rattle.column_values.specs.declared.value.Value.{Value};
 ghost use Rattle.column_values.specs.Types.{IsColumnType, HoldsText};
 ghost use Rattle.column_values.specs.Spell.{IsSpelling, IsValueOf, Spell};
@@ -13,7 +13,7 @@ use crate::bytes::{put_bytes, put_hex_number, put_quoted};
 use crate::calendar::date_of_day;
 use crate::digits::{four_digits, two_digits, write_last_digits};
 use column_values::laws::spellings_are_unique;
-use column_values::{ColumnType, Value, decode_number, trimmed};
+use column_values::{ColumnType, Value, decode_number, ten_to, trimmed};
 use itoa::Buffer;
 use page_source::{ByteSink, Failed, put_pieces};
 
@@ -31,14 +31,6 @@ struct Moment {
 
 /// The seconds of a day.
 const DAY: u32 = 86_400;
-
-fn ten_to(digits: u8) -> u128
-    requires { digits ≤ 38 }
-    ensures value { result ≡ 10 ^ digits }
-    ensures some { 1 ≤ result }
-{
-    10u128.pow(u32::from(digits))
-}
 
 /// A point and the last digits of a number, so many, where there are any. They are written into the room.
 fn behind_point(count: u8, number: u128, room: &mut [u8; 31]) -> &[u8]
@@ -82,7 +74,7 @@ fn put_moment<O: ByteSink>(sink: &mut O, digits: u8, moment: Moment) -> Result<(
     let (month, day) = (u16::from(moment.month), u16::from(moment.day));
     let (hour, minute) = (u16::from(moment.hour), u16::from(moment.minute));
     let second = u16::from(moment.second);
-    let units = u128::from(moment.micro) / ten_to(6 - digits);
+    let units = u128::from(moment.micro) / ten_to(usize::from(6 - digits));
     let mut room = [0; 31];
     let fraction = behind_point(digits, units, &mut room);
     put_pieces(
@@ -150,7 +142,9 @@ fn put_decimal<O: ByteSink>(sink: &mut O, scale: u8, units: i128) -> Result<(), 
 {
     let number = units.unsigned_abs();
     let (mut digits, mut room) = (Buffer::new(), [0; 31]);
-    let whole = digits.format(number / ten_to(scale)).as_bytes();
+    let whole = digits
+        .format(number / ten_to(usize::from(scale)))
+        .as_bytes();
     let behind = behind_point(scale, number, &mut room);
     put_pieces(sink, &[sign(units), whole, behind])
 }

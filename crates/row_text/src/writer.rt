@@ -16,7 +16,8 @@ use page_source::{ByteSink, Failed, put_pieces};
 use schema_text::Schema;
 use std::marker::Model;
 
-/// Writes one line in pieces, for values that are read in parts.
+/// Writes one line in pieces, for values that are read in parts: `INSERT INTO`, the name of the table between
+/// backquotes, `VALUES`, and the values of a row in parentheses, between commas. Each call fails where the sink does.
 #[derive(Debug, Drop)]
 pub struct RowWriter {
     came: u32,
@@ -48,7 +49,7 @@ impl RowWriter {
         if self.came == 0 { b"" } else { b"," }
     }
 
-    /// Adds a value that is null.
+    /// Adds a value that is null, one of at most 64.
     pub fn null<O: ByteSink>(&mut self, sink: &mut O) -> Result<(), Failed>
         requires { self.old.came < 64 }
         ensures puts { Puts O.ByteSink sink.old sink.new (before_value self.old.came ++ codes "NULL") result }
@@ -59,7 +60,7 @@ impl RowWriter {
         Ok(())
     }
 
-    /// Adds the value that the bytes spell.
+    /// Adds the value that the bytes spell, one of at most 64.
     pub fn value<O: ByteSink>(
         &mut self,
         sink: &mut O,
@@ -150,6 +151,7 @@ impl RowWriter {
     }
 }
 
+/// Puts what stands before the values.
 fn put_open<O: ByteSink>(sink: &mut O, schema: &Schema) -> Result<(), Failed>
     ensures { Puts O.ByteSink sink.old sink.new (line_open schema.now) result }
 {

@@ -17,4 +17,5 @@ returns g c =
       c.behind_point-fraction.ensures,
       c.from.ensures,
       c.ten_to.ensures.value,
+      c.from-2.ensures,
     ) at c.put_pieces.ensures
