@@ -1,11 +1,12 @@
 -- A number whose bits say which of the first numbers pass a test.
 use Rattle.std.proofs.Common.{◌≡◌, ℕ, zero, suc, ◌+◌, ◌*◌, ◌/◌, ◌%◌, ◌^◌, ◌<◌, ◌≤◌, Bool, true, false, cond, not, List}
-use Rattle.std.proofs.Common.{[], ◌∷◌, refl, sym, ◌∙◌, ap, add-one, add-zero, zero-add, arith}
+use Rattle.std.proofs.Common.{[], ◌∷◌, map, refl, sym, ◌∙◌, ap, add-one, add-zero, zero-add, arith}
 use Rattle.std.proofs.Math.Nat.{pow-succ', div-div-eq-div-mul, mul-add, mul_assoc, mul_comm, mul-zero, mul-one, one-mul}
 use Rattle.std.proofs.lemmas.Nat.{pow_pos}
 use Rattle.std.proofs.lemmas.List.Sums.{sum_by-cons, sum_by-append}
 use Rattle.page_source.proofs.Members.{range_more}
 use Rattle.std.specs.List.{range_with_len, sum_by}
+use lib.Lanes.{mask_l}
 use Rattle.extent_map.specs.Extents.{is_bit_clear, used_mask}
 
 -- 1 where a test passes
@@ -135,6 +136,14 @@ weighed p w a (suc n) power =
 pub mask_sum : (p : ℕ → Bool) (n : ℕ) → sum_by (λ j. cond (p j) (2 ^ j) 0) (range_with_len 0 n) ≡ mask p n
 mask_sum p n =
     weighed p 1 0 n refl ∙ one-mul (mask (λ j. p (0 + j)) n) ∙ mask_same (λ j. p (0 + j)) p n (λ j _. ap p (zero-add j))
+
+-- the same number as a mask of truth values
+pub mask_is_list : (p : ℕ → Bool) (a n : ℕ) → mask (λ j. p (a + j)) n ≡ mask_l (map p (range_with_len a n))
+unfolding mask
+mask_is_list p a zero = refl
+mask_is_list p a (suc n) =
+    ap (λ (k : ℕ). bit (p k) + 2 * mask (λ j. p (a + suc j)) n) (add-zero a)
+    ∙ ap (λ (m : ℕ). bit (p a) + 2 * m) (mask_same _ _ n (λ j _. ap p (omega arith)) ∙ mask_is_list p (a + 1) n)
 
 -- the sum of the powers of 2 whose numbers pass
 unfoldable pub power_sum : (ℕ → Bool) → ℕ → ℕ

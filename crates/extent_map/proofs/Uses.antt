@@ -3,6 +3,9 @@ use Rattle.std.proofs.Common.{◌≡◌, ℕ, zero, suc, ◌+◌, ◌-◌, ◌*�
 use Rattle.std.proofs.Common.{cond, nat_lt, List, ◌∷◌, length, get_or, All, Contains, filter, refl, sym, ◌∙◌, ap, inl}
 use Rattle.std.proofs.Common.{inr, arith}
 use Rattle.std.specs.List.{range_with_len}
+use Rattle.std.specs.Int.RustNames.{count_ones}
+use Rattle.std.proofs.lemmas.List.Sums.{length-filter}
+use Rattle.std.proofs.lemmas.Simd.{ones-mask_l}
 use Rattle.std.proofs.lemmas.Bool.{false≢true}
 use Rattle.std.proofs.lemmas.Bool.Decides.{leb_tells}
 use Rattle.std.proofs.lemmas.List.Elements.{All-contains, All-contains_itself}
@@ -13,7 +16,8 @@ use Rattle.extent_map.specs.Extents.{is_bit_clear, used_mask, extent_at, extent_
 use Rattle.extent_map.specs.Extents.{descriptor_byte, is_used, IsUsed, extent_pages, used_in, used_count, IsDescribed}
 use Rattle.extent_map.specs.Descriptors.{FitsUse}
 use Rattle.std.proofs.Math.Nat.{pow-succ'}
-use Rattle.extent_map.proofs.Masks.{bit, mask, mask_sum, mask_below, below_mask, mask_full, mask_bit, bit_set}
+use Rattle.extent_map.proofs.Masks.{bit, mask, mask_sum, mask_same, mask_is_list, mask_below, below_mask, mask_full}
+use Rattle.extent_map.proofs.Masks.{mask_bit, bit_set}
 use Rattle.extent_map.proofs.Used.{used_in_has, used_in_only}
 
 -- whether page j of an extent is used
@@ -238,3 +242,14 @@ first_two file e x is =
           let two : bit (here 1) ≡ 1 = ap bit (sym second ∙ q) in
           omega (arith, number, low, next, one, two),
     )
+
+-- as many bits are set as pages are used
+pub ones_are_uses : (file : List ℕ) (e : ℕ) (x : Extent) → IsDescribed file e x → count_ones x.used ≡ used_count file e
+unfolding used_in extent_pages
+ones_are_uses file e x is =
+    let at = λ (j : ℕ). is_used file (64 * e + j) in
+    ap count_ones (used_is_mask file e x is
+    ∙ (mask_same (use_of file e) at 64 (λ j inside. sym (used_is_bit file e j is.below inside))
+    ∙ mask_is_list (is_used file) (64 * e) 64))
+    ∙ (ones-mask_l (is_used file) (range_with_len (64 * e) 64)
+    ∙ sym (length-filter (is_used file) (range_with_len (64 * e) 64)))

@@ -2,7 +2,7 @@
 
 ghost use Rattle.std.specs.Prelude.{◌≡◌, ◌<◌, ◌≤◌, ◌/◌, ◌++◌, IsTrue, [], ◌∷◌};
 ghost use Rattle.std.specs.Prelude.{List, ℕ, Some, length, map, slice_get, IfOk, OnOk, OnErr};
-ghost use Rattle.extent_map.specs.Extents.{AreExtents, extent_nodes, is_used};
+ghost use Rattle.extent_map.specs.Extents.{AreExtents, extent_nodes, is_used, used_count};
 ghost use Rattle.extent_map.specs.Extents.{is_fragment_extent, is_system_page, is_fragment_page, fragment_flags};
 
 use crate::extent::Extent;
@@ -90,6 +90,15 @@ impl Extents {
             return false;
         }
         (self.extent(e).used >> (page % 64)) % 2 == 1
+    }
+
+    /// How many of the 64 pages of extent `e` are used.
+    pub fn used_count(&self, e: u32) -> u32
+        requires { e < length self.now }
+        ensures few { result ≤ 64 }
+        ensures told { (file : List ℕ) → AreExtents file self.now → result ≡ used_count file e }
+    {
+        self.extent(e).used.count_ones()
     }
 
     /// For each page below the free limit, whether it is used, in a fragment extent, and no system

@@ -1,6 +1,6 @@
 -- The claims of slots, segment by segment, and the check of each page's holder.
-use Rattle.std.proofs.Common.{◌≡◌, ◌≢◌, ◌↔◌, ℕ, zero, suc, ◌+◌, ◌/◌, ◌%◌, ◌<◌, ◌≤◌, Bool, true, false, cond, ◌&&◌, ◌||◌}
-use Rattle.std.proofs.Common.{◌==◌, List, [], ◌∷◌, ◌++◌, length, get_or, slice_get, map, take, take_all, Contains}
+use Rattle.std.proofs.Common.{◌≡◌, ◌≢◌, ◌↔◌, ℕ, zero, suc, ◌+◌, ◌/◌, ◌%◌, ◌<◌, ◌≤◌, Bool, true, false, cond, ◌&&◌}
+use Rattle.std.proofs.Common.{List, [], ◌∷◌, ◌++◌, length, get_or, slice_get, map, take, take_all, Contains}
 use Rattle.std.proofs.Common.{Option, Some, None, refl, sym, ◌∙◌, ap, subst, inl, inr, arith, add-one, append-nil}
 use Rattle.std.proofs.Common.{append_assoc}
 use Rattle.std.specs.List.{range_with_len}
@@ -16,7 +16,7 @@ use Rattle.page_source.proofs.Times.{times_append, times_none, times_once}
 use Rattle.space_header.specs.declared.address.Address.{Address}
 use Rattle.space_header.specs.Header.{size_of, limit_of}
 use Rattle.extent_map.specs.declared.extent.Extent.{Extent}
-use Rattle.extent_map.specs.Extents.{extent_of, extent_count, is_used, IsUsed, used_in, is_fragment_extent}
+use Rattle.extent_map.specs.Extents.{extent_count, is_used, IsUsed, used_in, is_fragment_extent}
 use Rattle.extent_map.specs.Extents.{is_fragment_page, is_system_page}
 use Rattle.extent_map.specs.Descriptors.{IsExtent}
 use Rattle.extent_map.specs.Laws.{UsedPagesAreOfExtents}

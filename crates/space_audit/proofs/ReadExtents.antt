@@ -1,8 +1,8 @@
 -- What is read of the extents, against the file.
-use Rattle.std.proofs.Common.{◌≡◌, ℕ, zero, suc, ◌+◌, ◌*◌, ◌/◌, ◌<◌, ◌≤◌, Bool, true, false, cond, not, ◌==◌, eqb, List}
+use Rattle.std.proofs.Common.{◌≡◌, ℕ, ◌+◌, ◌/◌, ◌<◌, ◌≤◌, Bool, true, false, cond, not, ◌==◌, eqb, List}
 use Rattle.std.proofs.Common.{[], ◌∷◌, ◌++◌, length, get_or, set, slice_get, map, filter, sum_by, Some, refl, sym, ◌∙◌}
-use Rattle.std.proofs.Common.{ap, subst, inl, inr, arith, get_or-set_same, get_or-set_other, add-one, add-zero}
-use Rattle.std.proofs.Common.{length-append, length-set}
+use Rattle.std.proofs.Common.{ap, subst, inl, inr, arith, get_or-set_same, get_or-set_other}
+use Rattle.std.proofs.Common.{length-set}
 use Rattle.std.specs.List.{range_with_len, position_or_len, prefix_len}
 use Rattle.std.proofs.lemmas.Bool.{cases_lt}
 use lib.ListN.{get_or-eq_default}
@@ -11,11 +11,10 @@ use Rattle.std.proofs.lemmas.List.FromFn.{length-map-range_with_len, get_or-map-
 use Rattle.std.proofs.lemmas.List.Elements.{filter-append}
 use Rattle.std.proofs.lemmas.List.Sums.{sum_by-append, prefix_len-le-length}
 use Rattle.page_source.proofs.Members.{range_more}
-use Rattle.page_source.proofs.Times.{one_if}
 use Rattle.space_header.specs.declared.address.Address.{Address}
 use Rattle.extent_map.specs.declared.extent.Extent.{Extent}
-use Rattle.extent_map.specs.Extents.{AreExtents, extents_of, extent_of, extent_count, extent_state, is_used, used_in}
-use Rattle.extent_map.specs.Extents.{used_count, extent_pages}
+use Rattle.extent_map.specs.Extents.{AreExtents, extents_of, extent_of, extent_count, extent_state}
+use Rattle.extent_map.specs.Extents.{used_count}
 use Rattle.inode_segments.specs.Inodes.{segments, segment_id}
 use Rattle.space_audit.specs.Numbering.{place_in}
 use Rattle.space_audit.specs.Lists.{home_by, home_number, homes_of, uses_of}
@@ -37,29 +36,6 @@ extent_is file extents e x are at =
       sym (get_or-map-range_with_len (extent_of file) 0 (extent_count file) e e x below (omega arith))
           ∙ (ap (λ xs. get_or xs e x) (sym are.same) ∙ there.1 x),
     )
-
--- one more page of an extent
-range_push : (a n : ℕ) → range_with_len a (suc n) ≡ range_with_len a n ++ (a + n) ∷ []
-range_push a zero = rw add-zero refl
-range_push a (suc n) = ap (λ xs. a ∷ xs) (range_push (a + 1) n
-    ∙ ap (λ k. range_with_len (a + 1) n ++ k ∷ []) (omega arith))
-
-one_kept : (n : ℕ) (b : Bool) → length (cond b (n ∷ []) []) ≡ one_if b
-one_kept n true = refl
-one_kept n false = refl
-
-pub pages_more : (p : ℕ → Bool) (a n : ℕ)
-    → length (filter p (range_with_len a (n + 1))) ≡ length (filter p (range_with_len a n)) + one_if (p (a + n))
-pages_more p a n =
-    ap (λ k. length (filter p (range_with_len a k))) (add-one n)
-    ∙ (ap (λ xs. length (filter p xs)) (range_push a n)
-    ∙ (ap length (filter-append p (range_with_len a n) ((a + n) ∷ []))
-    ∙ (length-append (filter p (range_with_len a n)) (filter p ((a + n) ∷ []))
-    ∙ ap (λ k. length (filter p (range_with_len a n)) + k) (one_kept (a + n) (p (a + n))))))
-
-pub uses_all : (file : List ℕ) (e : ℕ) → length (filter (is_used file) (range_with_len (64 * e) 64)) ≡ used_count file e
-unfolding used_in extent_pages
-uses_all file e = refl
 
 pub uses_more : (file : List ℕ) (n : ℕ)
     → map (used_count file) (range_with_len 0 (n + 1)) ≡ map (used_count file) (range_with_len 0 n) ++ used_count

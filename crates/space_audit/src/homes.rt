@@ -1,7 +1,7 @@
 //! On which list each extent must stand.
 
 ghost use Rattle.std.specs.Prelude.{◌≡◌, ◌<◌, ◌≤◌, ◌+◌, ◌*◌, All, IfOk, List, ℕ, length, map, slice_index, sum_by};
-ghost use Rattle.extent_map.specs.Extents.{AreExtents, used_count};
+ghost use Rattle.extent_map.specs.Extents.{AreExtents};
 ghost use Rattle.inode_segments.specs.Inodes.{segments, segment_id};
 ghost use Rattle.space_audit.specs.Lists.{at_home, home_by, home_part, homes_of, uses_of, used_at_home};
 
@@ -107,24 +107,9 @@ pub(crate) fn count_uses(alloc: Global, extents: &Extents) -> Result<Vec<u32>, N
 {
     let mut uses = Vec::with_capacity(alloc, extents.count() as usize)?;
     for e in 0..extents.count() {
-        uses.push(count_used(extents, e))?;
+        uses.push(extents.used_count(e))?;
     }
     Ok(uses)
-}
-
-/// How many pages of an extent are used.
-fn count_used(extents: &Extents, e: u32) -> u32
-    requires { e < 65536 }
-    ensures few { result ≤ 64 }
-    ensures told { (file : List ℕ) → AreExtents file extents.now → result ≡ used_count file e }
-{
-    let mut used = 0u32;
-    for j in 0..EXTENT_PAGES {
-        if extents.is_used(EXTENT_PAGES * e + j) {
-            used += 1;
-        }
-    }
-    used
 }
 
 /// The number of each extent's home, where the segments have these ids in order.

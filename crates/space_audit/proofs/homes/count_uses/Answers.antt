@@ -11,12 +11,12 @@ loop-e-preserved c = record {
   count = omega (arith, c.in_ok-push.ensures.len, c.loop-e.invariant.count);
   small =
       subst (λ xs. All (λ count. count ≤ 64) xs) (sym c.in_ok-push.ensures.items)
-      (All-push (λ count. count ≤ 64) c.loop-e.uses.items c.count_used.result c.loop-e.invariant.small
-      c.count_used.ensures.few);
+      (All-push (λ count. count ≤ 64) c.loop-e.uses.items c.used_count.result c.loop-e.invariant.small
+      c.used_count.ensures.few);
   told = λ file are.
       c.in_ok-push.ensures.items
-      ∙ (ap (λ xs. xs ++ c.count_used.result ∷ []) (c.loop-e.invariant.told file are)
-      ∙ (ap (λ k. map (used_count file) (range_with_len 0 c.loop-e.e) ++ k ∷ []) (c.count_used.ensures.told file are)
+      ∙ (ap (λ xs. xs ++ c.used_count.result ∷ []) (c.loop-e.invariant.told file are)
+      ∙ (ap (λ k. map (used_count file) (range_with_len 0 c.loop-e.e) ++ k ∷ []) (c.used_count.ensures.told file are)
       ∙ sym (uses_more file c.loop-e.e)));
 }
 
