@@ -47,9 +47,6 @@ each_breaks count i check (Broken fault) within before here = (i, within, before
 each_breaks count i check Source within before here = tt
 
 module _ (file : List ℕ) (segment leaf : ℕ) (page : List ℕ) (origin : ℕ) (fields : Fields) (taken : ℕ → Bool) where
-  pub no_part : pages_of_part file page origin fields 0 ≡ []
-  no_part = refl
-
   pub part_more : (i : ℕ) → pages_of_part file page origin fields (i + 1)
       ≡ pages_of_part file page origin fields i
       ++ pages_of_field file (field_at fields i).kind page (place_of page origin fields i)

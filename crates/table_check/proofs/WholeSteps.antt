@@ -62,10 +62,10 @@ unfolding deleted_rows
 deleted_count index ends is = is.deleted ∙ sym (length-filter (is_deleted_row index) (leaf_rows index))
 
 -- the steps of the checks of so many pages
-pub takes_steps : {S : Type 0} (g : FileOf S) (source : S) (size steps spent : ℕ)
+pub takes_steps : {S : Type 0} {g : FileOf S} {source : S} {size steps spent : ℕ}
     → OfFile g source (λ file. size ≤ page_count file) → size ≤ 4194304 → spent ≤ steps + check_steps size
     → TakesSteps g source check_steps steps spent
-takes_steps g source size steps spent within most few = record {
+takes_steps {g = g} {source = source} within most few = record {
   told = told1 (g.content source) (λ file less. omega (arith, less, few)) within;
   always = omega (arith, most, few);
 }

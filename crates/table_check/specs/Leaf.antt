@@ -1,4 +1,4 @@
--- What is asked of a leaf of the clustered tree, where its fields and its records lie.
+-- What is asked of the values on a leaf of the clustered tree, and the pages that they go on in.
 use Rattle.std.specs.Prelude.{ℕ, Bool, List, Option}
 use Rattle.page_source.specs.declared.rule.Fault.{Fault}
 use Rattle.column_values.specs.declared.kind.ColumnType.{ColumnType}

@@ -27,7 +27,7 @@ returns-in_err-trees-clause-exact g c =
 pub returns-in_err-trees-clause-steps : goal.returns-in_err-trees-clause-steps
 returns-in_err-trees-clause-steps g c =
     let sized = c.in_ok-space.ensures.sized in
-    takes_steps g.S.PageSource c.args.source.now c.size-pages.result c.args.steps.now c.check_trees.new.steps
+    takes_steps
     (told1 (g.S.PageSource.content c.args.source.now) (λ file audit. (c.size-pages.ensures.told file audit).within)
     c.in_ok-space.ensures.audited) c.size-pages.ensures.most
     (omega (arith, sized, c.in_err-trees.ensures.steps, c.size-pages.ensures.is))
@@ -49,7 +49,7 @@ pub returns-in_err-chain_pages-clause-steps : goal.returns-in_err-chain_pages-cl
 returns-in_err-chain_pages-clause-steps g c =
     let sized = c.in_ok-space.ensures.sized in
     let leaves = c.in_ok-trees.ensures.leaves in
-    takes_steps g.S.PageSource c.args.source.now c.size-pages.result c.args.steps.now c.check_values.new.steps
+    takes_steps
     (told1 (g.S.PageSource.content c.args.source.now) (λ file audit. (c.size-pages.ensures.told file audit).within)
     c.in_ok-space.ensures.audited) c.size-pages.ensures.most
     (omega (arith, sized, leaves.fewer, leaves.cost, c.in_err-chain_pages.ensures.cost, c.size-pages.ensures.is))
@@ -80,7 +80,7 @@ returns-in_err-unreached-clause-steps g c =
     let sized = c.in_ok-space.ensures.sized in
     let leaves = c.in_ok-trees.ensures.leaves in
     let at_ok = c.in_ok-chain_pages.ensures.at_ok in
-    takes_steps g.S.PageSource c.args.source.now c.size-pages.result c.args.steps.now c.check_values.new.steps
+    takes_steps
     (told1 (g.S.PageSource.content c.args.source.now) (λ file audit. (c.size-pages.ensures.told file audit).within)
     c.in_ok-space.ensures.audited) c.size-pages.ensures.most
     (omega (arith, sized, leaves.fewer, leaves.cost, at_ok, c.size-pages.ensures.is))
