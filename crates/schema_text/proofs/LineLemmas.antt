@@ -1,19 +1,14 @@
 -- The words of the lines, cut apart.
-use Rattle.std.proofs.Common.{◌≡◌, ℕ, ◌+◌, ◌<◌, ◌%◌, ◌^◌, Bool, true, false, cond, eqb, List, [], ◌∷◌, ◌++◌, get_or}
-use Rattle.std.proofs.Common.{Option, Some, None, IsTrue, IsSomeAnd, refl, sym, subst, arith}
-use Rattle.std.specs.Prelude.{codes}
-use Rattle.std.specs.Bool.{then_some}
-use Rattle.std.proofs.lemmas.List.{append_assoc}
+use Rattle.std.proofs.Common.{◌≡◌, ℕ, ◌+◌, ◌<◌, ◌%◌, ◌^◌, false, eqb, List, [], ◌++◌, get_or}
+use Rattle.std.proofs.Common.{arith}
 use Rattle.std.proofs.lemmas.List.Elements.{All-nil, All-cons, All-push, All-append}
 use Rattle.std.proofs.lemmas.List.Folds.{list_any_at}
 use Rattle.std.proofs.lemmas.Bool.{eq-eqb}
 use Rattle.std.specs.List.{list_any}
 use Rattle.std.proofs.lemmas.Fmt.{decimal_by_steps}
 use Rattle.std.specs.Fmt.{decimal}
-use Rattle.column_values.specs.declared.kind.ColumnType.{ColumnType}
-use Rattle.column_values.specs.declared.kind.ColumnType.TheVariants.{Int}
-use Rattle.schema_text.specs.Grammar.{space, line_feed, joined, line_of, int_word, type_words, column_words, IsName}
-use Rattle.schema_text.specs.Grammar.{IsNameByte, IsRoot}
+use Rattle.schema_text.specs.Grammar.{IsName}
+use Rattle.schema_text.specs.Grammar.{IsNameByte}
 use Rattle.schema_text.specs.Cuts.{Lacks}
 
 -- a test of the bytes, which computes

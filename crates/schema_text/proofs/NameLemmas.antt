@@ -1,20 +1,15 @@
 -- The names of columns, and the places where they stand.
-use Rattle.std.proofs.Common.{◌≡◌, ◌≢◌, ℕ, zero, suc, ⊎_elim, ◌+◌, ◌<◌, Bool, true, false, cond, List, [], ◌∷◌, ◌++◌}
-use Rattle.std.proofs.Common.{length, get_or, take, Option, Some, None, sym, ap, ◌∙◌, subst, arith}
+use Rattle.std.proofs.Common.{◌≡◌, ◌≢◌, ℕ, ◌<◌, Bool, true, false, cond, List, [], ◌∷◌}
+use Rattle.std.proofs.Common.{length, get_or, Option, Some, None, sym, subst}
 use Rattle.std.proofs.Common.{All, Decides}
 use Rattle.std.proofs.lemmas.Bool.{false≢true}
 use Rattle.std.proofs.lemmas.List.Elements.{All-nil, All-cons}
-use Rattle.std.specs.Prelude.{position, bytes_eq, AllPairs, is_some, Any}
+use Rattle.std.specs.Prelude.{position, bytes_eq, Any}
 use Rattle.schema_text.specs.Refusals.{column_named}
 use Rattle.schema_text.specs.Cuts.{IsAmong}
-use Rattle.std.proofs.lemmas.Bool.{cases_lt}
 use Rattle.schema_text.proofs.Positions.{none_passes}
-use Rattle.std.proofs.lemmas.List.{take_more, length-take-le, get_or-take}
-use Rattle.std.proofs.lemmas.List.Quantifiers.{position-Some, all_pairs_push}
-use Rattle.std.proofs.lemmas.Option.{slice_get-get_or}
 use Rattle.std.proofs.lemmas.Slice.Eq.{bytes_eq-Decides}
 use Rattle.schema_text.specs.declared.table.Column.{Column}
-use Rattle.column_values.specs.declared.kind.ColumnType.TheVariants.{Int}
 
 abbrev pub has_name : List ℕ → Column → Bool
 has_name name c = bytes_eq c.name name

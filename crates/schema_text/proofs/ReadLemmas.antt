@@ -1,7 +1,7 @@
 -- What comes of a line, put together from its parts.
 use Rattle.std.proofs.Common.{◌≡◌, ℕ, ◌≤◌, true, false, List, [], ◌∷◌, length, drop, All, Option, Some, None, Result}
 use Rattle.std.proofs.Common.{Ok, Err, inl, inr, refl, sym, ap, ◌∙◌, subst, arith}
-use Rattle.std.specs.Prelude.{codes, decimal, OnOk, IfErr, MatchResult}
+use Rattle.std.specs.Prelude.{codes, decimal, OnOk, IfErr, IsErrAnd, MatchResult}
 use Rattle.schema_text.specs.declared.errors.SchemaWhy.{SchemaWhy}
 use Rattle.schema_text.specs.declared.errors.SchemaWhy.TheVariants.{Form, Name}
 use Rattle.schema_text.specs.declared.errors.SchemaError.{SchemaError}
@@ -183,3 +183,16 @@ pub refused_as : {A : Type 0} (n : ℕ) (r : Result A SchemaError) (P Q : Option
 refused_as n (Ok a) P Q f h = tt
 refused_as n (Err (Refused line why)) P Q f h = (h.0, f (Some why) h.1)
 refused_as n (Err Memory) P Q f h = tt
+
+-- the value, or another one in place of an error
+value_or : {T D : Type 0} → T → Result T D → T
+value_or other (Ok x) = x
+value_or other (Err e) = other
+
+-- what a check found, where its error becomes another one
+pub found_where : {T E D : Type 0} (P : T → Type 0) (Q : E → Type 0) (F : E → D → Type 0) (checked : Result T E)
+    (turned : Result T D) (x : T) → MatchResult checked (λ y. turned ≡ Ok y) (λ e. IsErrAnd turned (F e))
+    → turned ≡ Ok x → MatchResult checked P Q → P x
+unfolding value_or
+found_where P Q F (Ok y) turned x same is found = subst P (ap (value_or x) (sym same ∙ is)) found
+found_where P Q F (Err e) turned x same is found = absurd (subst (λ t. IsErrAnd t (F e)) is same)

@@ -64,10 +64,8 @@ fn first_line(alloc: Global, line: &[u8]) -> Result<Part, SchemaError>
     ensures refused { IfErr result (RefusedAt 1 (FirstChecks (words_of line.now))) }
 {
     let words = Words::of(alloc, line)?;
-    match check_table(&words) {
-        Ok(found) => Ok(Part::new(alloc, owned(alloc, found.0)?, found.1)),
-        Err(why) => Err(SchemaError::Refused { line: 1, why }),
-    }
+    let (name, format) = check_table(&words).map_err(|why| SchemaError::Refused { line: 1, why })?;
+    Ok(Part::new(alloc, owned(alloc, name)?, format))
 }
 
 /// The refusal of the line behind those of the part.
@@ -88,18 +86,14 @@ fn column_line(alloc: Global, part: &mut Part, line: &Words) -> Result<(), Schem
     ensures refused { IfErr result
         (RefusedAt (length part.old.columns + length part.old.indexes + 2) (ColumnChecks part.old line.now)) }
 {
-    match check_column(part, line) {
-        Ok(found) => {
-            let column = Column {
-                name: owned(alloc, found.0)?,
-                kind: found.1,
-                nullable: found.2,
-            };
-            part.add_column(column)?;
-            Ok(())
-        }
-        Err(why) => Err(refused(part, why)),
-    }
+    let (name, kind, nullable) = check_column(part, line).map_err(|why| refused(part, why))?;
+    let column = Column {
+        name: owned(alloc, name)?,
+        kind,
+        nullable,
+    };
+    part.add_column(column)?;
+    Ok(())
 }
 
 /// The index that a line states whose checks hold.
@@ -162,14 +156,10 @@ fn clustered_line(alloc: Global, part: &mut Part, line: &Words) -> Result<(), Sc
     ensures refused { IfErr result (RefusedAt (length part.old.columns + length part.old.indexes + 2)
         (ClusteredLineChecks part.old line.now)) }
 {
-    match check_clustered(part, line) {
-        Ok(root) => {
-            let index = index_of(alloc, part, line, 3, b"", root)?;
-            part.add_index(index)?;
-            Ok(())
-        }
-        Err(why) => Err(refused(part, why)),
-    }
+    let root = check_clustered(part, line).map_err(|why| refused(part, why))?;
+    let index = index_of(alloc, part, line, 3, b"", root)?;
+    part.add_index(index)?;
+    Ok(())
 }
 
 /// Whether the line of another index may stand here, and has its form.
@@ -209,14 +199,10 @@ fn index_line(alloc: Global, part: &mut Part, line: &Words) -> Result<(), Schema
     ensures refused { IfErr result (RefusedAt (length part.old.columns + length part.old.indexes + 2)
         (IndexLineChecks part.old line.now)) }
 {
-    match check_index(part, line) {
-        Ok(root) => {
-            let index = index_of(alloc, part, line, 4, line.at(1), root)?;
-            part.add_index(index)?;
-            Ok(())
-        }
-        Err(why) => Err(refused(part, why)),
-    }
+    let root = check_index(part, line).map_err(|why| refused(part, why))?;
+    let index = index_of(alloc, part, line, 4, line.at(1), root)?;
+    part.add_index(index)?;
+    Ok(())
 }
 
 /// Adds what the line states.
