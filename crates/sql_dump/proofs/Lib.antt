@@ -3,6 +3,7 @@ pub mod Written
 pub mod Chains
 pub mod Longs
 pub mod Cells
+pub mod Readings
 pub mod Short
 pub mod Sends
 pub mod RowLines

@@ -9,13 +9,12 @@ use Rattle.std.proofs.lemmas.List.Concat.{flat_map-append}
 use Rattle.page_source.specs.Objects.{GrowsBy, GrowsByPart}
 use Rattle.column_values.specs.declared.value.Value.{Value}
 use Rattle.column_values.specs.declared.value.Value.TheVariants.{Null}
-use Rattle.compact_record.specs.declared.places.Place.{Place}
 use Rattle.schema_text.specs.declared.table.Column.{Column}
 use Rattle.schema_text.specs.TableDef.{TableDef, column_at}
 use Rattle.row_text.specs.Values.{value_text}
 use Rattle.row_text.specs.Line.{comma, texts_of, joined_values, values_of, line_of}
 use Rattle.row_text.specs.Writer.{line_open, line_close, before_value}
-use Rattle.sql_dump.specs.Cells.{pages_at_place, place_in, pages_of_columns}
+use Rattle.sql_dump.specs.Cells.{RowView, cell_of_column, pages_of_cell, pages_of_columns}
 use Rattle.page_source.proofs.Texts.{grows_on, grows_part}
 use Rattle.sql_dump.specs.declared.stop.WriteStop.{WriteStop}
 use Rattle.sql_dump.specs.Stops.{Writes}
@@ -171,20 +170,20 @@ rest_at_start table row count =
     }
 
 -- the pages of the first columns, one column more, and those behind it
-pub pages_more : (file : List ℕ) (table : TableDef) (page : List ℕ) (places : List Place) (c : ℕ)
-    → length (pages_of_columns file table page places (c + 1))
-    ≡ length (pages_of_columns file table page places c) + length (pages_at_place file page (place_in table places c))
+pub pages_more : (file : List ℕ) (row : RowView) (c : ℕ)
+    → length (pages_of_columns file row (c + 1))
+    ≡ length (pages_of_columns file row c) + length (pages_of_cell file (cell_of_column row c))
 unfolding pages_of_columns
-pages_more file table page places c =
-    let f : ℕ → List ℕ = λ c. pages_at_place file page (place_in table places c) in
+pages_more file row c =
+    let f : ℕ → List ℕ = λ c. pages_of_cell file (cell_of_column row c) in
     ap length (range_more f c) ∙ length-append (flat_map f (range_with_len 0 c)) (f c)
 
-pub pages_within : (file : List ℕ) (table : TableDef) (page : List ℕ) (places : List Place) (c n : ℕ) → c < n
-    → length (pages_of_columns file table page places c) + length (pages_at_place file page (place_in table places c))
-    ≤ length (pages_of_columns file table page places n)
+pub pages_within : (file : List ℕ) (row : RowView) (c n : ℕ) → c < n
+    → length (pages_of_columns file row c) + length (pages_of_cell file (cell_of_column row c))
+    ≤ length (pages_of_columns file row n)
 unfolding pages_of_columns
-pages_within file table page places c n within =
-    let f : ℕ → List ℕ = λ c. pages_at_place file page (place_in table places c) in
+pages_within file row c n within =
+    let f : ℕ → List ℕ = λ c. pages_of_cell file (cell_of_column row c) in
     let last = flat_map f (range_with_len (c + 1) (n - (c + 1))) in
     omega (
       arith,
@@ -193,10 +192,9 @@ pages_within file table page places c n within =
       length-append (f c) last,
     )
 
-pub pages_none : (file : List ℕ) (table : TableDef) (page : List ℕ) (places : List Place)
-    → length (pages_of_columns file table page places 0) ≡ 0
+pub pages_none : (file : List ℕ) (row : RowView) → length (pages_of_columns file row 0) ≡ 0
 unfolding pages_of_columns
-pages_none file table page places = refl
+pages_none file row = refl
 
 -- a value as it was put
 abbrev pub put_piece : ℕ → ColumnType → List Value → ℕ → List ℕ

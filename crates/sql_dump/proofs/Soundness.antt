@@ -17,7 +17,7 @@ use Rattle.column_values.specs.Types.{Fields, field_at, is_variable, is_variable
 use Rattle.column_values.specs.Characters.{IsTextOfKind}
 use Rattle.column_values.specs.Spell.{Spell, IsSpelling}
 use Rattle.compact_record.specs.declared.places.Place.{Place}
-use Rattle.compact_record.specs.Reading.{place_of, places_of, is_external}
+use Rattle.compact_record.specs.Reading.{place_of, is_external}
 use Rattle.space_header.specs.Header.{size_of}
 use Rattle.space_audit.specs.Marks.{seen}
 use Rattle.offpage_chain.specs.Reference.{reference_of}
@@ -38,7 +38,7 @@ use Rattle.table_check.specs.Values.{bytes_at, front_of, ValueChecks, FieldCheck
 use Rattle.table_check.specs.Values.{pages_of_part, pages_of_rows, RowChecks}
 use Rattle.table_check.specs.Rows.{IsWholeValue, HasValue, place_of_column, IsRow, AreRows}
 use Rattle.sql_dump.specs.Long.{chain_bytes, stated_length}
-use Rattle.sql_dump.specs.Cells.{IsWholeLong, ReadsValue, place_in}
+use Rattle.sql_dump.specs.Cells.{IsWholeLong, ReadsValue, row_on, cell_of_column}
 use Rattle.sql_dump.specs.Lines.{ReadsRecord, ReadsRows}
 use Rattle.sql_dump.proofs.ColumnFields.{holds_column}
 use Rattle.sql_dump.proofs.RowPages.{place_is}
@@ -153,7 +153,7 @@ long_value file segment leaf kind local taken laws long checks =
 -- the value of a checked place
 pub record ValueHere (file : List ℕ) (segment : ℕ) (kind : ColumnType) (page : List ℕ) (place : Place) : Type 0 where
   pub value : Value
-  pub reads : ReadsValue file kind page place value
+  pub reads : ReadsValue file (record { kind = kind; page = page; place = place }) value
   pub has : HasValue file segment kind page place value
 
 value_here : (file : List ℕ) (segment leaf : ℕ) (kind : ColumnType) (page : List ℕ) (place : Place) (taken : ℕ → Bool)
@@ -259,9 +259,8 @@ pub record RowValues (file : List ℕ) (table : TableDef) (row : Row) : Type 0 w
 -- what is known of column c
 abbrev ColumnHolds : List ℕ → TableDef → Row → ℕ → Value → Type 0
 ColumnHolds file table row c value =
-    ReadsValue file (column_at table c).kind (page_in (clustered_tree file table) row.page)
-    (place_in table (places_of (page_in (clustered_tree file table) row.page) row.origin (leaf_fields table 0)) c)
-    value
+    ReadsValue file
+    (cell_of_column (row_on table (page_in (clustered_tree file table) row.page) row.origin) c) value
     × HasValue file (leaf_segment (clustered_tree file table)) (column_at table c).kind
     (page_in (clustered_tree file table) row.page) (place_of_column (clustered_tree file table) table row c) value
 

@@ -1,6 +1,6 @@
 -- The lines of all rows, one after another.
-use Rattle.std.proofs.Common.{◌≡◌, ℕ, zero, suc, ◌+◌, ◌<◌, ◌≤◌, List, [], ◌∷◌, ◌++◌, length, All, take, drop}
-use Rattle.std.proofs.Common.{flat_map, get_or, Option, Err, refl, sym, ap, ◌∙◌, subst, arith, length-append}
+use Rattle.std.proofs.Common.{◌≡◌, ℕ, zero, suc, ◌+◌, ◌<◌, ◌≤◌, List, [], ◌∷◌, ◌++◌, length, take, drop}
+use Rattle.std.proofs.Common.{flat_map, get_or, Option, Result, Err, refl, sym, ap, ◌∙◌, subst, arith, length-append}
 use Rattle.std.specs.List.{AllZip}
 use Rattle.std.proofs.lemmas.List.{append-nil, take_more, take_all, take-append-drop}
 use Rattle.std.proofs.lemmas.List.Concat.{flat_map-append}
@@ -11,15 +11,13 @@ use Rattle.page_source.specs.Objects.{GrowsByPart}
 use Rattle.page_source.proofs.Texts.{pieces_at}
 use Rattle.column_values.specs.Types.{Fields}
 use Rattle.column_values.specs.declared.value.Value.{Value}
-use Rattle.std.proofs.lemmas.List.FromFn.{length-map-range_with_len}
 use Rattle.compact_record.specs.declared.places.Place.{Place}
-use Rattle.compact_record.specs.Keys.{LiesBelow}
-use Rattle.compact_record.specs.Reading.{place_of, places_of, field_count}
+use Rattle.compact_record.specs.Reading.{places_of}
 use Rattle.schema_text.specs.TableDef.{TableDef, index_at}
 use Rattle.schema_text.specs.Grammar.{IsTable}
 use Rattle.schema_text.specs.IndexFields.{leaf_fields, node_fields}
 use Rattle.row_text.specs.Line.{line_of, text_of}
-use Rattle.tree_walk.specs.Index.{Index, Row, index_of, no_row, row_at, page_in}
+use Rattle.tree_walk.specs.Index.{Row, index_of, no_row, row_at, page_in}
 use Rattle.tree_walk.specs.Leaf.{IsWalked}
 use Rattle.tree_walk.specs.Records.{IsRecord}
 use Rattle.table_check.specs.Trees.{index_in, clustered_tree}
@@ -27,7 +25,7 @@ use Rattle.table_check.specs.Values.{live_rows, pages_of_row, pages_of_rows, all
 use Rattle.table_check.specs.Live.{LiveView, HasGivenLive, CanGiveLive, FindsLive, IsRowInHand}
 use Rattle.sql_dump.specs.declared.stop.WriteStop.{WriteStop}
 use Rattle.sql_dump.specs.Stops.{Writes, write_stop_of}
-use Rattle.sql_dump.specs.Cells.{ReadsRow, CanReadRow, AreCells, fields_of_columns, pages_of_columns}
+use Rattle.sql_dump.specs.Cells.{RowView, ReadsRow, CanReadRow, row_on, pages_of_all}
 use Rattle.sql_dump.specs.Lines.{ReadsRecord, ReadsRows}
 use Rattle.sql_dump.specs.Buffer.{IsSent, Moves}
 use Rattle.sql_dump.proofs.Sends.{sent_more, moves_end, sent_part}
@@ -43,12 +41,12 @@ pub record RowsSoFar (file : List ℕ) (table : TableDef) (rows : LiveView) (lef
   pub text : (all : List (List Value)) → ReadsRows file table all → IsSent old now (flat_map (line_of table) (take j
       all)) held
 
--- the rows can be given, and the next one is found
-pub can_give : (file : List ℕ) (table : TableDef) (rows : LiveView) (left : ℕ) (old now : Option (List ℕ))
-    (held : List ℕ) → IsWalked (clustered_tree file table) → RowsSoFar file table rows left old now held
+-- the rows can be given
+pub can_give : {file : List ℕ} {table : TableDef} {rows : LiveView} {left : ℕ} {old now : Option (List ℕ)}
+    {held : List ℕ} → IsWalked (clustered_tree file table) → RowsSoFar file table rows left old now held
     → CanGiveLive file rows
 unfolding index_in
-can_give file table rows left old now held walked so = record {
+can_give {table = table} walked so = record {
   root = (index_at table 0).root;
   fields = leaf_fields table 0;
   node = node_fields table 0;
@@ -57,17 +55,15 @@ can_give file table rows left old now held walked so = record {
   has = so.given;
 }
 
--- what is found of any tree of the file
-abbrev pub FindsOf : List ℕ → LiveView → (Index → ℕ → Type 0) → Type 0
-FindsOf file rows Finds = (root : ℕ) (fields node : Fields) (j : ℕ) → IsWalked (index_of file root fields node)
-    → HasGivenLive (index_of file root fields node) rows j → Finds (index_of file root fields node) j
-
-pub found_of : (file : List ℕ) (table : TableDef) (rows : LiveView) (left : ℕ) (old now : Option (List ℕ))
-    (held : List ℕ) (Finds : Index → ℕ → Type 0) → IsWalked (clustered_tree file table)
+-- what is found of any tree of the file is found of this one
+pub found_here : {file : List ℕ} {table : TableDef} {rows : LiveView} {left : ℕ} {old now : Option (List ℕ)}
+    {held : List ℕ} (result : Result (Option ℕ) Halt) (new : LiveView) → IsWalked (clustered_tree file table)
     → (so : RowsSoFar file table rows left old now held)
-    → FindsOf file rows Finds → Finds (clustered_tree file table) so.j
+    → ((root : ℕ) (fields node : Fields) (j : ℕ) → IsWalked (index_of file root fields node)
+    → HasGivenLive (index_of file root fields node) rows j → FindsLive (index_of file root fields node) j result new)
+    → FindsLive (clustered_tree file table) so.j result new
 unfolding index_in
-found_of file table rows left old now held Finds walked so finds =
+found_here {table = table} result new walked so finds =
     finds (index_at table 0).root (leaf_fields table 0) (node_fields table 0) so.j walked so.given
 
 -- the values of a row of the list
@@ -87,9 +83,10 @@ zip_length R (x ∷ xs) [] all = absurd all
 zip_length R (x ∷ xs) (y ∷ ys) all = ap suc (zip_length R xs ys all.1)
 
 -- the record in hand, and its values
-pub record RowHere (file : List ℕ) (table : TableDef) (page : List ℕ) (origin : ℕ) (row : List Value) : Type 0 where
-  pub readable : IsRecord page (leaf_fields table 0) origin
-  pub reads : ReadsRow file table page (places_of page origin (leaf_fields table 0)) row
+pub record RowHere (file : List ℕ) (table : TableDef) (page : List ℕ) (origin : ℕ) (row_values : List Value) : Type 0
+  where
+    pub readable : IsRecord page (leaf_fields table 0) origin
+    pub reads : ReadsRow file (row_on table page origin) row_values
 
 pub row_here : (file : List ℕ) (table : TableDef) (rows : LiveView) (j origin : ℕ) (all : List (List Value))
     → IsRowInHand (clustered_tree file table) rows.leaf j origin → ReadsRows file table all
@@ -103,13 +100,12 @@ row_here file table rows j origin all is reads =
 
 -- its pages
 tree_pages_of : (file : List ℕ) (table : TableDef) (page origin : ℕ) → IsTable table
-    → length (pages_of_columns file table (page_in (clustered_tree file table) page)
-    (places_of (page_in (clustered_tree file table) page) origin (leaf_fields table 0)) (length table.columns))
+    → length (pages_of_all file (row_on table (page_in (clustered_tree file table) page) origin))
     ≤ length (pages_of_row (clustered_tree file table) (record { page = page; origin = origin }))
 unfolding index_in
 tree_pages_of file table page origin is = columns_within file table _ origin is
 
-pub record PagesHere (file : List ℕ) (table : TableDef) (page : List ℕ) (j origin columns : ℕ) : Type 0 where
+pub record PagesHere (file : List ℕ) (table : TableDef) (j columns : ℕ) : Type 0 where
   pub more : columns + length (pages_of_rows (clustered_tree file table) (take j (live_rows (clustered_tree file
       table))))
       ≤ length (pages_of_rows (clustered_tree file table) (take (j + 1) (live_rows (clustered_tree file table))))
@@ -119,9 +115,7 @@ pub record PagesHere (file : List ℕ) (table : TableDef) (page : List ℕ) (j o
 
 pub pages_here : (file : List ℕ) (table : TableDef) (rows : LiveView) (j origin : ℕ) → IsTable table
     → IsRowInHand (clustered_tree file table) rows.leaf j origin
-    → PagesHere file table rows.leaf.page j origin
-    (length (pages_of_columns file table rows.leaf.page (places_of rows.leaf.page origin (leaf_fields table 0))
-    (length table.columns)))
+    → PagesHere file table j (length (pages_of_all file (row_on table rows.leaf.page origin)))
 unfolding row_at pages_of_rows
 pages_here file table rows j origin is hand =
     let tree = clustered_tree file table in
@@ -142,16 +136,17 @@ pages_here file table rows j origin is hand =
     })
 
 -- one row more
-pub rows_more : (file : List ℕ) (table : TableDef) (rows new : LiveView) (left less columns : ℕ)
-    (old now next : Option (List ℕ)) (held kept : List ℕ) (origin : ℕ) (so : RowsSoFar file table rows left old now
-    held)
+pub rows_more : {file : List ℕ} {table : TableDef} {rows : LiveView} {left : ℕ} {old now : Option (List ℕ)}
+    {held : List ℕ} (new : LiveView) (less columns : ℕ) (next : Option (List ℕ)) (kept : List ℕ) (origin : ℕ)
+    (so : RowsSoFar file table rows left old now held)
     → IsRowInHand (clustered_tree file table) new.leaf so.j origin
     → HasGivenLive (clustered_tree file table) new (so.j + 1)
-    → PagesHere file table new.leaf.page so.j origin columns → less + columns ≡ left
-    → ((row : List Value) → RowHere file table new.leaf.page origin row
-    → IsSent now next (held ++ line_of table row) kept)
+    → PagesHere file table so.j columns → less + columns ≡ left
+    → ((row_values : List Value) → RowHere file table new.leaf.page origin row_values
+    → IsSent now next (held ++ line_of table row_values) kept)
     → RowsSoFar file table new less old next kept
-rows_more file table rows new left less columns old now next held kept origin so hand given pages used moved =
+rows_more {file = file} {table = table} {old = old} {now = now} {held = held} new less columns next kept origin so
+    hand given pages used moved =
     record {
       j = so.j + 1;
       given = given;
@@ -174,15 +169,16 @@ rows_more file table rows new left less columns old now next held kept origin so
     }
 
 -- a row whose line ended the writing
-pub rows_end : (file : List ℕ) (table : TableDef) (rows new : LiveView) (left : ℕ) (old now next : Option (List ℕ))
-    (held kept : List ℕ) (origin : ℕ) (e : WriteStop) (all : List (List Value))
-    (so : RowsSoFar file table rows left old now held)
+pub rows_end : {file : List ℕ} {table : TableDef} {rows : LiveView} {left : ℕ} {old now : Option (List ℕ)}
+    {held : List ℕ} (new : LiveView) (next : Option (List ℕ)) (kept : List ℕ) (origin : ℕ) (e : WriteStop)
+    (all : List (List Value)) (so : RowsSoFar file table rows left old now held)
     → IsRowInHand (clustered_tree file table) new.leaf so.j origin → ReadsRows file table all
-    → ((row : List Value) → RowHere file table new.leaf.page origin row
-    → Moves {A = Unit {0}} (Err e) now next held kept (line_of table row))
+    → ((row_values : List Value) → RowHere file table new.leaf.page origin row_values
+    → Moves {A = Unit {0}} (Err e) now next held kept (line_of table row_values))
     → Writes {A = Unit {0}} (Err e) old next (text_of table all)
 unfolding text_of
-rows_end file table rows new left old now next held kept origin e all so hand reads ends =
+rows_end {file = file} {table = table} {old = old} {now = now} {held = held} new next kept origin e all so hand reads
+    ends =
     let within : so.j < length all =
     omega (arith, hand.within, zip_length (ReadsRecord file table) (live_rows (clustered_tree file table)) all reads)
     in
@@ -193,11 +189,11 @@ rows_end file table rows new left old now next held kept origin e all so hand re
     (ends row (row_here file table new so.j origin all hand reads)))
 
 -- what was sent is a part of all
-part_so_far : (file : List ℕ) (table : TableDef) (rows : LiveView) (left : ℕ) (old now : Option (List ℕ))
-    (held : List ℕ) (all : List (List Value)) (so : RowsSoFar file table rows left old now held)
+part_so_far : {file : List ℕ} {table : TableDef} {rows : LiveView} {left : ℕ} {old now : Option (List ℕ)}
+    {held : List ℕ} (all : List (List Value)) (so : RowsSoFar file table rows left old now held)
     → ReadsRows file table all → GrowsByPart old now (text_of table all)
 unfolding text_of
-part_so_far file table rows left old now held all so reads =
+part_so_far {table = table} {old = old} {now = now} {held = held} all so reads =
     let line = line_of table in
     let whole : flat_map line all ≡ flat_map line (take so.j all) ++ flat_map line (drop so.j all) =
     ap (flat_map line) (sym (take-append-drop so.j all)) ∙ flat_map-append line (take so.j all) (drop so.j all) in
@@ -205,87 +201,46 @@ part_so_far file table rows left old now held all so reads =
     reads))
 
 -- the rows broke off: never by a rule
-pub rows_halt : (file : List ℕ) (table : TableDef) (rows new : LiveView) (left : ℕ) (old now : Option (List ℕ))
-    (held : List ℕ) (halt : Halt) (all : List (List Value)) (so : RowsSoFar file table rows left old now held)
+pub rows_halt : {file : List ℕ} {table : TableDef} {rows : LiveView} {left : ℕ} {old now : Option (List ℕ)}
+    {held : List ℕ} (new : LiveView) (halt : Halt) (all : List (List Value))
+    (so : RowsSoFar file table rows left old now held)
     → FindsLive (clustered_tree file table) so.j (Err halt) new → ReadsRows file table all
     → Writes {A = Unit {0}} (Err (write_stop_of halt)) old now (text_of table all)
-rows_halt file table rows new left old now held (halts.Broken f) all so finds reads = absurd finds
-rows_halt file table rows new left old now held halts.Source all so finds reads =
-    part_so_far file table rows left old now held all so reads
+rows_halt new (halts.Broken f) all so finds reads = absurd finds
+rows_halt new halts.Source all so finds reads = part_so_far all so reads
 
 -- no row is left
-pub rows_last : (file : List ℕ) (table : TableDef) (rows : LiveView) (left : ℕ) (old now : Option (List ℕ))
-    (held : List ℕ) (all : List (List Value)) (so : RowsSoFar file table rows left old now held)
+pub rows_last : {file : List ℕ} {table : TableDef} {rows : LiveView} {left : ℕ} {old now : Option (List ℕ)}
+    {held : List ℕ} (all : List (List Value)) (so : RowsSoFar file table rows left old now held)
     → length (live_rows (clustered_tree file table)) ≤ so.j → ReadsRows file table all
     → IsSent old now (text_of table all) held
 unfolding text_of
-rows_last file table rows left old now held all so last reads =
+rows_last {file = file} {table = table} {old = old} {now = now} {held = held} all so last reads =
     let size = zip_length (ReadsRecord file table) (live_rows (clustered_tree file table)) all reads in
     subst (λ (rows : List (List Value)). IsSent old now (flat_map (line_of table) rows) held)
     (take_all so.j all (omega (arith, size))) (so.text all reads)
 
--- the page in hand and the places that were read on it
-pub record IsRead (table : TableDef) (leaf page : List ℕ) (places : List Place) (origin : ℕ) : Type 0 where
-  pub page_is : page ≡ leaf
-  pub places_is : places ≡ places_of leaf origin (leaf_fields table 0)
+-- the row that a reader gives is that of the record at this origin of the leaf in hand
+abbrev row_with : TableDef → List ℕ → List Place → RowView
+row_with table page places = record { table = table; page = page; places = places }
 
-pub is_read : (table : TableDef) (leaf page : List ℕ) (places found : List Place) (fields : Fields) (origin : ℕ)
-    → page ≡ leaf → fields ≡ leaf_fields table 0 → places ≡ found → found ≡ places_of page origin fields
-    → IsRead table leaf page places origin
-is_read table leaf page places found fields origin page_is fields_is places_are found_is =
-    record {
-      page_is = page_is;
-      places_is = places_are ∙ found_is ∙ ap (λ (p : List ℕ). places_of p origin fields) page_is
-          ∙ ap (λ (f : Fields). places_of leaf origin f) fields_is;
-    }
+pub row_given : {row : RowView} {given table : TableDef} {page leaf : List ℕ} {places : List Place} (origin : ℕ)
+    → row ≡ record { table = given; page = page; places = places } → given ≡ table → page ≡ leaf
+    → places ≡ places_of page origin (leaf_fields table 0) → row ≡ row_on table leaf origin
+row_given {table = table} {page = page} {places = places} origin is table_is page_is places_are =
+    is ∙ ap (λ (t : TableDef). row_with t page places) table_is ∙ ap (row_with table page) places_are
+    ∙ ap (λ (p : List ℕ). row_on table p origin) page_is
 
-pub hand_reads : (file : List ℕ) (table : TableDef) (leaf page : List ℕ) (places : List Place) (origin : ℕ) (row :
-    List Value)
-    → IsRead table leaf page places origin → RowHere file table leaf origin row → ReadsRow file table page places row
-hand_reads file table leaf page places origin row is here = rw (is.page_is, is.places_is) here.reads
-
-pub hand_pages : (file : List ℕ) (table : TableDef) (leaf page : List ℕ) (places : List Place) (origin n : ℕ)
-    → IsRead table leaf page places origin
-    → length (pages_of_columns file table page places n)
-    ≡ length (pages_of_columns file table leaf (places_of leaf origin (leaf_fields table 0)) n)
-hand_pages file table leaf page places origin n is =
-    ap (λ (p : List ℕ). length (pages_of_columns file table p places n)) is.page_is
-    ∙ ap (λ (ps : List Place). length (pages_of_columns file table leaf ps n)) is.places_is
-
-hand_size : (table : TableDef) (leaf page : List ℕ) (places : List Place) (origin : ℕ)
-    → IsRead table leaf page places origin → length places ≡ length (leaf_fields table 0).fields
-unfolding places_of
-hand_size table leaf page places origin is =
-    ap length is.places_is
-    ∙ length-map-range_with_len (place_of leaf origin (leaf_fields table 0)) 0 (field_count (leaf_fields table 0))
-
--- a row is to be put that can be read in the fetches that are left
-pub row_is_told : (file : List ℕ) (table : TableDef) (rows new : LiveView) (left : ℕ) (old now : Option (List ℕ))
-    (held : List ℕ) (origin : ℕ) (page : List ℕ) (places : List Place) (all : List (List Value)) → IsTable table
-    → ReadsRows file table all → (so : RowsSoFar file table rows left old now held)
-    → IsRowInHand (clustered_tree file table) new.leaf so.j origin → IsRead table new.leaf.page page places origin
-    → CanReadRow file table page places left
-row_is_told file table rows new left old now held origin page places all is reads so hand read =
+-- it can be read in the fetches that are left
+pub can_read_row : {file : List ℕ} {table : TableDef} {rows : LiveView} {left : ℕ} {old now : Option (List ℕ)}
+    {held : List ℕ} (new : LiveView) (origin : ℕ) (all : List (List Value)) → IsTable table → ReadsRows file table all
+    → (so : RowsSoFar file table rows left old now held)
+    → IsRowInHand (clustered_tree file table) new.leaf so.j origin
+    → CanReadRow file (row_on table new.leaf.page origin) left
+can_read_row {file = file} {table = table} new origin all is reads so hand =
     let pages = pages_here file table new so.j origin is hand in
-    let row = get_or all so.j [] in
-    let here = row_here file table new so.j origin all hand reads in
-    let size = hand_pages file table new.leaf.page page places origin (length table.columns) read in
     record {
-      row = row;
-      reads = hand_reads file table new.leaf.page page places origin row read here;
-      few = omega (arith, pages.within, so.few, size);
-    }
-
--- the cells of the record that was read
-pub cells_read : (table : TableDef) (at : List ℕ) (leaf page : List ℕ) (places : List Place) (origin : ℕ)
-    (fields : Fields)
-    → at ≡ fields_of_columns table → fields ≡ leaf_fields table 0 → length fields.fields ≤ 128
-    → All (LiesBelow 16384) places → IsRead table leaf page places origin → AreCells table at places
-cells_read table at leaf page places origin fields at_is fields_are few lie read =
-    let size = hand_size table leaf page places origin read in
-    record {
-      fields = at_is;
-      all = size;
-      few = omega (arith, size, few, ap (λ (f : Fields). length f.fields) fields_are);
-      lie = lie;
+      row_values = get_or all so.j [];
+      reads = (row_here file table new so.j origin all hand reads).reads;
+      few = omega (arith, pages.within, so.few);
     }

@@ -2,7 +2,6 @@
 use Rattle.std.specs.Prelude.{ℕ, ◌≤◌, List, length}
 use Rattle.std.specs.List.{AllZip}
 use Rattle.column_values.specs.declared.value.Value.{Value}
-use Rattle.compact_record.specs.Reading.{places_of}
 use Rattle.schema_text.specs.TableDef.{TableDef}
 use Rattle.schema_text.specs.IndexFields.{leaf_fields}
 use Rattle.tree_walk.specs.Index.{Row, page_in}
@@ -11,13 +10,12 @@ use Rattle.tree_walk.specs.Records.{IsRecord}
 use Rattle.table_check.specs.Trees.{clustered_tree}
 use Rattle.table_check.specs.Values.{live_rows, all_chain_pages}
 use Rattle.table_check.specs.Live.{LiveView, HasGivenLive}
-use Rattle.sql_dump.specs.Cells.{ReadsRow}
+use Rattle.sql_dump.specs.Cells.{ReadsRow, row_on}
 
 -- a record of the clustered index that can be read, and its values
 pub record ReadsRecord (file : List ℕ) (table : TableDef) (row : Row) (row_values : List Value) : Type 0 where
   pub readable : IsRecord (page_in (clustered_tree file table) row.page) (leaf_fields table 0) row.origin
-  pub reads : ReadsRow file table (page_in (clustered_tree file table) row.page)
-      (places_of (page_in (clustered_tree file table) row.page) row.origin (leaf_fields table 0)) row_values
+  pub reads : ReadsRow file (row_on table (page_in (clustered_tree file table) row.page) row.origin) row_values
 
 -- the values of all rows
 abbrev pub ReadsRows : List ℕ → TableDef → List (List Value) → Type 0

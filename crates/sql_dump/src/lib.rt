@@ -2,10 +2,12 @@
 #![tactic(auto)]
 
 mod buffer;
+mod cell;
 mod columns;
 mod laws;
 mod line;
 mod long;
+mod reader;
 mod row;
 mod rows;
 mod stop;

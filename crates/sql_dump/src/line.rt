@@ -1,33 +1,24 @@
 //! The line of a row, kept in the buffer or put.
 
-ghost use Rattle.std.specs.Prelude.{◌≡◌, ◌≢◌, ◌+◌, ◌≤◌, ◌↔◌, List, [], length, All, IsTrue, IfOk, OnOk, OnErr, Err};
+ghost use Rattle.std.specs.Prelude.{◌≡◌, ◌≢◌, ◌+◌, ◌≤◌, List, length, IfOk, OnOk, OnErr, Err};
 ghost use Rattle.page_source.specs.Faults.{Rose, HasCause};
 ghost use Rattle.page_source.specs.Objects.{GrowsByPart};
 ghost use Rattle.page_source.specs.Calls.{OfFile};
 ghost use Rattle.column_values.specs.declared.value.Value.{Value};
 ghost use Rattle.row_text.specs.Line.{line_of};
 ghost use Rattle.sql_dump.specs.Stops.{WritesOver};
-ghost use Rattle.sql_dump.specs.Cells.{IsNear, ReadsRow, CanReadRow, AreCells, pages_of_all};
+ghost use Rattle.sql_dump.specs.Cells.{ReadsRow, CanReadRow, pages_of_all};
 ghost use Rattle.sql_dump.specs.Buffer.{IsSent, Keeps, LeavesOf, Moves};
 
 use crate::buffer::Buffer;
 use crate::long::ChainRoom;
-use crate::row::put_row;
+use crate::row::{Row, put_row};
 use crate::stop::WriteStop;
-use compact_record::Place;
-use page_source::{ByteSink, Failed, Page, PageSource, Steps};
-use schema_text::Schema;
+use page_source::{ByteSink, Failed, PageSource, Steps};
 use std::sync::ledger::Ledger;
 
 /// A buffer with more bytes is put before the next line.
 const ENOUGH: usize = 32_768;
-
-/// Whether no column goes on in pages of its own.
-fn is_near(places: &[Place]) -> bool
-    ensures { IsTrue result ↔ All IsNear places.now }
-{
-    places.iter().all(|place| !place.external)
-}
 
 /// Puts what the buffer holds, where that is enough.
 fn make_room<O: ByteSink>(buffer: &mut Buffer, sink: &mut O) -> Result<(), Failed>
@@ -41,40 +32,32 @@ fn make_room<O: ByteSink>(buffer: &mut Buffer, sink: &mut O) -> Result<(), Faile
     Ok(())
 }
 
-/// Keeps the line of a record in the buffer, where no value goes on elsewhere and there is room for it. Else it is
+/// Keeps the line of a row in the buffer, where no value goes on elsewhere and there is room for it. Else it is
 /// false, and the buffer is as before.
 fn keep_line<S: PageSource, L: Ledger>(
     source: &mut S,
     buffer: &mut Buffer,
-    schema: &Schema,
-    at: &[usize],
-    page: &Page,
-    number: u32,
-    places: &[Place],
+    row: &Row,
     room: &mut ChainRoom,
     steps: &mut Steps<L>,
 ) -> Result<bool, WriteStop>
-    requires cells { AreCells schema.now at.now places.now }
-    requires told { OfFile S.PageSource source.old (λ file.
-        CanReadRow file schema.now page.now places.now room.old.left) }
-    ensures keeps { OfFile S.PageSource source.old (λ file. (row : List Value)
-        → ReadsRow file schema.now page.now places.now row
-        → Keeps result buffer.old.bytes buffer.new.bytes (line_of schema.now row)) }
+    requires told { OfFile S.PageSource source.old (λ file. CanReadRow file row.now room.old.left) }
+    ensures keeps { OfFile S.PageSource source.old (λ file. (row_values : List Value)
+        → ReadsRow file row.now row_values
+        → Keeps result buffer.old.bytes buffer.new.bytes (line_of row.now.table row_values)) }
     ensures left { IfOk result (λ kept. OfFile S.PageSource source.old (λ file.
-        LeavesOf kept room.old.left room.new.left (length (pages_of_all file schema.now page.now places.now)))) }
+        LeavesOf kept room.old.left room.new.left (length (pages_of_all file row.now)))) }
     ensures cost { steps.new + room.new.left ≡ steps.old + room.old.left }
     ensures same { S.content source.new ≡ S.content source.old }
     ensures later { S.faults source.old ≤ S.faults source.new }
     ensures rose { result ≡ Err WriteStop.Source → Rose (S.faults source.old) (S.faults source.new) }
     ensures sink { result ≢ Err WriteStop.Sink }
 {
-    if !is_near(places) {
+    if !row.is_near() {
         return Ok(false);
     }
     let held = buffer.len();
-    match put_row(
-        source, buffer, schema, at, page, number, places, room, steps,
-    ) {
+    match put_row(source, buffer, row, room, steps) {
         Ok(()) => Ok(true),
         Err(WriteStop::Sink) => {
             buffer.truncate(held);
@@ -84,38 +67,30 @@ fn keep_line<S: PageSource, L: Ledger>(
     }
 }
 
-/// Keeps the line of a record in the buffer, or puts it behind what the buffer holds. A line with values that go on
+/// Keeps the line of a row in the buffer, or puts it behind what the buffer holds. A line with values that go on
 /// elsewhere, or without room in the buffer, isn't kept.
 pub(crate) fn put_line<S: PageSource, O: ByteSink, L: Ledger>(
     source: &mut S,
     sink: &mut O,
     buffer: &mut Buffer,
-    schema: &Schema,
-    at: &[usize],
-    page: &Page,
-    number: u32,
-    places: &[Place],
+    row: &Row,
     room: &mut ChainRoom,
     steps: &mut Steps<L>,
 ) -> Result<(), WriteStop>
-    requires cells { AreCells schema.now at.now places.now }
-    requires told { OfFile S.PageSource source.old (λ file.
-        CanReadRow file schema.now page.now places.now room.old.left) }
-    ensures moves { OfFile S.PageSource source.old (λ file. (row : List Value)
-        → ReadsRow file schema.now page.now places.now row
+    requires told { OfFile S.PageSource source.old (λ file. CanReadRow file row.now room.old.left) }
+    ensures moves { OfFile S.PageSource source.old (λ file. (row_values : List Value)
+        → ReadsRow file row.now row_values
         → Moves result (O.written sink.old) (O.written sink.new) buffer.old.bytes buffer.new.bytes
-        (line_of schema.now row)) }
+        (line_of row.now.table row_values)) }
     ensures left { OnOk result (OfFile S.PageSource source.old (λ file.
-        room.new.left + length (pages_of_all file schema.now page.now places.now) ≡ room.old.left)) }
+        room.new.left + length (pages_of_all file row.now) ≡ room.old.left)) }
     ensures cost { steps.new + room.new.left ≡ steps.old + room.old.left }
     ensures over { WritesOver S.PageSource O.ByteSink source.old source.new sink.old sink.new result }
 {
     make_room(buffer, sink)?;
-    if keep_line(
-        source, buffer, schema, at, page, number, places, room, steps,
-    )? {
+    if keep_line(source, buffer, row, room, steps)? {
         return Ok(());
     }
     buffer.flush(sink)?;
-    put_row(source, sink, schema, at, page, number, places, room, steps)
+    put_row(source, sink, row, room, steps)
 }

@@ -6,12 +6,11 @@ ghost use Rattle.table_check.specs.First.{TakesSteps, dump_steps};
 ghost use Rattle.sql_dump.specs.Dump.{Dumps, DumpsOver};
 
 use crate::buffer::Buffer;
-use crate::columns::column_fields;
 use crate::laws::{checked_can_be_read, schema_is_table};
 use crate::long::ChainRoom;
+use crate::reader::RowReader;
 use crate::rows::put_rows;
 use crate::stop::DumpStop;
-use compact_record::Located;
 use page_source::{ByteSink, Page, PageSource, Steps};
 use schema_text::Schema;
 use std::alloc::Global;
@@ -39,9 +38,7 @@ pub fn dump<S: PageSource, O: ByteSink, L: Ledger>(
     checked_can_be_read();
     checks_are_validity();
     let table = check_table(alloc, source, schema, steps)?;
-    let at = column_fields(alloc, schema)?;
-    let fields = schema.fields(alloc, 0, true)?;
-    let mut located = Located::with_room(alloc, fields.fields().len() as u32)?;
+    let mut reader = RowReader::new(alloc, schema)?;
     let mut buffer = Buffer::new(alloc)?;
     let mut rows = LiveRows::start(alloc, &table.clustered)?;
     let mut room = ChainRoom {
@@ -53,10 +50,7 @@ pub fn dump<S: PageSource, O: ByteSink, L: Ledger>(
         source,
         sink,
         &mut buffer,
-        schema,
-        &fields,
-        &at,
-        &mut located,
+        &mut reader,
         &mut rows,
         &mut room,
         steps,

@@ -3,13 +3,10 @@
 ghost use Rattle.std.specs.Prelude.{◌≡◌, ◌<◌};
 
 use crate::buffer::Buffer;
-use crate::columns::column_fields;
-use crate::laws::schema_is_table;
 use crate::line::put_line;
 use crate::long::ChainRoom;
-use crate::rows::read_record;
+use crate::reader::RowReader;
 use crate::stop::WriteStop;
-use compact_record::Located;
 use page_source::{ByteList, ChangingPages, Fails, Fault, MemorySink, Page, Rule, Steps, write_be};
 use schema_text::Schema;
 use std::alloc::Global;
@@ -112,10 +109,7 @@ fn put_one<L: Ledger>(
     requires parts { blank.parts ≡ L.parts }
     requires shared { 0 < blank.parts }
 {
-    schema_is_table(table);
-    let at = column_fields(alloc, table)?;
-    let fields = table.fields(alloc, 0, true)?;
-    let mut located = Located::with_room(alloc, fields.fields().len() as u32)?;
+    let mut reader = RowReader::new(alloc, table)?;
     let mut sink = MemorySink::new(alloc, 1000, Fails::of(alloc, &[])?)?;
     let mut buffer = Buffer::new(alloc)?;
     let mut room = ChainRoom {
@@ -124,16 +118,13 @@ fn put_one<L: Ledger>(
         text: Buffer::new(alloc)?,
     };
     let mut source = ChangingPages::new(file, ByteList::new(alloc), 100);
-    read_record(&mut located, page, LEAF, ORIGIN, &fields)?;
+    reader.read(page, LEAF, ORIGIN)?;
+    let row = reader.row(page, LEAF);
     let answer = put_line(
         &mut source,
         &mut sink,
         &mut buffer,
-        table,
-        &at,
-        page,
-        LEAF,
-        located.places(),
+        &row,
         &mut room,
         &mut Steps::<L>::new(blank),
     );

@@ -11,7 +11,7 @@ returns-in_err-keep_line-clause-moves g c =
     (told1 (g.S.PageSource.content c.args.source.now)
     (λ file keeps row reads. keep_ends (g.O.ByteSink.written c.args.sink.now) (g.O.ByteSink.written
     c.make_room.new.sink) c.args.buffer.now.bytes c.make_room.new.buffer.bytes c.keep_line.new.buffer.bytes (line_of
-    c.args.schema.now row) c.in_err-keep_line.field-0.0
+    c.args.row.now.table row) c.in_err-keep_line.field-0.0
     c.in_ok-make_room.ensures.sent (keeps row reads))
     c.in_err-keep_line.ensures.keeps)
 
@@ -23,7 +23,7 @@ returns-in_err-flush-clause-moves g c =
     (told1 (g.S.PageSource.content c.args.source.now)
     (λ file keeps row reads. flush_ends (g.O.ByteSink.written c.args.sink.now) (g.O.ByteSink.written
     c.make_room.new.sink) (g.O.ByteSink.written c.flush.new.sink) c.args.buffer.now.bytes
-    c.make_room.new.buffer.bytes c.keep_line.new.buffer.bytes c.flush.new.self.bytes (line_of c.args.schema.now row)
+    c.make_room.new.buffer.bytes c.keep_line.new.buffer.bytes c.flush.new.self.bytes (line_of c.args.row.now.table row)
     c.in_ok-make_room.ensures.sent (keeps row reads) c.in_err-flush.ensures.puts.failed)
     keeps)
 
@@ -35,7 +35,7 @@ returns-clause-moves g c =
     (λ file keeps puts row reads. flushed_line (g.O.ByteSink.written c.args.sink.now) (g.O.ByteSink.written
     c.make_room.new.sink) (g.O.ByteSink.written c.flush.new.sink) (g.O.ByteSink.written c.put_row.new.sink)
     c.args.buffer.now.bytes c.make_room.new.buffer.bytes c.keep_line.new.buffer.bytes c.flush.new.self.bytes (line_of
-    c.args.schema.now row)
+    c.args.row.now.table row)
     c.put_row.result c.in_ok-make_room.ensures.sent (keeps row reads) c.in_ok-flush.ensures.puts.ok
     c.in_ok-flush.ensures.empty (puts row reads))
     keeps puts

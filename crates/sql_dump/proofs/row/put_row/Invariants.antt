@@ -15,10 +15,9 @@ invariant-loop-c g l =
       sink_later : g.O.ByteSink.faults l.fn.sink ≤ g.O.ByteSink.faults l.sink;
       cost : l.steps + l.room.left ≡ l.fn.steps + l.fn.room.left;
       came : l.writer.came ≡ l.c;
-      near : All IsNear l.fn.places → l.room.left ≡ l.fn.room.left;
+      near : All IsNear l.fn.row.places → l.room.left ≡ l.fn.room.left;
       used : IfSome (content l.fn.source) (λ file.
-          l.room.left + length (pages_of_columns file l.fn.schema l.fn.page l.fn.places l.c) ≡ l.fn.room.left);
-      text : IfSome (content l.fn.source) (λ file. (row : List Value)
-          → ReadsRow file l.fn.schema l.fn.page l.fn.places row
-          → GrowsBy (written l.fn.sink) (written l.sink) (line_so_far l.fn.schema row l.c));
+          l.room.left + length (pages_of_columns file l.fn.row l.c) ≡ l.fn.room.left);
+      text : IfSome (content l.fn.source) (λ file. (row_values : List Value) → ReadsRow file l.fn.row row_values
+          → GrowsBy (written l.fn.sink) (written l.sink) (line_so_far l.fn.row.table row_values l.c));
     }

@@ -12,9 +12,9 @@ invariant-loop-origin g l =
       sink_later : g.O.ByteSink.faults l.fn.sink ≤ g.O.ByteSink.faults l.sink;
       cost : l.steps + l.rows.leaf.may_fetch + l.room.left ≡ l.fn.steps + l.fn.rows.leaf.may_fetch + l.fn.room.left;
       goes_on : l.rows.ended ≡ false;
-      members : l.located.members ≡ l.fn.located.members;
+      table : l.reader.table ≡ l.fn.reader.table;
       told : IfSome (content l.fn.source) (λ file.
-          RowsSoFar file l.fn.schema l.rows l.room.left (written l.fn.sink) (written l.sink) l.buffer.bytes);
+          RowsSoFar file l.fn.reader.table l.rows l.room.left (written l.fn.sink) (written l.sink) l.buffer.bytes);
     }
 
 abbrev pub decreases-loop-origin : goal.decreases-loop-origin

@@ -14,7 +14,7 @@ returns-in_err-table-clause-told g c =
 
 pub put_rows-requires-clause-told : goal.put_rows-requires-clause-told
 put_rows-requires-clause-told g c =
-    rw c.in_ok-table.ensures.over.same
+    rw (c.in_ok-table.ensures.over.same, c.in_ok-reader.ensures)
     (told2 (g.S.PageSource.content c.args.source.now)
     (λ file first numbers. can_write file c.args.schema.now c.in_ok-table.table _ c.schema_is_table.ensures
     c.checked_can_be_read.ensures first
@@ -23,7 +23,7 @@ put_rows-requires-clause-told g c =
 
 pub returns-in_err-put_rows-clause-told : goal.returns-in_err-put_rows-clause-told
 returns-in_err-put_rows-clause-told g c =
-    let puts = rw c.in_ok-table.ensures.over.same at c.in_err-put_rows.ensures.puts in
+    let puts = rw (c.in_ok-table.ensures.over.same, c.in_ok-reader.ensures) at c.in_err-put_rows.ensures.puts in
     let r = err_from_is_err_and c.from_residual-in_err-put_rows.result c.from_residual-in_err-put_rows.ensures.1 in
     rw (r.1, r.2)
     (told2 (g.S.PageSource.content c.args.source.now)
@@ -35,7 +35,7 @@ returns-in_err-put_rows-clause-told g c =
 
 pub returns-clause-told : goal.returns-clause-told
 returns-clause-told g c =
-    let puts = rw c.in_ok-table.ensures.over.same at c.in_ok-put_rows.ensures.puts in
+    let puts = rw (c.in_ok-table.ensures.over.same, c.in_ok-reader.ensures) at c.in_ok-put_rows.ensures.puts in
     told3 (g.S.PageSource.content c.args.source.now)
     (λ file first numbers puts. all_written file c.args.schema.now c.in_ok-table.table.checked
     (g.O.ByteSink.written c.args.sink.now) (g.O.ByteSink.written c.put_rows.new.sink) c.schema_is_table.ensures
