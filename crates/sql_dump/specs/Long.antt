@@ -28,6 +28,13 @@ whole_bytes file local = front_of local ++ chain_bytes file (reference_of local)
 abbrev pub stated_length : List ℕ → ℕ
 stated_length local = length local - 20 + (reference_of local).length
 
+-- the local bytes before the reference, the reference, and how many bytes the whole value has
+pub record IsSplit (local front : List ℕ) (reference : Reference) (stated : ℕ) : Type 0 where
+  pub front_is : front ≡ front_of local
+  pub size : length front + 20 ≡ length local
+  pub reference_is : reference ≡ reference_of local
+  pub stated_is : stated ≡ length front + reference.length
+
 -- the text of the value as it is written: its length is the stated one
 abbrev pub long_text : List ℕ → ColumnType → List ℕ → List ℕ
 long_text file kind local =

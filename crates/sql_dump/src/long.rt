@@ -6,7 +6,7 @@ ghost use Rattle.offpage_chain.specs.Chain.{chain_pages};
 ghost use Rattle.offpage_chain.specs.Reference.{reference_of};
 ghost use Rattle.row_text.specs.Writer.{Writer, before_value, with_value, is_long, long_part};
 ghost use Rattle.sql_dump.specs.Stops.{Writes, WritesOver};
-ghost use Rattle.sql_dump.specs.Long.{CanFollow, CanFollowIn, FitsLong, chain_bytes, long_text};
+ghost use Rattle.sql_dump.specs.Long.{CanFollowIn, FitsLong, IsSplit, chain_bytes, long_text};
 
 use crate::buffer::Buffer;
 use crate::stop::WriteStop;
@@ -31,15 +31,38 @@ pub(crate) struct ChainRoom {
     pub text: Buffer,
 }
 
+/// The local bytes of a value that goes on elsewhere.
+#[derive(Clone, Copy)]
+struct LocalBytes<'a> {
+    /// Those that begin the value.
+    front: &'a [u8],
+    /// The reference behind them.
+    reference: Reference,
+    /// How many bytes the whole value has.
+    stated: u64,
+}
+
+/// Splits the local bytes of a value that goes on elsewhere.
+fn split_local(local: &[u8]) -> LocalBytes<'_>
+    requires { 20 ≤ length local.now }
+    ensures { IsSplit local.now result.front.now result.reference result.stated }
+{
+    let (front, reference) = local.split_at(local.len() - REFERENCE);
+    let reference = read_reference(reference);
+    LocalBytes {
+        front,
+        reference,
+        stated: front.len() as u64 + u64::from(reference.length),
+    }
+}
+
 /// Whether a value of this type may go on elsewhere, and be as long as these local bytes state.
 pub(crate) fn fits_long(kind: &ColumnType, local: &[u8]) -> bool
     requires { 20 ≤ length local.now }
     ensures { IsTrue result ↔ FitsLong kind.now local.now }
 {
     let field = FieldType::Column(*kind);
-    let (front, reference) = local.split_at(local.len() - REFERENCE);
-    let stated = front.len() as u64 + u64::from(read_reference(reference).length);
-    field.is_variable() && stated <= field.fixed_length() as u64
+    field.is_variable() && split_local(local).stated <= field.fixed_length() as u64
 }
 
 /// Makes the text of some bytes of a long value. Each byte has two at the most, so there is room.
@@ -132,12 +155,10 @@ pub(crate) fn put_long<S: PageSource, O: ByteSink, L: Ledger>(
     ensures over { WritesOver S.PageSource O.ByteSink source.old source.new sink.old sink.new result }
 {
     parts_are_the_value();
-    let (front, reference) = local.split_at(local.len() - REFERENCE);
-    let reference = read_reference(reference);
-    let length = front.len() as u64 + u64::from(reference.length);
-    writer.start_long(sink, kind, length)?;
-    put_part(sink, writer, &mut room.text, kind, front)?;
-    put_chain(source, sink, writer, kind, &reference, room, steps)?;
-    writer.end_long(sink, kind, length)?;
+    let value = split_local(local);
+    writer.start_long(sink, kind, value.stated)?;
+    put_part(sink, writer, &mut room.text, kind, value.front)?;
+    put_chain(source, sink, writer, kind, &value.reference, room, steps)?;
+    writer.end_long(sink, kind, value.stated)?;
     Ok(())
 }

@@ -1,94 +1,63 @@
-use Rattle.std.proofs.Common.{◌+◌, length, refl}
 use Rattle.std.proofs.lemmas.Result.{err_from_is_err_and}
 use Rattle.page_source.proofs.Told.{told0, told1}
 use Rattle.row_text.specs.Writer.{before_value}
-use Rattle.sql_dump.proofs.Longs.{long_split, long_in_four, first_cut, second_cut, third_ends, last_cut, all_four}
+use Rattle.sql_dump.proofs.Longs.{long_in_four, first_cut, second_cut, third_ends, last_cut, all_four}
 use Rattle.sql_dump.proofs.long.put_long.Goals as goal
 
 pub returns-in_err-start_long-clause-puts : goal.returns-in_err-start_long-clause-puts
 returns-in_err-start_long-clause-puts g c =
     let r = err_from_is_err_and c.from_residual.result c.from_residual.ensures.1 in
-    let is = long_split c.args.local.now c.split_at.result.0.now c.split_at.result.1.now
-    c.read_reference-reference.result
-    (length c.split_at.result.0.now + c.from.result) c.from.result c.split_at.ensures.front
-    c.split_at.ensures.front_len
-    c.split_at.ensures.back c.read_reference-reference.ensures c.from.ensures refl in
     rw (r.1, r.2)
     (told0 (g.S.PageSource.content c.args.source.now)
-    (λ file. first_cut (g.O.ByteSink.written c.args.sink.now) (g.O.ByteSink.written c.start_long.new.sink) _ _ _ _ _
-    (long_in_four file c.args.kind.now c.args.local.now c.split_at.result.0.now (before_value c.args.writer.now.came)
-    c.read_reference-reference.result (length c.split_at.result.0.now + c.from.result)
-    c.parts_are_the_value.ensures.join is)
+    (λ file. first_cut (g.O.ByteSink.written c.args.sink.now) (g.O.ByteSink.written c.start_long.new.sink)
+    (long_in_four file c.args.kind.now (before_value c.args.writer.now.came) c.parts_are_the_value.ensures.join
+    c.split_local-value.ensures)
     c.in_err-start_long.ensures.puts.failed))
 
 pub returns-in_err-put_part-clause-puts : goal.returns-in_err-put_part-clause-puts
 returns-in_err-put_part-clause-puts g c =
     let r = err_from_is_err_and c.from_residual-in_err-put_part.result c.from_residual-in_err-put_part.ensures.1 in
-    let is = long_split c.args.local.now c.split_at.result.0.now c.split_at.result.1.now
-    c.read_reference-reference.result
-    (length c.split_at.result.0.now + c.from.result) c.from.result c.split_at.ensures.front
-    c.split_at.ensures.front_len
-    c.split_at.ensures.back c.read_reference-reference.ensures c.from.ensures refl in
     rw (r.1, r.2)
     (told0 (g.S.PageSource.content c.args.source.now)
     (λ file. second_cut (g.O.ByteSink.written c.args.sink.now) (g.O.ByteSink.written c.start_long.new.sink)
-    (g.O.ByteSink.written c.put_part.new.sink) _ _ _ _ _
-    (long_in_four file c.args.kind.now c.args.local.now c.split_at.result.0.now (before_value c.args.writer.now.came)
-    c.read_reference-reference.result (length c.split_at.result.0.now + c.from.result)
-    c.parts_are_the_value.ensures.join is)
+    (g.O.ByteSink.written c.put_part.new.sink)
+    (long_in_four file c.args.kind.now (before_value c.args.writer.now.came) c.parts_are_the_value.ensures.join
+    c.split_local-value.ensures)
     c.in_ok-start_long.ensures.puts.ok c.in_err-put_part.ensures.puts.failed))
 
 pub returns-in_err-put_chain-clause-puts : goal.returns-in_err-put_chain-clause-puts
 returns-in_err-put_chain-clause-puts g c =
-    let is = long_split c.args.local.now c.split_at.result.0.now c.split_at.result.1.now
-    c.read_reference-reference.result
-    (length c.split_at.result.0.now + c.from.result) c.from.result c.split_at.ensures.front
-    c.split_at.ensures.front_len
-    c.split_at.ensures.back c.read_reference-reference.ensures c.from.ensures refl in
     let r = err_from_is_err_and c.from_residual-in_err-put_chain.result c.from_residual-in_err-put_chain.ensures.1 in
     rw (r.1, r.2)
     (told1 (g.S.PageSource.content c.args.source.now)
     (λ file ends. third_ends (g.O.ByteSink.written c.args.sink.now) (g.O.ByteSink.written c.start_long.new.sink)
-    (g.O.ByteSink.written c.put_part.new.sink) (g.O.ByteSink.written c.put_chain.new.sink) _ _ _ _ _
+    (g.O.ByteSink.written c.put_part.new.sink) (g.O.ByteSink.written c.put_chain.new.sink)
     c.in_err-put_chain.field-0.0
-    (long_in_four file c.args.kind.now c.args.local.now c.split_at.result.0.now (before_value c.args.writer.now.came)
-    c.read_reference-reference.result (length c.split_at.result.0.now + c.from.result)
-    c.parts_are_the_value.ensures.join is)
+    (long_in_four file c.args.kind.now (before_value c.args.writer.now.came) c.parts_are_the_value.ensures.join
+    c.split_local-value.ensures)
     c.in_ok-start_long.ensures.puts.ok c.in_ok-put_part.ensures.puts.ok ends)
     c.in_err-put_chain.ensures.puts)
 
 pub returns-in_err-end_long-clause-puts : goal.returns-in_err-end_long-clause-puts
 returns-in_err-end_long-clause-puts g c =
-    let is = long_split c.args.local.now c.split_at.result.0.now c.split_at.result.1.now
-    c.read_reference-reference.result
-    (length c.split_at.result.0.now + c.from.result) c.from.result c.split_at.ensures.front
-    c.split_at.ensures.front_len
-    c.split_at.ensures.back c.read_reference-reference.ensures c.from.ensures refl in
     let r = err_from_is_err_and c.from_residual-in_err-end_long.result c.from_residual-in_err-end_long.ensures.1 in
     rw (r.1, r.2)
     (told1 (g.S.PageSource.content c.args.source.now)
     (λ file chain. last_cut (g.O.ByteSink.written c.args.sink.now) (g.O.ByteSink.written c.start_long.new.sink)
-    (g.O.ByteSink.written c.put_part.new.sink) (g.O.ByteSink.written c.put_chain.new.sink) (g.O.ByteSink.written
-    c.end_long.new.sink) _ _ _ _ _
-    (long_in_four file c.args.kind.now c.args.local.now c.split_at.result.0.now (before_value c.args.writer.now.came)
-    c.read_reference-reference.result (length c.split_at.result.0.now + c.from.result)
-    c.parts_are_the_value.ensures.join is)
+    (g.O.ByteSink.written c.put_part.new.sink) (g.O.ByteSink.written c.put_chain.new.sink)
+    (g.O.ByteSink.written c.end_long.new.sink)
+    (long_in_four file c.args.kind.now (before_value c.args.writer.now.came) c.parts_are_the_value.ensures.join
+    c.split_local-value.ensures)
     c.in_ok-start_long.ensures.puts.ok c.in_ok-put_part.ensures.puts.ok chain c.in_err-end_long.ensures.puts.failed)
     c.in_ok-put_chain.ensures.puts)
 
 pub returns-clause-puts : goal.returns-clause-puts
 returns-clause-puts g c =
-    let is = long_split c.args.local.now c.split_at.result.0.now c.split_at.result.1.now
-    c.read_reference-reference.result
-    (length c.split_at.result.0.now + c.from.result) c.from.result c.split_at.ensures.front
-    c.split_at.ensures.front_len
-    c.split_at.ensures.back c.read_reference-reference.ensures c.from.ensures refl in
     told1 (g.S.PageSource.content c.args.source.now)
     (λ file chain. all_four (g.O.ByteSink.written c.args.sink.now) (g.O.ByteSink.written c.start_long.new.sink)
-    (g.O.ByteSink.written c.put_part.new.sink) (g.O.ByteSink.written c.put_chain.new.sink) (g.O.ByteSink.written
-    c.end_long.new.sink) _ _ _ _ _
-    (long_in_four file c.args.kind.now c.args.local.now c.split_at.result.0.now (before_value c.args.writer.now.came)
-    c.read_reference-reference.result (length c.split_at.result.0.now + c.from.result)
-    c.parts_are_the_value.ensures.join is)
+    (g.O.ByteSink.written c.put_part.new.sink) (g.O.ByteSink.written c.put_chain.new.sink)
+    (g.O.ByteSink.written c.end_long.new.sink)
+    (long_in_four file c.args.kind.now (before_value c.args.writer.now.came) c.parts_are_the_value.ensures.join
+    c.split_local-value.ensures)
     c.in_ok-start_long.ensures.puts.ok c.in_ok-put_part.ensures.puts.ok chain c.in_ok-end_long.ensures.puts.ok)
     c.in_ok-put_chain.ensures.puts
