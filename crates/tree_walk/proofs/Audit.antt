@@ -12,8 +12,8 @@ use Rattle.space_audit.specs.declared.owner.Owner.TheVariants.{Used}
 use Rattle.space_audit.specs.Owners.{owner_of, IsUsedBy}
 use Rattle.space_audit.specs.Audit.{OwnerChecks}
 use Rattle.space_audit.specs.Space.{SpaceView, IsAuditOf, IsPageOf}
-use Rattle.column_values.specs.Types.{Fields}
-use Rattle.tree_walk.specs.Index.{index_of}
+use Rattle.tree_walk.specs.declared.index.Tree.{Tree}
+use Rattle.tree_walk.specs.Tree.{index_in}
 use Rattle.tree_walk.specs.Segments.{segment_in, segment_named_at, leaf_segment, top_segment, AreNewSegments}
 use Rattle.tree_walk.specs.TreeChecks.{IsRootPlace, HasNewSegments}
 use Rattle.tree_walk.specs.Place.{IsPagePlace}
@@ -50,20 +50,19 @@ root_iff b file taken segment n e i = (
 )
 
 -- the segments that a root names
-module _ (file : List ℕ) (space : SpaceView) (root : ℕ) (leaf node : Fields) (page : List ℕ) (named : ℕ → Bool)
-    (l t : ℕ)
-    (a : IsAuditOf file space) (p : page ≡ page_of file root) (el : l ≡ segment_in space.segments page 74)
-    (et : t ≡ segment_in space.segments page 84) where
-  pub leaf_is : l ≡ leaf_segment (index_of file root leaf node)
+module _ (file : List ℕ) (tree : Tree) (page : List ℕ) (named : ℕ → Bool) (l t : ℕ)
+    (a : IsAuditOf file tree.space.now) (p : page ≡ page_of file tree.root)
+    (el : l ≡ segment_in tree.space.now.segments page 74) (et : t ≡ segment_in tree.space.now.segments page 84) where
+  pub leaf_is : l ≡ leaf_segment (index_in file tree)
   unfolding segment_named_at
   leaf_is = el ∙ ap (λ xs. segment_in xs page 74) a.has_segments ∙ ap (λ pg. segment_in (segments file) pg 74) p
 
-  pub top_is : t ≡ top_segment (index_of file root leaf node)
+  pub top_is : t ≡ top_segment (index_in file tree)
   unfolding segment_named_at
   top_is = et ∙ ap (λ xs. segment_in xs page 84) a.has_segments ∙ ap (λ pg. segment_in (segments file) pg 84) p
 
-  pub new_segments : (AreNewSegments space named page l t × IsUsedBy file t root) ↔ HasNewSegments
-      (index_of file root leaf node) named
+  pub new_segments : (AreNewSegments tree.space.now named page l t × IsUsedBy file t tree.root)
+      ↔ HasNewSegments (index_in file tree) named
   new_segments = (
     (λ (s, u). record {
       names = record {
@@ -91,8 +90,8 @@ module _ (file : List ℕ) (space : SpaceView) (root : ℕ) (leaf node : Fields)
     )),
   )
 
-  pub new_iff : (b : Bool) → (IsTrue b ↔ (AreNewSegments space named page l t × IsUsedBy file t root)) → IsTrue b ↔
-      HasNewSegments (index_of file root leaf node) named
+  pub new_iff : (b : Bool) → (IsTrue b ↔ (AreNewSegments tree.space.now named page l t × IsUsedBy file t tree.root))
+      → IsTrue b ↔ HasNewSegments (index_in file tree) named
   new_iff b i = ((λ x. new_segments.0 (i.0 x)), (λ x. i.1 (new_segments.1 x)))
 
 -- the address in a header

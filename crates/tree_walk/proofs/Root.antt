@@ -8,16 +8,18 @@ use Rattle.page_source.specs.declared.checks.Halt.{Halt}
 use Rattle.page_source.specs.declared.checks.Halt.TheVariants.{Broken, Source}
 use Rattle.space_audit.specs.Space.{SpaceView, IsAuditOf}
 use Rattle.column_values.specs.Types.{Fields}
+use Rattle.tree_walk.specs.declared.index.Tree.{Tree}
 use Rattle.tree_walk.specs.declared.tree.root.Top.{Top}
 use Rattle.tree_walk.specs.declared.ends.TreeEnds.{TreeEnds}
 use Rattle.tree_walk.specs.declared.level.Level.{Level}
 use Rattle.tree_walk.specs.declared.level.Aim.{Aim}
 use Rattle.tree_walk.specs.declared.place.tally.Tally.{Tally}
-use Rattle.tree_walk.specs.Index.{Index, index_of, page_in, fields_on, root_level, index_id, pages_at, places}
+use Rattle.tree_walk.specs.Index.{Index, page_in, fields_on, root_level, index_id, pages_at, places}
 use Rattle.tree_walk.specs.Index.{children, reached, tree_pages, is_live_row, is_deleted_row}
 use Rattle.tree_walk.specs.Segments.{leaf_segment, top_segment, named_segments}
 use Rattle.space_audit.specs.Marks.{is_set, Marked}
 use Rattle.tree_walk.specs.Facts.{LevelFacts}
+use Rattle.tree_walk.specs.Tree.{index_in}
 use Rattle.tree_walk.specs.Walk.{IsTop, IsAtLevel, IsLevel, IsTally, TreeState, IsEndsOf}
 use Rattle.tree_walk.proofs.Tallies.{tally_root}
 use Rattle.tree_walk.specs.Place.{SpotAt}
@@ -48,18 +50,18 @@ same_spot : (verdict : Option Fault) (page page' : List ℕ) (fields fields' : F
     }) fil_null fil_null verdict
 same_spot verdict page page' fields fields' id id' root level level' a b c d x = rw (a, b, c, d) x
 
-module _ (file : List ℕ) (root : ℕ) (leaf node fields : Fields) (page : List ℕ) (level id : ℕ)
-    (p : page ≡ page_of file root) (el : level ≡ num page 64 2) (ei : id ≡ num page 66 8)
-    (ef : fields ≡ cond (level == 0) leaf node) where
-  level_is : root_level (index_of file root leaf node) ≡ level
+module _ (file : List ℕ) (tree : Tree) (fields : Fields) (page : List ℕ) (level id : ℕ)
+    (p : page ≡ page_of file tree.root) (el : level ≡ num page 64 2) (ei : id ≡ num page 66 8)
+    (ef : fields ≡ cond (level == 0) tree.leaf.now tree.node.now) where
+  level_is : root_level (index_in file tree) ≡ level
   level_is = sym (el ∙ ap (λ pg. num pg 64 2) p)
 
-  id_is : index_id (index_of file root leaf node) ≡ id
+  id_is : index_id (index_in file tree) ≡ id
   id_is = sym (ei ∙ ap (λ pg. num pg 66 8) p)
 
   pub spot_root : (verdict : Option Fault)
       → SpotAt page fields id (record {
-        page = root;
+        page = tree.root;
         level = level;
         low = None;
         high = None;
@@ -67,19 +69,19 @@ module _ (file : List ℕ) (root : ℕ) (leaf node fields : Fields) (page : List
         leftmost =
             true;
       }) fil_null fil_null verdict
-      → SpotAt (page_in (index_of file root leaf node) root)
-      (fields_on (index_of file root leaf node) (root_level (index_of file root leaf node)))
-      (index_id (index_of file root leaf node))
-      (root_spot (index_of file root leaf node)) fil_null fil_null verdict
+      → SpotAt (page_in (index_in file tree) tree.root)
+      (fields_on (index_in file tree) (root_level (index_in file tree)))
+      (index_id (index_in file tree))
+      (root_spot (index_in file tree)) fil_null fil_null verdict
   spot_root verdict x =
-      same_spot verdict page (page_of file root) fields (fields_on (index_of file root leaf node)
-      (root_level (index_of file root leaf node))) id (index_id (index_of file root leaf node)) root level
-      (root_level (index_of file root leaf node)) (sym p) (ap (λ l. cond (l == 0) leaf node) level_is ∙ sym ef)
+      same_spot verdict page (page_of file tree.root) fields (fields_on (index_in file tree)
+      (root_level (index_in file tree))) id (index_id (index_in file tree)) tree.root level
+      (root_level (index_in file tree)) (sym p) (ap (λ l. cond (l == 0) tree.leaf.now tree.node.now) level_is ∙ sym ef)
       id_is level_is x
 
-  pub top_of : (l t : ℕ) → l ≡ leaf_segment (index_of file root leaf node) → t ≡ top_segment
-      (index_of file root leaf node)
-      → (tally : Tally) → (level ≡ 0 → IsTally page tally) → IsTop (index_of file root leaf node)
+  pub top_of : (l t : ℕ) → l ≡ leaf_segment (index_in file tree) → t ≡ top_segment
+      (index_in file tree)
+      → (tally : Tally) → (level ≡ 0 → IsTally page tally) → IsTop (index_in file tree)
       (record { level = level; index_id = id; leaf = l; upper = t; tally = tally })
   top_of l t a b tally y = record {
     level = sym level_is;
@@ -135,17 +137,17 @@ module _ (index : Index) (top : Top) (depth : ℕ) (start names marks : List Boo
       let h : depth < root_level index = omega arith in
       subst (λ fs. LevelFacts index fs depth) (fields_above index depth h) f
 
-  pub tree_at : (space : SpaceView) → IsAuditOf index.file space → depth < top.level → (root level segment : ℕ) →
-      segment ≡ cond (level == 0) top.leaf top.upper
+  pub tree_at : (space : SpaceView) → IsAuditOf index.file space → depth < top.level → (tree : Tree)
+      (level segment : ℕ) → segment ≡ cond (level == 0) top.leaf top.upper
       → IsAtLevel index (record {
-        root = root;
+        tree = tree;
         index_id = top.index_id;
         segment = segment;
         level = level;
         depth =
             depth;
       }) row
-  tree_at space a h root level segment e = record {
+  tree_at space a h tree level segment e = record {
     facts = tree_facts space a h;
     is_aim = record {
       above = let l = t.is_top.level in omega arith;
@@ -160,11 +162,12 @@ module _ (index : Index) (top : Top) (depth : ℕ) (start names marks : List Boo
   level_of : (level : ℕ) → level + depth + 1 ≡ top.level → level ≡ root_level index - suc depth
   level_of level e = let l = t.is_top.level in omega arith
 
-  pub tree_more : (aim : Aim) → aim.depth ≡ depth → aim.level + depth + 1 ≡ top.level → (marks' : List Bool)
-      (row' : Level) → LevelCheck index aim.level (is_set marks) [] (places index aim.depth) None
-      → Marked (is_set marks) marks' (children index (places index aim.depth)) → IsLevel index aim row' → TreeState
-      index top (depth + 1) start names marks' row'
-  tree_more aim d e marks' row' c m x = record {
+  pub tree_more : (aim : Aim) (row' : Level) → IsLevel index aim row' → aim.depth ≡ depth
+      → aim.level + depth + 1 ≡ top.level → (marks' : List Bool)
+      → LevelCheck index aim.level (is_set marks) [] (places index aim.depth) None
+      → Marked (is_set marks) marks' (children index (places index aim.depth))
+      → TreeState index top (depth + 1) start names marks' row'
+  tree_more aim row' x d e marks' c m = record {
     is_top = t.is_top;
     checked = t.checked;
     first = rw (← d) x.first;
@@ -177,13 +180,13 @@ module _ (index : Index) (top : Top) (depth : ℕ) (start names marks : List Boo
         (places index depth) None t.marked (rw (← d) c)));
   }
 
-  pub tree_halts_at : (aim : Aim) → aim.depth ≡ depth → aim.level + depth + 1 ≡ top.level → (halt : Halt) → HaltsAt
-      halt (LevelCheck index aim.level (is_set marks) [] (places index aim.depth))
+  pub tree_halts_at : (level : ℕ) → level + depth + 1 ≡ top.level → (halt : Halt)
+      → HaltsAt halt (LevelCheck index level (is_set marks) [] (places index depth))
       → HaltsAt halt (TreeChecks index (is_set start) (is_set names))
-  tree_halts_at aim d e halt x =
+  tree_halts_at level e halt x =
       let l = t.is_top.level in
-      tree_halts index (is_set start) (is_set names) marks aim.level depth halt (level_of aim.level e) (omega arith)
-      t.checked t.marked t.held (rw (← d) x)
+      tree_halts index (is_set start) (is_set names) marks level depth halt (level_of level e) (omega arith)
+      t.checked t.marked t.held x
 
   module _ (end : top.level ≤ depth) (near : depth ≤ top.level) where
     at_top : depth ≡ root_level index

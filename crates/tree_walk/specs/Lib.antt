@@ -2,6 +2,7 @@ pub mod Index
 pub mod OneIndex
 pub mod Records
 pub mod Room
+pub mod Tree
 pub mod Place
 pub mod Segments
 pub mod TreeChecks

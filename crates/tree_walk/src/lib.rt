@@ -3,6 +3,7 @@
 
 mod cursor;
 mod ends;
+mod index;
 pub mod laws;
 mod leaves;
 mod level;

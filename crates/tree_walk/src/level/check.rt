@@ -1,37 +1,24 @@
 //! The checks of one place of a level.
 
-ghost use Rattle.std.specs.Prelude.{◌≡◌, ◌==◌, ◌+◌, ◌≤◌, ◌↔◌, if◌then◌else◌, List, length, IsTrue, IfSome, IfOk};
-ghost use Rattle.std.specs.Prelude.{None, Some};
-ghost use Rattle.page_source.specs.Pages.{page_of};
+ghost use Rattle.std.specs.Prelude.{◌≡◌, ◌==◌, ◌+◌, ◌≤◌, if◌then◌else◌, IfOk, None, Some};
 ghost use Rattle.page_source.specs.Lists.{unmarked};
-ghost use Rattle.page_source.specs.Calls.{OfFile, HaltsOver};
 ghost use Rattle.page_source.specs.Checks.{Halts};
 ghost use Rattle.space_audit.specs.Marks.{is_set};
-ghost use Rattle.space_audit.specs.Space.{IsAuditOf};
-ghost use Rattle.tree_walk.specs.Index.{index_of};
+ghost use Rattle.tree_walk.specs.Index.{page_in};
 ghost use Rattle.compact_record.specs.Keys.{HaveChild};
 ghost use Rattle.tree_walk.specs.Records.{PageFacts};
-ghost use Rattle.tree_walk.specs.Room.{CanWalk, HasRoom, HasSameRoom};
-ghost use Rattle.tree_walk.specs.Walk.{page_after, origin_after, HoldsLow, HoldsHigh, PlaceInHand, child_in_hand};
-ghost use Rattle.tree_walk.specs.Walk.{next_in_hand};
-ghost use Rattle.tree_walk.specs.Walk.{GrowsBy, IsTally};
+ghost use Rattle.tree_walk.specs.Tree.{OfIndex, IsReady, StaysReady};
+ghost use Rattle.tree_walk.specs.Walk.{HoldsLow, HoldsHigh, PlaceInHand, child_in_hand, next_in_hand, GrowsBy, IsTally};
 
-use crate::cursor::{FIL_NULL, Next, origin_after, page_after};
+use crate::cursor::{FIL_NULL, Next};
 use crate::level::{Aim, Place};
 use crate::place::tally::{NONE, Tally, tally_of};
 use crate::place::{Stand, check_spot, is_place};
 use crate::walk::Walk;
 use column_values::FieldList;
 use page_source::{Halt, Page, PageSource, Rule, Steps};
-use space_audit::{Marks, Space};
+use space_audit::Marks;
 use std::sync::ledger::Ledger;
-
-/// The fields of the records of a level.
-pub(crate) fn fields_on<'a>(level: u16, leaf: &'a FieldList, node: &'a FieldList) -> &'a FieldList
-    ensures { result.now ≡ (if level == 0 then leaf.now else node.now) }
-{
-    if level == 0 { leaf } else { node }
-}
 
 fn low_of(leftmost: bool, origin: usize) -> Option<usize>
     ensures { result ≡ (if leftmost then None else Some origin) }
@@ -70,35 +57,30 @@ pub(crate) fn tally_on(level: u16, page: &Page, fields: &FieldList) -> Tally
 pub(crate) fn check_place<S: PageSource, L: Ledger>(
     walk: &mut Walk,
     source: &mut S,
-    space: &Space,
-    leaf: &FieldList,
-    node: &FieldList,
-    aim: Aim,
+    aim: &Aim,
     place: Place,
     next: Next,
     marks: &mut Marks,
     steps: &mut Steps<L>,
 ) -> Result<Tally, Halt>
-    requires audit { OfFile S.PageSource source.old (λ file. IsAuditOf file space.now) }
-    requires members { length marks.old ≡ space.now.size }
-    requires ready { CanWalk walk.old leaf.now node.now }
-    requires low { HoldsLow walk.old node.now place.cursor }
-    requires high { HoldsHigh walk.old node.now next }
-    ensures exact { OfFile S.PageSource source.old (λ file. Halts result
-        (PlaceInHand (index_of file aim.root leaf.now node.now) walk.old aim place next
-        (is_set marks.old (child_in_hand walk.old node.now place)))) }
-    ensures marked { IfOk result (λ _. GrowsBy marks.old marks.new (child_in_hand walk.old node.now place)) }
-    ensures tally { IfOk result (λ tally. OfFile S.PageSource source.old (λ file.
-        aim.level ≡ 0 → IsTally (page_of file (child_in_hand walk.old node.now place)) tally)) }
+    requires ready { IsReady S.PageSource source.old aim.now.tree walk.old marks.old }
+    requires low { HoldsLow walk.old aim.now.tree.node.now place.cursor }
+    requires high { HoldsHigh walk.old aim.now.tree.node.now next }
+    ensures exact { OfIndex S.PageSource source.old aim.now.tree (λ index. Halts result
+        (PlaceInHand index walk.old aim.now place next
+        (is_set marks.old (child_in_hand walk.old index.node place)))) }
+    ensures marked { IfOk result (λ _.
+        GrowsBy marks.old marks.new (child_in_hand walk.old aim.now.tree.node.now place)) }
+    ensures tally { IfOk result (λ tally. OfIndex S.PageSource source.old aim.now.tree (λ index.
+        aim.now.level ≡ 0 → IsTally (page_in index (child_in_hand walk.old index.node place)) tally)) }
     ensures most { IfOk result (λ tally. tally.live + tally.deleted ≤ 65536) }
-    ensures members { length marks.new ≡ length marks.old }
     ensures fewer { IfOk result (λ _. unmarked marks.new + 1 ≡ unmarked marks.old) }
     ensures parent { walk.new.parent ≡ walk.old.parent }
     ensures after { walk.new.after ≡ walk.old.after }
-    ensures room { HasSameRoom walk.old walk.new }
-    ensures keeps { HaltsOver S.PageSource source.old source.new result }
+    ensures stays { StaysReady S.PageSource source.old source.new walk.old walk.new marks.old marks.new result }
     ensures steps { steps.new ≤ steps.old + 1 }
 {
+    let node = aim.tree.node;
     let n = walk.low.child(&walk.parent, node);
     let stand = Stand {
         page: n,
@@ -109,11 +91,11 @@ pub(crate) fn check_place<S: PageSource, L: Ledger>(
         previous: place.previous,
         next: next_child(walk, node, next),
     };
-    if !is_place(space, marks, aim.segment, n) {
+    if !is_place(aim.tree.space, marks, aim.segment, n) {
         return Err(Halt::Broken(Rule::ChildPlace.at(place.cursor.number)));
     }
     source.fetch(n, &mut walk.child, steps)?;
-    let fields = fields_on(aim.level, leaf, node);
+    let fields = aim.tree.fields_on(aim.level);
     let low = low_of(stand.leftmost, place.cursor.origin);
     check_spot(walk, fields, node, stand, low, next)?;
     marks.mark(n);

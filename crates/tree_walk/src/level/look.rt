@@ -1,11 +1,12 @@
 //! The node pointer behind the one in hand.
 
 ghost use Rattle.std.specs.Prelude.{◌≡◌, ◌+◌, ◌≤◌, ◌↔◌, ℕ, IsTrue, IfSome, IfOk, OnOk, Err, None, length};
-ghost use Rattle.page_source.specs.Calls.{OfFile, HaltsOver};
+ghost use Rattle.page_source.specs.Calls.{HaltsOver};
 ghost use Rattle.page_source.specs.declared.rule.Fault.{Fault};
-ghost use Rattle.tree_walk.specs.Index.{Index, index_of, places};
+ghost use Rattle.tree_walk.specs.Index.{Index, places};
 ghost use Rattle.tree_walk.specs.Records.{IsRecord};
 ghost use Rattle.tree_walk.specs.Room.{HasSameRoom};
+ghost use Rattle.tree_walk.specs.Tree.{OfIndex};
 ghost use Rattle.tree_walk.specs.Walk.{Stands, Follows, FindsNext, IsAtPlace, HoldsLow, HoldsHigh, page_after};
 ghost use Rattle.tree_walk.specs.Walk.{origin_after, more_after};
 
@@ -55,17 +56,15 @@ pub(crate) fn read_high(walk: &mut Walk, node: &FieldList, next: Next) -> bool
 pub(crate) fn look<S: PageSource, L: Ledger>(
     walk: &mut Walk,
     source: &mut S,
-    leaf: &FieldList,
-    node: &FieldList,
-    aim: Aim,
+    aim: &Aim,
     place: Place,
     steps: &mut Steps<L>,
 ) -> Result<Next, Halt>
-    requires record { IsRecord walk.old.parent node.now place.cursor.origin }
-    requires at { OfFile S.PageSource source.old (λ file.
-        IsAtPlace (index_of file aim.root leaf.now node.now) aim place walk.old.parent) }
-    ensures exact { OfFile S.PageSource source.old (λ file. FindsNext (index_of file aim.root leaf.now node.now)
-        aim.depth place.j walk.old.parent walk.new.after result) }
+    requires record { IsRecord walk.old.parent aim.now.tree.node.now place.cursor.origin }
+    requires at { OfIndex S.PageSource source.old aim.now.tree (λ index.
+        IsAtPlace index aim.now place walk.old.parent) }
+    ensures exact { OfIndex S.PageSource source.old aim.now.tree (λ index.
+        FindsNext index aim.now.depth place.j walk.old.parent walk.new.after result) }
     ensures walk { walk.new ≡ record walk.old { after = walk.new.after } }
     ensures keeps { HaltsOver S.PageSource source.old source.new result }
     ensures spent { IfOk result (λ next. steps.new + more_after next ≤ steps.old + place.cursor.more) }

@@ -1,13 +1,11 @@
 //! The walk along one level, beside the level above it, by next fields.
 
-ghost use Rattle.std.specs.Prelude.{◌≡◌, ◌+◌, ◌*◌, ◌≤◌, [], length, slice_index_or, IfOk};
+ghost use Rattle.std.specs.Prelude.{◌≡◌, ◌+◌, ◌*◌, ◌≤◌, [], IfOk};
 ghost use Rattle.page_source.specs.Lists.{unmarked};
-ghost use Rattle.page_source.specs.Calls.{OfFile, HaltsOver};
 ghost use Rattle.page_source.specs.Checks.{Halts};
 ghost use Rattle.space_audit.specs.Marks.{is_set, Marked};
-ghost use Rattle.space_audit.specs.Space.{IsAuditOf};
-ghost use Rattle.tree_walk.specs.Index.{index_of, pages_at, children, places};
-ghost use Rattle.tree_walk.specs.Room.{CanWalk, HasSameRoom};
+ghost use Rattle.tree_walk.specs.Index.{children, places};
+ghost use Rattle.tree_walk.specs.Tree.{OfIndex, IsReady, StaysReady};
 ghost use Rattle.tree_walk.specs.TreeChecks.{LevelCheck};
 ghost use Rattle.tree_walk.specs.Walk.{IsAtLevel, IsLevel};
 
@@ -16,22 +14,22 @@ mod here;
 mod look;
 
 use crate::cursor::{Cursor, FIL_NULL};
+use crate::index::Tree;
 use crate::place::INFIMUM;
 use crate::place::tally::{NONE, Tally};
 use crate::walk::Walk;
-pub(crate) use check::{fields_on, tally_on};
-use column_values::FieldList;
+pub(crate) use check::tally_on;
 use compact_record::next_origin;
 use here::check_here;
 use look::{advance, read_low};
 use page_source::{Halt, PageSource, Steps};
-use space_audit::{Marks, Space};
+use space_audit::Marks;
 use std::sync::ledger::Ledger;
 
-/// The level that is walked: how deep the level above it lies below the root, and what is asked of its pages.
-#[derive(Clone, Copy, Debug, PartialEq, Eq)]
-pub(crate) struct Aim {
-    pub root: u32,
+/// The level that is walked: its tree, how deep the level above it lies below the root, and what is asked of its pages.
+#[derive(Clone, Copy)]
+pub(crate) struct Aim<'a> {
+    pub tree: Tree<'a>,
     pub index_id: u64,
     pub segment: u32,
     pub level: u16,
@@ -72,39 +70,30 @@ fn sum(a: Tally, b: Tally) -> Tally
 pub(crate) fn walk_level<S: PageSource, L: Ledger>(
     walk: &mut Walk,
     source: &mut S,
-    space: &Space,
-    leaf: &FieldList,
-    node: &FieldList,
-    aim: Aim,
+    aim: &Aim,
     upper: Level,
     marks: &mut Marks,
     steps: &mut Steps<L>,
 ) -> Result<Level, Halt>
-    requires audit { OfFile S.PageSource source.old (λ file. IsAuditOf file space.now) }
-    requires members { length marks.old ≡ space.now.size }
-    requires ready { CanWalk walk.old leaf.now node.now }
+    requires ready { IsReady S.PageSource source.old aim.now.tree walk.old marks.old }
     requires some { 1 ≤ upper.pages }
-    requires at { OfFile S.PageSource source.old (λ file.
-        IsAtLevel (index_of file aim.root leaf.now node.now) aim upper) }
-    ensures exact { OfFile S.PageSource source.old (λ file. Halts result
-        (LevelCheck (index_of file aim.root leaf.now node.now) aim.level (is_set marks.old) []
-        (places (index_of file aim.root leaf.now node.now) aim.depth))) }
-    ensures marked { IfOk result (λ _. OfFile S.PageSource source.old (λ file.
-        Marked (is_set marks.old) marks.new (children (index_of file aim.root leaf.now node.now)
-        (places (index_of file aim.root leaf.now node.now) aim.depth)))) }
-    ensures level { IfOk result (λ row. OfFile S.PageSource source.old (λ file.
-        IsLevel (index_of file aim.root leaf.now node.now) aim row)) }
-    ensures members { length marks.new ≡ length marks.old }
-    ensures room { HasSameRoom walk.old walk.new }
-    ensures keeps { HaltsOver S.PageSource source.old source.new result }
+    requires at { OfIndex S.PageSource source.old aim.now.tree (λ index. IsAtLevel index aim.now upper) }
+    ensures exact { OfIndex S.PageSource source.old aim.now.tree (λ index. Halts result
+        (LevelCheck index aim.now.level (is_set marks.old) [] (places index aim.now.depth))) }
+    ensures marked { IfOk result (λ _. OfIndex S.PageSource source.old aim.now.tree (λ index.
+        Marked (is_set marks.old) marks.new (children index (places index aim.now.depth)))) }
+    ensures level { IfOk result (λ row. OfIndex S.PageSource source.old aim.now.tree (λ index.
+        IsLevel index aim.now row)) }
+    ensures stays { StaysReady S.PageSource source.old source.new walk.old walk.new marks.old marks.new result }
     ensures some { IfOk result (λ row. 1 ≤ row.pages) }
     ensures fewer { IfOk result (λ row. row.pages + unmarked marks.new ≤ unmarked marks.old) }
     ensures spent { IfOk result (λ row. steps.new + 2 * unmarked marks.new + row.pages
         ≤ steps.old + 2 * unmarked marks.old + upper.pages) }
     ensures steps { steps.new ≤ steps.old + 2 * unmarked marks.old + upper.pages + 2 }
 {
+    let node = aim.tree.node;
     // as many places as pages, at the most
-    let _size = space.size();
+    let _size = aim.tree.space.size();
     source.fetch(upper.first, &mut walk.parent, steps)?;
     let origin = next_origin(&walk.parent, INFIMUM);
     let cursor = Cursor {
@@ -123,7 +112,7 @@ pub(crate) fn walk_level<S: PageSource, L: Ledger>(
     'places: loop {
         read_low(walk, node, place.cursor)?;
         let at = walk.low.child(&walk.parent, node);
-        let found = check_here(walk, source, space, leaf, node, aim, place, marks, steps)?;
+        let found = check_here(walk, source, aim, place, marks, steps)?;
         tally = sum(tally, found.tally);
         let j = place.j + 1;
         match advance(walk, found.next) {

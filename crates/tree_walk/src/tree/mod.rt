@@ -16,6 +16,7 @@ ghost use Rattle.tree_walk.specs.Leaf.{IsWalked};
 pub(crate) mod root;
 
 use crate::ends::TreeEnds;
+use crate::index::Tree;
 use crate::level::{Aim, Level, walk_level};
 use crate::walk::Walk;
 use column_values::FieldList;
@@ -72,7 +73,13 @@ pub fn walk_tree<S: PageSource, L: Ledger>(
         ≤ steps.old + 2 * unmarked marks.old) }
     ensures steps { steps.new ≤ steps.old + 2 * unmarked marks.old + 2 }
 {
-    let top = check_root(walk, source, space, root, leaf, node, named, marks, steps)?;
+    let tree = Tree {
+        space,
+        root,
+        leaf,
+        node,
+    };
+    let top = check_root(walk, source, &tree, named, marks, steps)?;
     let mut row = Level {
         first: root,
         pages: 1,
@@ -81,13 +88,13 @@ pub fn walk_tree<S: PageSource, L: Ledger>(
     for depth in 0..top.level {
         let level = top.level - depth - 1;
         let aim = Aim {
-            root,
+            tree,
             index_id: top.index_id,
             segment: segment_of(level, top),
             level,
             depth,
         };
-        row = walk_level(walk, source, space, leaf, node, aim, row, marks, steps)?;
+        row = walk_level(walk, source, &aim, row, marks, steps)?;
     }
     Ok(TreeEnds::of(top, row))
 }

@@ -2,23 +2,21 @@
 
 ghost use Rattle.std.specs.Prelude.{◌≡◌, ◌+◌, ◌<◌, ◌≤◌, ◌↔◌, [], ◌∷◌, ℕ, List, length, IsTrue, IfOk};
 ghost use Rattle.page_source.specs.Lists.{unmarked};
-ghost use Rattle.page_source.specs.Calls.{OfFile, HaltsOver};
 ghost use Rattle.page_source.specs.Checks.{Halts};
 ghost use Rattle.space_audit.specs.Marks.{is_set, Marked};
 ghost use Rattle.space_audit.specs.Owners.{IsUsedBy};
 ghost use Rattle.space_audit.specs.Space.{IsAuditOf};
-ghost use Rattle.tree_walk.specs.Index.{index_of};
-ghost use Rattle.tree_walk.specs.Room.{CanWalk, HasSameRoom};
 ghost use Rattle.tree_walk.specs.Segments.{segment_in, AreNewSegments};
+ghost use Rattle.tree_walk.specs.Tree.{OfIndex, IsReady, StaysReady};
 ghost use Rattle.tree_walk.specs.TreeChecks.{RootCheck};
 ghost use Rattle.tree_walk.specs.Walk.{IsTop};
 
 use crate::cursor::{FIL_NULL, Next};
-use crate::level::{fields_on, tally_on};
+use crate::index::Tree;
+use crate::level::tally_on;
 use crate::place::tally::Tally;
 use crate::place::{INDEX_ID, LEVEL, Stand, check_spot, is_root, is_used_by};
 use crate::walk::Walk;
-use column_values::FieldList;
 use page_source::{Halt, Page, PageSource, Rule, Steps, read_be};
 use space_audit::{Marks, Space};
 use space_header::Address;
@@ -88,32 +86,25 @@ fn are_new(space: &Space, named: &Marks, page: &Page, root: u32, leaf: u32, top:
 pub(crate) fn check_root<S: PageSource, L: Ledger>(
     walk: &mut Walk,
     source: &mut S,
-    space: &Space,
-    root: u32,
-    leaf: &FieldList,
-    node: &FieldList,
+    tree: &Tree,
     named: &mut Marks,
     marks: &mut Marks,
     steps: &mut Steps<L>,
 ) -> Result<Top, Halt>
-    requires audit { OfFile S.PageSource source.old (λ file. IsAuditOf file space.now) }
-    requires members { length marks.old ≡ space.now.size }
-    requires segments { length named.old ≡ length space.now.segments }
-    requires ready { CanWalk walk.old leaf.now node.now }
-    ensures exact { OfFile S.PageSource source.old (λ file. Halts result
-        (RootCheck (index_of file root leaf.now node.now) (is_set marks.old) (is_set named.old))) }
-    ensures top { IfOk result (λ top. OfFile S.PageSource source.old (λ file.
-        IsTop (index_of file root leaf.now node.now) top)) }
+    requires ready { IsReady S.PageSource source.old tree.now walk.old marks.old }
+    requires segments { length named.old ≡ length tree.now.space.now.segments }
+    ensures exact { OfIndex S.PageSource source.old tree.now (λ index. Halts result
+        (RootCheck index (is_set marks.old) (is_set named.old))) }
+    ensures top { IfOk result (λ top. OfIndex S.PageSource source.old tree.now (λ index. IsTop index top)) }
     ensures low { IfOk result (λ top. top.level ≤ 50) }
-    ensures marked { IfOk result (λ _. Marked (is_set marks.old) marks.new (root ∷ [])) }
+    ensures marked { IfOk result (λ _. Marked (is_set marks.old) marks.new (tree.now.root ∷ [])) }
     ensures named { IfOk result (λ top. Marked (is_set named.old) named.new (top.leaf ∷ top.upper ∷ [])) }
-    ensures members { length marks.new ≡ length marks.old }
     ensures segments { length named.new ≡ length named.old }
     ensures fewer { IfOk result (λ _. unmarked marks.new + 1 ≡ unmarked marks.old) }
-    ensures room { HasSameRoom walk.old walk.new }
-    ensures keeps { HaltsOver S.PageSource source.old source.new result }
+    ensures stays { StaysReady S.PageSource source.old source.new walk.old walk.new marks.old marks.new result }
     ensures steps { steps.new ≤ steps.old + 1 }
 {
+    let Tree { space, root, .. } = *tree;
     if !is_root(space, marks, root) {
         return Err(Halt::Broken(Rule::RootPlace.at(root)));
     }
@@ -134,8 +125,8 @@ pub(crate) fn check_root<S: PageSource, L: Ledger>(
         previous: FIL_NULL,
         next: FIL_NULL,
     };
-    let fields = fields_on(level, leaf, node);
-    check_spot(walk, fields, node, stand, None, Next::End)?;
+    let fields = tree.fields_on(level);
+    check_spot(walk, fields, tree.node, stand, None, Next::End)?;
     marks.mark(root);
     named.mark(lowest);
     named.mark(upper);

@@ -3,7 +3,7 @@ use Rattle.std.proofs.lemmas.Result.{err_from_is_err_and}
 use Rattle.compact_record.specs.Keys.{child_at}
 use Rattle.page_source.proofs.Told.{told2, told5}
 use Rattle.tree_walk.specs.declared.walk.Walk.{Walk}
-use Rattle.tree_walk.specs.Index.{index_of}
+use Rattle.tree_walk.specs.Tree.{index_in}
 use Rattle.tree_walk.proofs.Lists.{unmarked_most}
 use Rattle.tree_walk.proofs.Rooms.{room_join}
 use Rattle.tree_walk.proofs.Steps.{state_first, first_is_record, state_more, level_halts_here, level_holds}
@@ -14,7 +14,7 @@ pub returns-in_err-read_low-clause-exact : goal.returns-in_err-read_low-clause-e
 returns-in_err-read_low-clause-exact g c =
     told2 (g.S.PageSource.content c.args.source.now)
     (λ file a p. absurd (c.in_err-read_low.ensures.err c.in_err-read_low.field-0.0 refl
-    (first_is_record (index_of file c.args.aim.root c.args.leaf.now c.args.node.now) c.args.aim c.args.upper
+    (first_is_record (index_in file c.args.aim.now.tree) c.args.aim.now c.args.upper
     c.next_origin-origin.result c.fetch.new.page a p c.next_origin-origin.ensures.value)))
     c.requires.at c.in_ok-fetch.ensures.bytes
 
@@ -29,7 +29,7 @@ places-init g c =
       spent = omega (arith, c.in_ok-fetch.ensures.step, c.requires.some);
       told =
           rw ep (told2 (g.S.PageSource.content c.args.source.now)
-          (λ file a p. state_first (index_of file c.args.aim.root c.args.leaf.now c.args.node.now) c.args.aim
+          (λ file a p. state_first (index_in file c.args.aim.now.tree) c.args.aim.now
           c.args.upper c.next_origin-origin.result c.fetch.new.page a p c.next_origin-origin.ensures.value
           c.args.marks.now)
           c.requires.at c.in_ok-fetch.ensures.bytes);
@@ -47,7 +47,7 @@ returns-in_err-found-clause-exact g c =
     let x = rw c.places.invariant.same at c.in_err-found.ensures.exact in
     rw (r.1, r.2)
     (told2 (g.S.PageSource.content c.args.source.now)
-    (λ file s x. level_halts_here (index_of file c.args.aim.root c.args.leaf.now c.args.node.now) c.args.aim
+    (λ file s x. level_halts_here (index_in file c.args.aim.now.tree) c.args.aim.now
     c.args.marks.now c.places.marks c.places.place c.places.walk.parent c.places.tally s
     c.in_err-found.field-0.0 x)
     c.places.invariant.told x)
@@ -61,10 +61,10 @@ returns-in-None-clause-exact g c =
     let t = rw i.same at c.in_ok-found.ensures.tally in
     let f = rw i.same at c.in_ok-found.ensures.follows in
     told5 o
-    (λ file s x m t f. level_holds (index_of file c.args.aim.root c.args.leaf.now c.args.node.now) c.args.aim
+    (λ file s x m t f. level_holds (index_in file c.args.aim.now.tree) c.args.aim.now
     c.args.marks.now c.places.marks c.places.place c.places.walk.parent c.places.tally s c.check_here.new.marks
     x m c.in_ok-found.found.tally c.sum-tally.result t c.sum-tally.ensures.live c.sum-tally.ensures.deleted
-    (c.in-None.ensures.end refl (index_of file c.args.aim.root c.args.leaf.now c.args.node.now) c.args.aim.depth
+    (c.in-None.ensures.end refl (index_in file c.args.aim.now.tree) c.args.aim.now.depth
     c.places.place.j f))
     i.told x m t f
 
@@ -77,10 +77,10 @@ returns-in-None-clause-marked g c =
     let t = rw i.same at c.in_ok-found.ensures.tally in
     let f = rw i.same at c.in_ok-found.ensures.follows in
     told5 o
-    (λ file s x m t f. level_marked (index_of file c.args.aim.root c.args.leaf.now c.args.node.now) c.args.aim
+    (λ file s x m t f. level_marked (index_in file c.args.aim.now.tree) c.args.aim.now
     c.args.marks.now c.places.marks c.places.place c.places.walk.parent c.places.tally s c.check_here.new.marks
     x m c.in_ok-found.found.tally c.sum-tally.result t c.sum-tally.ensures.live c.sum-tally.ensures.deleted
-    (c.in-None.ensures.end refl (index_of file c.args.aim.root c.args.leaf.now c.args.node.now) c.args.aim.depth
+    (c.in-None.ensures.end refl (index_in file c.args.aim.now.tree) c.args.aim.now.depth
     c.places.place.j f))
     i.told x m t f
 
@@ -94,18 +94,19 @@ returns-in-None-clause-level g c =
     let f = rw i.same at c.in_ok-found.ensures.follows in
     let ep : c.read_low.new.walk.parent ≡ c.fetch.new.page = ap (λ (w : Walk). w.parent)
     c.in_ok-read_low.ensures.same in
-    let q : c.child-leftmost.result ≡ child_at c.fetch.new.page c.args.node.now c.next_origin-origin.result =
-    c.child-leftmost.ensures ∙ ap (λ page. child_at page c.args.node.now c.read_low.new.walk.low.origin) ep ∙ ap
-    (child_at c.fetch.new.page c.args.node.now) c.in_ok-read_low.ensures.ok.stands in
-    let l = told2 o (λ file a p. leftmost_is (index_of file c.args.aim.root c.args.leaf.now c.args.node.now)
-    c.args.aim c.args.upper c.next_origin-origin.result c.fetch.new.page a p c.next_origin-origin.ensures.value
+    let node = c.args.aim.now.tree.node.now in
+    let q : c.child-leftmost.result ≡ child_at c.fetch.new.page node c.next_origin-origin.result =
+    c.child-leftmost.ensures ∙ ap (λ page. child_at page node c.read_low.new.walk.low.origin) ep ∙ ap
+    (child_at c.fetch.new.page node) c.in_ok-read_low.ensures.ok.stands in
+    let l = told2 o (λ file a p. leftmost_is (index_in file c.args.aim.now.tree)
+    c.args.aim.now c.args.upper c.next_origin-origin.result c.fetch.new.page a p c.next_origin-origin.ensures.value
     c.child-leftmost.result q)
     c.requires.at c.in_ok-fetch.ensures.bytes in
     let v = told5 o
-    (λ file s x m t f. level_is (index_of file c.args.aim.root c.args.leaf.now c.args.node.now) c.args.aim
+    (λ file s x m t f. level_is (index_in file c.args.aim.now.tree) c.args.aim.now
     c.args.marks.now c.places.marks c.places.place c.places.walk.parent c.places.tally s c.check_here.new.marks
     x m c.in_ok-found.found.tally c.sum-tally.result t c.sum-tally.ensures.live c.sum-tally.ensures.deleted
-    (c.in-None.ensures.end refl (index_of file c.args.aim.root c.args.leaf.now c.args.node.now) c.args.aim.depth
+    (c.in-None.ensures.end refl (index_in file c.args.aim.now.tree) c.args.aim.now.depth
     c.places.place.j f))
     i.told x m t f in
     told2 o (λ file v l. v c.child-leftmost.result l) v l
@@ -120,30 +121,31 @@ places-preserved g c =
     let f = rw i.same at c.in_ok-found.ensures.follows in
     let ep : c.read_low-in-places.new.walk.parent ≡ c.places.walk.parent = ap (λ (w : Walk). w.parent)
     c.in_ok-read_low-2.ensures.same in
-    let q : c.child-at.result ≡ child_at c.places.walk.parent c.args.node.now c.places.place.cursor.origin =
-    c.child-at.ensures ∙ ap (λ page. child_at page c.args.node.now c.read_low-in-places.new.walk.low.origin) ep ∙ ap
-    (child_at c.places.walk.parent c.args.node.now) c.in_ok-read_low-2.ensures.ok.stands in
-    let k = c.in_ok-found.ensures.keeps.cause.later in
+    let node = c.args.aim.now.tree.node.now in
+    let q : c.child-at.result ≡ child_at c.places.walk.parent node c.places.place.cursor.origin =
+    c.child-at.ensures ∙ ap (λ page. child_at page node c.read_low-in-places.new.walk.low.origin) ep ∙ ap
+    (child_at c.places.walk.parent node) c.in_ok-read_low-2.ensures.ok.stands in
+    let k = c.in_ok-found.ensures.stays.over.cause.later in
     let n = c.in_ok-found.ensures.fewer in
     let most = c.in_ok-found.ensures.most in
     record {
-      same = c.in_ok-found.ensures.keeps.same ∙ i.same;
-      members = c.in_ok-found.ensures.members ∙ i.members;
+      same = c.in_ok-found.ensures.stays.over.same ∙ i.same;
+      members = c.in_ok-found.ensures.stays.members ∙ i.members;
       later = omega (arith, k, i.later);
       spent = omega (arith, n, i.spent, c.in_ok-found.ensures.spent, c.in-Some.ensures.more);
       told =
           told5 o
-          (λ file s x m t f. state_more (index_of file c.args.aim.root c.args.leaf.now c.args.node.now) c.args.aim
+          (λ file s x m t f. state_more (index_in file c.args.aim.now.tree) c.args.aim.now
           c.args.marks.now c.places.marks c.places.place c.places.walk.parent c.places.tally s
           c.check_here.new.marks x m c.in_ok-found.found.tally c.sum-tally.result t c.sum-tally.ensures.live
           c.sum-tally.ensures.deleted
           c.in-Some.cursor c.advance.new.walk.parent c.child-at.result
-          (c.in-Some.ensures.stands (index_of file c.args.aim.root c.args.leaf.now c.args.node.now)
-          c.args.aim.depth c.places.place.j f) q)
+          (c.in-Some.ensures.stands (index_in file c.args.aim.now.tree)
+          c.args.aim.now.depth c.places.place.j f) q)
           i.told x m t f;
       room = room_join _ _ _ i.room (room_join _ _ _ c.in_ok-read_low-2.ensures.room
-          (room_join _ _ _ c.in_ok-found.ensures.room c.in-Some.ensures.room));
-      few = omega (arith, n, i.few, c.in_ok-found.ensures.members);
+          (room_join _ _ _ c.in_ok-found.ensures.stays.room c.in-Some.ensures.room));
+      few = omega (arith, n, i.few, c.in_ok-found.ensures.stays.members);
       fewer = omega (arith, n, i.fewer);
       live = omega (arith, i.live, c.sum-tally.ensures.live, most);
       deleted = omega (arith, i.deleted, c.sum-tally.ensures.deleted, most);

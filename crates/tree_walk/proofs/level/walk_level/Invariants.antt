@@ -1,6 +1,6 @@
 use Rattle.std.proofs.Common.{◌≡◌, ◌+◌, ◌*◌, ◌≤◌, length, IfSome}
 use Rattle.page_source.specs.Lists.{unmarked}
-use Rattle.tree_walk.specs.Index.{index_of}
+use Rattle.tree_walk.specs.Tree.{index_in}
 use Rattle.tree_walk.specs.Room.{HasSameRoom}
 use Rattle.tree_walk.specs.Walk.{LevelState}
 use Rattle.tree_walk.proofs.level.walk_level.Given as goal
@@ -14,7 +14,7 @@ invariant-places g l =
       later : g.S.PageSource.faults l.fn.source ≤ g.S.PageSource.faults l.source;
       spent : l.steps + 2 * unmarked l.marks + l.place.j + l.place.cursor.more ≤ l.fn.steps + 2 * unmarked
           l.fn.marks + l.fn.upper.pages;
-      told : IfSome (content l.fn.source) (λ file. LevelState (index_of file l.aim.root l.leaf l.node) l.aim
+      told : IfSome (content l.fn.source) (λ file. LevelState (index_in file l.aim.tree) l.aim
           l.fn.marks l.marks l.place l.walk.parent l.tally);
       room : HasSameRoom l.fn.walk l.walk;
       few : l.place.j + unmarked l.marks ≤ length l.marks;

@@ -18,9 +18,9 @@ returns-in_err-top-clause-exact g c =
 
 pub loop-depth-init : goal.loop-depth-init
 loop-depth-init g c = record {
-  same = c.in_ok-top.ensures.keeps.same;
-  members = c.in_ok-top.ensures.members;
-  later = c.in_ok-top.ensures.keeps.cause.later;
+  same = c.in_ok-top.ensures.stays.over.same;
+  members = c.in_ok-top.ensures.stays.members;
+  later = c.in_ok-top.ensures.stays.over.cause.later;
   spent = let a = c.in_ok-top.ensures.fewer in let b = c.in_ok-top.ensures.steps in omega arith;
   told =
       told2 (g.S.PageSource.content c.args.source.now)
@@ -29,7 +29,7 @@ loop-depth-init g c = record {
       c.in_ok-top.ensures.top c.in_ok-top.ensures.exact;
   fewer = let a = c.in_ok-top.ensures.fewer in omega arith;
   some = omega arith;
-  room = c.in_ok-top.ensures.room;
+  room = c.in_ok-top.ensures.stays.room;
 }
 
 pub walk_level-requires-clause-at : goal.walk_level-requires-clause-at
@@ -39,7 +39,7 @@ walk_level-requires-clause-at g c =
     (λ file a t. tree_at (index_of file c.args.root c.args.leaf.now c.args.node.now) c.in_ok-top.top
     c.loop-depth.depth c.args.marks.now c.args.named.now c.loop-depth.marks c.loop-depth.row t c.args.space.now
     a c.loop-depth-test.true
-    c.args.root (c.in_ok-top.top.level - c.loop-depth.depth - 1) c.segment_of.result c.segment_of.ensures)
+    _ (c.in_ok-top.top.level - c.loop-depth.depth - 1) c.segment_of.result c.segment_of.ensures)
     c.requires.audit c.loop-depth.invariant.told)
 
 pub returns-in_err-row-clause-exact : goal.returns-in_err-row-clause-exact
@@ -51,15 +51,7 @@ returns-in_err-row-clause-exact g c =
     (told2 (g.S.PageSource.content c.args.source.now)
     (λ file t x. tree_halts_at (index_of file c.args.root c.args.leaf.now c.args.node.now) c.in_ok-top.top
     c.loop-depth.depth c.args.marks.now c.args.named.now c.loop-depth.marks c.loop-depth.row t
-    (record {
-      root = c.args.root;
-      index_id = c.in_ok-top.top.index_id;
-      segment = c.segment_of.result;
-      level =
-          c.in_ok-top.top.level - c.loop-depth.depth - 1;
-      depth = c.loop-depth.depth;
-    }) refl (omega arith)
-    c.in_err-row.field-0.0 x)
+    (c.in_ok-top.top.level - c.loop-depth.depth - 1) (omega arith) c.in_err-row.field-0.0 x)
     c.loop-depth.invariant.told x)
 
 pub loop-depth-preserved : goal.loop-depth-preserved
@@ -69,22 +61,15 @@ loop-depth-preserved g c =
     let l = rw c.loop-depth.invariant.same at c.in_ok-row.ensures.level in
     let h = c.loop-depth-test.true in
     record {
-      same = c.in_ok-row.ensures.keeps.same ∙ c.loop-depth.invariant.same;
-      members = c.in_ok-row.ensures.members ∙ c.loop-depth.invariant.members;
-      later = let a = c.in_ok-row.ensures.keeps.cause.later in let b = c.loop-depth.invariant.later in omega arith;
+      same = c.in_ok-row.ensures.stays.over.same ∙ c.loop-depth.invariant.same;
+      members = c.in_ok-row.ensures.stays.members ∙ c.loop-depth.invariant.members;
+      later = let a = c.in_ok-row.ensures.stays.over.cause.later in let b = c.loop-depth.invariant.later in omega arith;
       spent = let a = c.in_ok-row.ensures.spent in let b = c.loop-depth.invariant.spent in omega arith;
       told =
           told4 (g.S.PageSource.content c.args.source.now)
           (λ file t x m l. tree_more (index_of file c.args.root c.args.leaf.now c.args.node.now) c.in_ok-top.top
           c.loop-depth.depth c.args.marks.now c.args.named.now c.loop-depth.marks c.loop-depth.row t
-          (record {
-            root = c.args.root;
-            index_id = c.in_ok-top.top.index_id;
-            segment = c.segment_of.result;
-            level = c.in_ok-top.top.level - c.loop-depth.depth - 1;
-            depth = c.loop-depth.depth;
-          }) refl
-          (omega arith) c.walk_level.new.marks c.in_ok-row.row x m l)
+          _ c.in_ok-row.row l refl (omega arith) c.walk_level.new.marks x m)
           c.loop-depth.invariant.told x m l;
       fewer =
           let a = c.in_ok-row.ensures.fewer in
@@ -92,7 +77,7 @@ loop-depth-preserved g c =
           let s = c.loop-depth.invariant.some in
           omega arith;
       some = c.in_ok-row.ensures.some;
-      room = room_join _ _ _ c.loop-depth.invariant.room c.in_ok-row.ensures.room;
+      room = room_join _ _ _ c.loop-depth.invariant.room c.in_ok-row.ensures.stays.room;
     }
 
 pub returns-clause-exact : goal.returns-clause-exact

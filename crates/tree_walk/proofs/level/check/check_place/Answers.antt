@@ -10,15 +10,16 @@ use Rattle.tree_walk.proofs.level.check.check_place.Goals as goal
 pub fetch-requires : goal.fetch-requires
 fetch-requires g c =
     told1 (g.S.PageSource.content c.args.source.now)
-    (λ file a. place_within file c.args.space.now _ c.args.aim.segment c.child-n.result a
-    ((c.if-not-is_place.ensures.place file a).0 refl)) c.requires.audit
+    (λ file a. place_within file c.args.aim.now.tree.space.now _ c.args.aim.now.segment c.child-n.result a
+    ((c.if-not-is_place.ensures.place file a).0 refl)) c.requires.ready.audit
 
 pub returns-clause-tally : goal.returns-clause-tally
 returns-clause-tally g c =
     told1 (g.S.PageSource.content c.args.source.now)
     (λ file p z.
     let e = ap (λ (w : Walk). w.child) c.in_ok-check_spot.ensures.same in
-    let n : c.child-n.result ≡ child_in_hand c.args.walk.now c.args.node.now c.args.place = c.child-n.ensures ∙ ap
-    (child_at c.args.walk.now.parent c.args.node.now) c.requires.low.stands in
+    let node = c.args.aim.now.tree.node.now in
+    let n : c.child-n.result ≡ child_in_hand c.args.walk.now node c.args.place = c.child-n.ensures ∙ ap
+    (child_at c.args.walk.now.parent node) c.requires.low.stands in
     subst (λ page. IsTally page c.tally_on.result) (e ∙ (p ∙ ap (page_of file) n)) (c.tally_on.ensures.exact z))
     c.in_ok-fetch.ensures.bytes

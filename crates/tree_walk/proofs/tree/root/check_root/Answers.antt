@@ -12,8 +12,9 @@ use Rattle.tree_walk.proofs.tree.root.check_root.Goals as goal
 pub fetch-requires : goal.fetch-requires
 fetch-requires g c =
     told1 (g.S.PageSource.content c.args.source.now)
-    (λ file a. root_within file c.args.space.now _ c.args.root a ((c.if-not-is_root.ensures.place file a).0 refl))
-    c.requires.audit
+    (λ file a. root_within file c.args.tree.now.space.now _ c.args.tree.now.root a
+    ((c.if-not-is_root.ensures.place file a).0 refl))
+    c.requires.ready.audit
 
 pub returns-then-not-are_new-clause-exact : goal.returns-then-not-are_new-clause-exact
 returns-then-not-are_new-clause-exact g c =
@@ -21,14 +22,14 @@ returns-then-not-are_new-clause-exact g c =
     (λ file a p. inr (
       (c.if-not-is_root.ensures.place file a).0 refl,
       inl (
-        iff_false (new_iff file c.args.space.now c.args.root c.args.leaf.now c.args.node.now c.fetch.new.page
+        iff_false (new_iff file c.args.tree.now c.fetch.new.page
             (is_set c.args.named.now) c.segment_in-lowest.result c.segment_in-upper.result
             a p c.segment_in-lowest.ensures c.segment_in-upper.ensures c.are_new.result (c.are_new.ensures.told file a))
             c.if-not-are_new.true,
         c.at-then-not-are_new.ensures,
       ),
     ))
-    c.requires.audit c.in_ok-fetch.ensures.bytes
+    c.requires.ready.audit c.in_ok-fetch.ensures.bytes
 
 pub returns-in_err-check_spot-clause-exact : goal.returns-in_err-check_spot-clause-exact
 returns-in_err-check_spot-clause-exact g c =
@@ -38,18 +39,18 @@ returns-in_err-check_spot-clause-exact g c =
     (λ file a p. inr (
       (c.if-not-is_root.ensures.place file a).0 refl,
       inr (
-        (new_iff file c.args.space.now c.args.root c.args.leaf.now c.args.node.now c.fetch.new.page
+        (new_iff file c.args.tree.now c.fetch.new.page
             (is_set c.args.named.now) c.segment_in-lowest.result c.segment_in-upper.result
             a p c.segment_in-lowest.ensures c.segment_in-upper.ensures c.are_new.result
             (c.are_new.ensures.told file a)).0
             c.if-not-are_new.false,
-        spot_root file c.args.root c.args.leaf.now c.args.node.now c.fields_on-fields.result.now c.fetch.new.page
+        spot_root file c.args.tree.now c.fields_on-fields.result.now c.fetch.new.page
             c.read_be-level.result c.read_be-id.result p c.read_be-level.ensures.number c.read_be-id.ensures.number
             c.fields_on-fields.ensures (Some c.in_err-check_spot.field-0.0)
             c.in_err-check_spot.ensures.exact,
       ),
     ))
-    c.requires.audit c.in_ok-fetch.ensures.bytes)
+    c.requires.ready.audit c.in_ok-fetch.ensures.bytes)
 
 pub returns-clause-exact : goal.returns-clause-exact
 returns-clause-exact g c =
@@ -57,34 +58,34 @@ returns-clause-exact g c =
     (λ file a p. (
       (c.if-not-is_root.ensures.place file a).0 refl,
       (
-        (new_iff file c.args.space.now c.args.root c.args.leaf.now c.args.node.now c.fetch.new.page
+        (new_iff file c.args.tree.now c.fetch.new.page
             (is_set c.args.named.now) c.segment_in-lowest.result c.segment_in-upper.result
             a p c.segment_in-lowest.ensures c.segment_in-upper.ensures c.are_new.result
             (c.are_new.ensures.told file a)).0
             c.if-not-are_new.false,
-        spot_root file c.args.root c.args.leaf.now c.args.node.now c.fields_on-fields.result.now c.fetch.new.page
+        spot_root file c.args.tree.now c.fields_on-fields.result.now c.fetch.new.page
             c.read_be-level.result c.read_be-id.result p c.read_be-level.ensures.number c.read_be-id.ensures.number
             c.fields_on-fields.ensures None
             c.in_ok-check_spot.ensures.exact,
       ),
     ))
-    c.requires.audit c.in_ok-fetch.ensures.bytes
+    c.requires.ready.audit c.in_ok-fetch.ensures.bytes
 
 pub returns-clause-top : goal.returns-clause-top
 returns-clause-top g c =
     let e : c.check_spot.new.walk.child ≡ c.fetch.new.page = ap (λ (w : Walk). w.child)
     c.in_ok-check_spot.ensures.same in
     told2 (g.S.PageSource.content c.args.source.now)
-    (λ file a p. top_of file c.args.root c.args.leaf.now c.args.node.now c.fields_on-fields.result.now
+    (λ file a p. top_of file c.args.tree.now c.fields_on-fields.result.now
     c.fetch.new.page c.read_be-level.result c.read_be-id.result p c.read_be-level.ensures.number
     c.read_be-id.ensures.number c.fields_on-fields.ensures
     c.segment_in-lowest.result c.segment_in-upper.result
-    (leaf_is file c.args.space.now c.args.root c.args.leaf.now c.args.node.now c.fetch.new.page
+    (leaf_is file c.args.tree.now c.fetch.new.page
     (is_set c.args.named.now) c.segment_in-lowest.result c.segment_in-upper.result
     a p c.segment_in-lowest.ensures c.segment_in-upper.ensures)
-    (top_is file c.args.space.now c.args.root c.args.leaf.now c.args.node.now c.fetch.new.page
+    (top_is file c.args.tree.now c.fetch.new.page
     (is_set c.args.named.now) c.segment_in-lowest.result c.segment_in-upper.result
     a p c.segment_in-lowest.ensures c.segment_in-upper.ensures)
     c.tally_on-tally.result (λ z. subst (λ page. IsTally page c.tally_on-tally.result) e
     (c.tally_on-tally.ensures.exact z)))
-    c.requires.audit c.in_ok-fetch.ensures.bytes
+    c.requires.ready.audit c.in_ok-fetch.ensures.bytes
