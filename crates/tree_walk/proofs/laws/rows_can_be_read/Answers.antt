@@ -1,4 +1,4 @@
-use Rattle.std.proofs.Common.{ℕ, suc, ◌+◌, ◌<◌, List, [], ◌∷◌, length, get_or, All, arith}
+use Rattle.std.proofs.Common.{suc, List, [], ◌∷◌, get_or, All, arith}
 use Rattle.std.specs.List.{flat_map}
 use Rattle.std.proofs.lemmas.List.Elements.{All-map, All-nil, All-append}
 use Rattle.index_page.specs.Header.{records_of}
