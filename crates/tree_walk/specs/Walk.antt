@@ -1,5 +1,5 @@
 -- A walk along the pointers of a level by next fields.
-use Rattle.std.specs.Prelude.{◌≡◌, ◌==◌, if◌then◌else◌, [], ◌∷◌, ◌++◌, Bool, false, ℕ, ◌+◌, ◌<◌, ◌≤◌, not, List}
+use Rattle.std.specs.Prelude.{◌≡◌, ◌==◌, if◌then◌else◌, [], ◌∷◌, ◌++◌, Bool, true, false, ℕ, ◌+◌, ◌<◌, ◌≤◌, not, List}
 use Rattle.std.specs.Prelude.{length, slice_index_or}
 use Rattle.std.specs.Prelude.{take, count_by, Option, None, Some, IfSome, Result, Ok, Err, ⊤}
 use Rattle.page_source.specs.declared.rule.Fault.{Fault}
@@ -9,11 +9,12 @@ use Rattle.column_values.specs.Types.{Fields}
 use Rattle.compact_record.specs.Keys.{child_at}
 use Rattle.tree_walk.specs.declared.walk.Walk.{Walk}
 use Rattle.tree_walk.specs.Records.{IsHeld, held_key}
-use Rattle.tree_walk.specs.Place.{Spot, PlaceAt}
+use Rattle.tree_walk.specs.Place.{Spot, PlaceAt, spot_between}
 use Rattle.tree_walk.specs.Index.{held_child, child_of, row_at}
 use Rattle.tree_walk.specs.declared.cursor.Cursor.{Cursor}
 use Rattle.tree_walk.specs.declared.cursor.Next.{Next}
 use Rattle.tree_walk.specs.declared.cursor.Next.TheVariants.{Here, Ahead, End}
+use Rattle.tree_walk.specs.declared.place.Stand.{Stand}
 use Rattle.tree_walk.specs.declared.place.tally.Tally.{Tally}
 use Rattle.tree_walk.specs.declared.level.Aim.{Aim}
 use Rattle.tree_walk.specs.declared.level.Place.{Place}
@@ -105,6 +106,20 @@ HoldsLow walk node cursor = IsHeld walk.parent node cursor.origin walk.low
 abbrev pub HoldsHigh : Walk → Fields → Next → Type 0
 HoldsHigh walk node next = IfSome (origin_after next)
     (λ origin. IsHeld (page_after next walk.parent walk.after) node origin walk.high)
+
+-- what stands beside the page in hand was read: the node pointer that leads to it, where there is one, and the next
+-- one; a root has neither
+pub record HoldsBeside (walk : Walk) (node : Fields) (root : Bool) (low : Option ℕ) (next : Next) : Type 0 where
+  pub low_held : IfSome low (λ origin. IsHeld walk.parent node origin walk.low)
+  pub high_held : HoldsHigh walk node next
+  pub root_low : root ≡ true → low ≡ None
+  pub root_high : root ≡ true → origin_after next ≡ None
+
+-- where that page stands: between the keys of these node pointers
+abbrev pub spot_beside : Walk → Fields → Stand → Option ℕ → Next → Spot
+spot_beside walk node stand low next =
+    spot_between stand (held_key walk.parent node low)
+    (held_key (page_after next walk.parent walk.after) node (origin_after next))
 
 -- one more number was marked
 abbrev pub GrowsBy : List Bool → List Bool → ℕ → Type 0

@@ -1,12 +1,12 @@
 //! Whether the keys of a page lie between its separators.
 
-ghost use Rattle.std.specs.Prelude.{◌≡◌, ◌<◌, ◌≤◌, ◌↔◌, IsTrue, IfSome, None, true, false, length};
+ghost use Rattle.std.specs.Prelude.{◌≡◌, ◌<◌, ◌≤◌, ◌↔◌, IsTrue, IfSome, false, length};
 ghost use Rattle.index_page.specs.Header.{record_count};
 ghost use Rattle.index_page.specs.Page.{is_lowest_first};
 ghost use Rattle.tree_walk.specs.OneIndex.{HaveOneKey};
-ghost use Rattle.tree_walk.specs.Place.{is_leaf_level, spot_between, HasLow, HasLastBelow, HasSeparators};
+ghost use Rattle.tree_walk.specs.Place.{is_leaf_level, HasLow, HasLastBelow, HasSeparators};
 ghost use Rattle.tree_walk.specs.Records.{IsHeld, PageFacts, held_key};
-ghost use Rattle.tree_walk.specs.Walk.{page_after, origin_after};
+ghost use Rattle.tree_walk.specs.Walk.{page_after, origin_after, HoldsHigh, HoldsBeside, spot_beside};
 
 use crate::cursor::{Next, origin_after, page_after};
 use crate::place::Stand;
@@ -67,8 +67,7 @@ fn is_under(
     requires filled { 0 < record_count walk.old.child }
     requires room { length fields.now.fields ≤ walk.old.last.members }
     requires lists { HaveOneKey fields.now node.now }
-    requires high { IfSome (origin_after next) (λ origin.
-        IsHeld (page_after next walk.old.parent walk.old.after) node.now origin walk.old.high) }
+    requires high { HoldsHigh walk.old node.now next }
     ensures exact { IsTrue result ↔ HasLastBelow walk.old.child fields.now lowest_first
         (held_key (page_after next walk.old.parent walk.old.after) node.now (origin_after next)) }
     ensures same { walk.new ≡ record walk.old { last = walk.new.last } }
@@ -107,14 +106,9 @@ pub(crate) fn is_between(
     requires first_room { length fields.now.fields ≤ walk.old.first.members }
     requires last_room { length fields.now.fields ≤ walk.old.last.members }
     requires lists { HaveOneKey fields.now node.now }
-    requires low { IfSome low (λ origin. IsHeld walk.old.parent node.now origin walk.old.low) }
-    requires high { IfSome (origin_after next) (λ origin.
-        IsHeld (page_after next walk.old.parent walk.old.after) node.now origin walk.old.high) }
-    requires root_low { stand.root ≡ true → low ≡ None }
-    requires root_high { stand.root ≡ true → origin_after next ≡ None }
-    ensures exact { IsTrue result ↔ HasSeparators walk.old.child fields.now (spot_between stand
-        (held_key walk.old.parent node.now low)
-        (held_key (page_after next walk.old.parent walk.old.after) node.now (origin_after next))) }
+    requires beside { HoldsBeside walk.old node.now stand.root low next }
+    ensures exact { IsTrue result
+        ↔ HasSeparators walk.old.child fields.now (spot_beside walk.old node.now stand low next) }
     ensures same { walk.new ≡ record walk.old { first = walk.new.first; last = walk.new.last } }
     ensures first_members { walk.new.first.members ≡ walk.old.first.members }
     ensures last_members { walk.new.last.members ≡ walk.old.last.members }

@@ -1,14 +1,14 @@
 //! The checks of a page in hand.
 
-ghost use Rattle.std.specs.Prelude.{◌≡◌, ◌<◌, ◌≤◌, ◌↔◌, IsTrue, IfSome, OnOk, None, true, false, length};
+ghost use Rattle.std.specs.Prelude.{◌≡◌, ◌<◌, ◌≤◌, ◌↔◌, IsTrue, OnOk, false, length};
 ghost use Rattle.page_source.specs.Checks.{Finds, AtPage};
 ghost use Rattle.index_page.specs.Header.{record_count};
 ghost use Rattle.index_page.specs.PageChecks.{PageChecks};
 ghost use Rattle.tree_walk.specs.OneIndex.{HaveOneKey};
-ghost use Rattle.tree_walk.specs.Place.{is_leaf_level, IsBeside, NodeAt, SpotAt, spot_between};
-ghost use Rattle.tree_walk.specs.Records.{IsHeld, PageFacts, held_key};
+ghost use Rattle.tree_walk.specs.Place.{is_leaf_level, IsBeside, NodeAt, SpotAt};
+ghost use Rattle.tree_walk.specs.Records.{PageFacts};
 ghost use Rattle.tree_walk.specs.Room.{HasRoom, HasSameRoom};
-ghost use Rattle.tree_walk.specs.Walk.{page_after, origin_after};
+ghost use Rattle.tree_walk.specs.Walk.{HoldsBeside, spot_beside};
 
 use crate::cursor::Next;
 use crate::place::Stand;
@@ -76,14 +76,9 @@ fn check_node(
 ) -> Result<(), Fault>
     requires room { HasRoom walk.old (length fields.now.fields) }
     requires lists { HaveOneKey fields.now node.now }
-    requires low { IfSome low (λ origin. IsHeld walk.old.parent node.now origin walk.old.low) }
-    requires high { IfSome (origin_after next) (λ origin.
-        IsHeld (page_after next walk.old.parent walk.old.after) node.now origin walk.old.high) }
-    requires root_low { stand.root ≡ true → low ≡ None }
-    requires root_high { stand.root ≡ true → origin_after next ≡ None }
+    requires beside { HoldsBeside walk.old node.now stand.root low next }
     ensures exact { Finds result (NodeAt walk.old.child fields.now
-        (spot_between stand (held_key walk.old.parent node.now low)
-        (held_key (page_after next walk.old.parent walk.old.after) node.now (origin_after next)))) }
+        (spot_beside walk.old node.now stand low next)) }
     ensures facts { OnOk result (PageFacts walk.old.child fields.now) }
     ensures same { walk.new ≡ record walk.old {
       scratch = walk.new.scratch;
@@ -118,15 +113,9 @@ pub(crate) fn check_spot(
 ) -> Result<(), Fault>
     requires room { HasRoom walk.old (length fields.now.fields) }
     requires lists { HaveOneKey fields.now node.now }
-    requires low { IfSome low (λ origin. IsHeld walk.old.parent node.now origin walk.old.low) }
-    requires high { IfSome (origin_after next) (λ origin.
-        IsHeld (page_after next walk.old.parent walk.old.after) node.now origin walk.old.high) }
-    requires root_low { stand.root ≡ true → low ≡ None }
-    requires root_high { stand.root ≡ true → origin_after next ≡ None }
+    requires beside { HoldsBeside walk.old node.now stand.root low next }
     ensures exact { Finds result (SpotAt walk.old.child fields.now stand.index_id
-        (spot_between stand (held_key walk.old.parent node.now low)
-        (held_key (page_after next walk.old.parent walk.old.after) node.now (origin_after next)))
-        stand.previous stand.next) }
+        (spot_beside walk.old node.now stand low next) stand.previous stand.next) }
     ensures facts { OnOk result (PageFacts walk.old.child fields.now) }
     ensures same { walk.new ≡ record walk.old {
       scratch = walk.new.scratch;
