@@ -1,6 +1,6 @@
 //! Where a node pointer stands on its level.
 
-ghost use Rattle.std.specs.Prelude.{◌≡◌, ◌↔◌, IsTrue, IsSome};
+ghost use Rattle.std.specs.Prelude.{◌≡◌};
 ghost use Rattle.tree_walk.specs.Walk.{page_after, origin_after};
 
 pub(crate) use page_source::FIL_NULL;

@@ -1,6 +1,6 @@
 //! The rows of a tree that was walked, leaf by leaf by next fields.
 
-ghost use Rattle.std.specs.Prelude.{◌≡◌, ℕ, ◌+◌, ◌<◌, ◌≤◌, IfOk, IfSome, IsSome, IsOk, Some, None, Err, true, false};
+ghost use Rattle.std.specs.Prelude.{◌≡◌, ℕ, ◌+◌, ◌<◌, ◌≤◌, IfOk, IfSome, Err, false};
 ghost use Rattle.page_source.specs.Calls.{OfFile, HaltsOver};
 ghost use Rattle.page_source.specs.declared.rule.Fault.{Fault};
 ghost use Rattle.column_values.specs.Types.{Fields};

@@ -1,7 +1,6 @@
 //! Whether a page may be one of the tree.
 
 ghost use Rattle.std.specs.Prelude.{◌≡◌, ◌<◌, ◌↔◌, ℕ, List, length, IsTrue, true, false};
-ghost use Rattle.page_source.specs.Pages.{page_count};
 ghost use Rattle.space_audit.specs.Marks.{is_set};
 ghost use Rattle.space_audit.specs.Owners.{IsUsedBy};
 ghost use Rattle.space_audit.specs.Space.{IsAuditOf};
