@@ -2,23 +2,23 @@
 
 ghost use Rattle.std.specs.Prelude.{◌<◌};
 
-use super::draft::{Draft, NULL, extent, header, node_of, owner, run};
+use super::answers::{audited, expect_owners};
+use super::draft::{Draft, NULL, extent, file_of, header, node_of, put_page, put_sealed};
 use crate::Owner;
 use extent_map::write_extent;
-use fil_frame::seal;
-use page_source::{Fails, NoMemory, Page, PageMap, SparsePages, write_be};
-use space_header::{Address, Base};
+use page_source::{NoMemory, Page, SparsePages, write_be};
+use space_header::{Address, Base, SpaceHeader};
 use std::alloc::Global;
-use std::marker::Brand;
-use std::sync::ledger::Blank;
 use std::test::Fail;
 
-/// A tablespace of 16,448 pages: the extents 0 and 256 stand on FREE_FRAG, the others on FREE.
-fn two_descriptor_pages(alloc: Global) -> Result<PageMap, NoMemory> {
-    let second = Address {
-        page: 16384,
-        offset: 158,
-    };
+/// The descriptor of the extent behind the first 256.
+const SECOND: Address = Address {
+    page: 16384,
+    offset: 158,
+};
+
+/// The header of a tablespace of 16,448 pages: the extents 0 and 256 stand on FREE_FRAG, the others on FREE.
+fn wide_header() -> SpaceHeader {
     let mut header = header(16448, 16448);
     header.frag_used = 6;
     header.free = Base {
@@ -29,27 +29,20 @@ fn two_descriptor_pages(alloc: Global) -> Result<PageMap, NoMemory> {
     header.free_frag = Base {
         length: 2,
         first: node_of(0),
-        last: second,
+        last: SECOND,
     };
-    let mut draft = Draft::new(alloc, &header)?;
-    write_address(&mut draft.head, 164, second);
+    header
+}
+
+/// Writes the descriptors of page 0 behind the first one.
+fn write_descriptors(head: &mut Page) {
+    write_address(head, 164, SECOND);
     for e in 1..256u16 {
         let mut free = extent(1, 0);
         free.node.prev = if e > 1 { node_of(e - 1) } else { NULL };
         free.node.next = if e < 255 { node_of(e + 1) } else { NULL };
-        write_extent(&mut draft.head, 150 + 40 * usize::from(e), &free);
+        write_extent(head, 150 + 40 * usize::from(e), &free);
     }
-    let mut descriptors = Page::zeroed(alloc)?;
-    let mut last = extent(2, 3);
-    last.node.prev = node_of(0);
-    write_extent(&mut descriptors, 150, &last);
-    seal(&mut descriptors, 16384, 23, 1, 9);
-    let mut bitmap = Page::zeroed(alloc)?;
-    seal(&mut bitmap, 16385, 23, 1, 5);
-    let mut held = draft.pages(alloc)?;
-    held.put(16384, descriptors)?;
-    held.put(16385, bitmap)?;
-    Ok(held)
 }
 
 fn write_address(page: &mut Page, at: usize, address: Address)
@@ -59,21 +52,36 @@ fn write_address(page: &mut Page, at: usize, address: Address)
     write_be::<2>(page, at + 4, u64::from(address.offset));
 }
 
+/// Page 16384, whose extent has two used pages.
+fn second_page(alloc: Global) -> Result<Page, NoMemory> {
+    let mut page = Page::zeroed(alloc)?;
+    let mut last = extent(2, 3);
+    last.node.prev = node_of(0);
+    write_extent(&mut page, 150, &last);
+    Ok(page)
+}
+
+/// The tablespace of two descriptor pages.
+fn two_descriptor_pages(alloc: Global) -> Result<SparsePages, NoMemory> {
+    let mut draft = Draft::new(alloc, &wide_header())?;
+    write_descriptors(&mut draft.head);
+    let mut held = draft.pages(alloc)?;
+    put_sealed(&mut held, 16384, second_page(alloc)?, 9)?;
+    put_page(alloc, &mut held, 16385, 5)?;
+    file_of(alloc, 16448, held, &[])
+}
+
 #[test]
 fn audits_two_descriptor_pages(rt: HostRuntime) -> Result<(), Fail> {
-    let alloc = rt.alloc();
-    let held = two_descriptor_pages(alloc)?;
-    let mut file = SparsePages::new(16448, held, Fails::of(alloc, &[])?);
-    let space = run::<SparsePages, Brand>(alloc, &mut file, Blank::new(1))?;
+    let space = audited(rt.alloc(), two_descriptor_pages(rt.alloc())?)?;
     assert_eq!(rt; (space.size(), space.used_pages()), (16448, 6));
-    for (n, wanted) in [
-        (64, Owner::FreeExtent),
-        (16383, Owner::FreeExtent),
-        (16384, Owner::System),
-        (16385, Owner::System),
-        (16386, Owner::FragmentFree),
-    ] {
-        assert_eq!(rt; owner(&space, n), Some(wanted), "page {n}");
-    }
+    let owners = [
+        (64, Some(Owner::FreeExtent)),
+        (16383, Some(Owner::FreeExtent)),
+        (16384, Some(Owner::System)),
+        (16385, Some(Owner::System)),
+        (16386, Some(Owner::FragmentFree)),
+    ];
+    expect_owners(&rt, &space, &owners);
     Ok(())
 }

@@ -1,17 +1,11 @@
-//! Small tablespaces, page by page, and their audits.
+//! Small tablespaces, page by page.
 
-ghost use Rattle.std.specs.Prelude.{◌≡◌, ◌<◌};
-
-use crate::{Owner, Space, audit};
 use extent_map::{Extent, write_extent};
 use fil_frame::seal;
 use inode_segments::{Inode, write_inode};
-use page_source::{
-    Fails, NoMemory, Page, PageMap, PageSource, Rule, SparsePages, Steps, Stop, write_be,
-};
+use page_source::{Fails, NoMemory, Page, PageMap, SparsePages, write_be};
 use space_header::{Address, Base, Node, SpaceHeader, write_node};
 use std::alloc::Global;
-use std::sync::ledger::{Blank, Ledger};
 
 pub const NULL: Address = Address {
     page: 0xFFFF_FFFF,
@@ -89,30 +83,20 @@ pub fn segment(id: u64, slot: u32) -> Inode {
     }
 }
 
-/// The pages 0 to 3 of a tablespace: page 0, the bitmap page, the inode page and a page of segment 1.
+/// A tablespace of four pages that are used: page 0, the bitmap page, the inode page and a page of segment 1. These are
+/// their types, and of the second and the last nothing else is written.
 #[derive(Drop)]
 pub struct Draft {
     pub head: Page,
-    pub bitmap: Page,
     pub inodes: Page,
-    pub root: Page,
     pub kinds: [u16; 4],
 }
 
 impl Draft {
     pub fn new(alloc: Global, header: &SpaceHeader) -> Result<Draft, NoMemory> {
-        let mut head = Page::zeroed(alloc)?;
-        header.write(&mut head);
-        write_extent(&mut head, 150, &extent(2, 15));
-        let mut inodes = Page::zeroed(alloc)?;
-        write_node(&mut inodes, 38, &ALONE);
-        write_inode(&mut inodes, 50, &segment(1, 3));
-        write_inode(&mut inodes, 242, &segment(2, 0xFFFF_FFFF));
         Ok(Draft {
-            head,
-            bitmap: Page::zeroed(alloc)?,
-            inodes,
-            root: Page::zeroed(alloc)?,
+            head: head_of(alloc, header)?,
+            inodes: inodes(alloc)?,
             kinds: [8, 5, 3, 17855],
         })
     }
@@ -127,83 +111,65 @@ impl Draft {
         write_be::<4>(page, usize::from(at).min(16380), u64::from(number));
     }
 
-    pub fn seal(&mut self) {
-        let kinds = self.kinds;
-        seal(&mut self.head, 0, 23, 1, kinds[0]);
-        seal(&mut self.bitmap, 1, 23, 1, kinds[1]);
-        seal(&mut self.inodes, 2, 23, 1, kinds[2]);
-        seal(&mut self.root, 3, 23, 1, kinds[3]);
-    }
-
-    /// Changes one bit of the second checksum of page 0, 1, 2 or 3.
-    pub fn flip(&mut self, page: u32) {
-        let page = match page {
-            0 => &mut self.head,
-            1 => &mut self.bitmap,
-            2 => &mut self.inodes,
-            _ => &mut self.root,
-        };
-        let byte = page.bytes()[16376];
-        page.put_bytes(16376, &[byte ^ 1]);
-    }
-
     /// The pages, sealed.
-    pub fn pages(mut self, alloc: Global) -> Result<PageMap, NoMemory> {
-        self.seal();
-        self.as_they_are(alloc)
-    }
-
-    pub fn as_they_are(self, alloc: Global) -> Result<PageMap, NoMemory> {
+    pub fn pages(self, alloc: Global) -> Result<PageMap, NoMemory> {
+        let kinds = self.kinds;
         let mut held = PageMap::new(alloc);
-        held.put(0, self.head)?;
-        held.put(1, self.bitmap)?;
-        held.put(2, self.inodes)?;
-        held.put(3, self.root)?;
+        put_sealed(&mut held, 0, self.head, kinds[0])?;
+        put_sealed(&mut held, 2, self.inodes, kinds[2])?;
+        put_page(alloc, &mut held, 1, kinds[1])?;
+        put_page(alloc, &mut held, 3, kinds[3])?;
         Ok(held)
     }
 
     /// They in a file of so many, whose calls with these numbers fail.
     pub fn file(self, alloc: Global, pages: u32, fails: &[u64]) -> Result<SparsePages, NoMemory> {
-        Ok(SparsePages::new(pages, self.pages(alloc)?, Fails::of(alloc, fails)?))
+        file_of(alloc, pages, self.pages(alloc)?, fails)
     }
 }
 
-pub fn run<S: PageSource, L: Ledger>(
-    alloc: Global,
-    source: &mut S,
-    blank: Blank,
-) -> Result<Space, Stop>
-    requires name { blank.name ≡ L.name }
-    requires parts { blank.parts ≡ L.parts }
-    requires shared { 0 < blank.parts }
-{
-    let mut steps = Steps::<L>::new(blank);
-    audit(alloc, source, 33, &mut steps)
+fn head_of(alloc: Global, header: &SpaceHeader) -> Result<Page, NoMemory> {
+    let mut head = Page::zeroed(alloc)?;
+    header.write(&mut head);
+    write_extent(&mut head, 150, &extent(2, 15));
+    Ok(head)
 }
 
-/// The answer to these pages is that rule, broken at that page.
-pub fn breaks<L: Ledger>(
+fn inodes(alloc: Global) -> Result<Page, NoMemory> {
+    let mut inodes = Page::zeroed(alloc)?;
+    write_node(&mut inodes, 38, &ALONE);
+    write_inode(&mut inodes, 50, &segment(1, 3));
+    write_inode(&mut inodes, 242, &segment(2, 0xFFFF_FFFF));
+    Ok(inodes)
+}
+
+pub fn put_sealed(held: &mut PageMap, n: u32, mut page: Page, kind: u16) -> Result<(), NoMemory> {
+    seal(&mut page, n, 23, 1, kind);
+    held.put(n, page)
+}
+
+/// Puts a page of this type on which nothing but its frame is written.
+pub fn put_page(alloc: Global, held: &mut PageMap, n: u32, kind: u16) -> Result<(), NoMemory> {
+    put_sealed(held, n, Page::zeroed(alloc)?, kind)
+}
+
+/// Changes one bit of the second checksum of a page that is held.
+pub fn flip(alloc: Global, held: &mut PageMap, n: u32) -> Result<(), NoMemory> {
+    let mut page = Page::zeroed(alloc)?;
+    if let Some(found) = held.get(n) {
+        page.put_bytes(0, found.bytes());
+    }
+    let byte = page.bytes()[16376];
+    page.put_bytes(16376, &[byte ^ 1]);
+    held.put(n, page)
+}
+
+/// A file of so many pages with these in it, whose calls with these numbers fail.
+pub fn file_of(
     alloc: Global,
-    draft: Draft,
     pages: u32,
-    rule: Rule,
-    page: u32,
-    blank: Blank,
-) -> Result<bool, NoMemory>
-    requires name { blank.name ≡ L.name }
-    requires parts { blank.parts ≡ L.parts }
-    requires shared { 0 < blank.parts }
-{
-    let mut file = draft.file(alloc, pages, &[])?;
-    let answer = run::<SparsePages, L>(alloc, &mut file, blank);
-    Ok(matches!(answer, Err(stop) if stop == Stop::Broken(rule.at(page))))
-}
-
-/// The owner of a page, if it is below the size.
-pub fn owner(space: &Space, n: u32) -> Option<Owner> {
-    if n < space.size() {
-        Some(space.owner(n))
-    } else {
-        None
-    }
+    held: PageMap,
+    fails: &[u64],
+) -> Result<SparsePages, NoMemory> {
+    Ok(SparsePages::new(pages, held, Fails::of(alloc, fails)?))
 }

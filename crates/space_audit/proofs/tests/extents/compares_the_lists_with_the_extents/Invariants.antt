@@ -1,7 +1,0 @@
-use Rattle.space_audit.proofs.tests.extents.compares_the_lists_with_the_extents.Given as goal
-
-abbrev pub ghosts-run : goal.ghosts-run
-ghosts-run g a = record { name = a.blank.name; parts = a.blank.parts }
-
-abbrev pub ghosts-breaks : goal.ghosts-breaks
-ghosts-breaks g a = record { name = a.blank.name; parts = a.blank.parts }
