@@ -16,32 +16,35 @@ use Rattle.page_source.specs.Lists.{before_place}
 use Rattle.page_source.specs.Verdict.{AllBefore, EachOf}
 use Rattle.column_values.specs.Utf8Reader.{Reader, IsFed}
 use Rattle.space_audit.specs.Marks.{is_set, seen, Marked}
-use Rattle.offpage_chain.specs.declared.reference.Reference.{Reference}
+use Rattle.offpage_chain.specs.declared.check.Chain.{Chain}
+use Rattle.offpage_chain.specs.declared.check.Due.{Due}
 use Rattle.offpage_chain.specs.Chain.{part_length, next_part, part_bytes, pages_from, chain_pages, bytes_on, total_on}
 use Rattle.offpage_chain.specs.ChainChecks.{IsChainPart, PageCheck, PartCheck}
+use Rattle.offpage_chain.specs.CheckSteps.{pages_in, first_due, DueCheck}
 
 -- the checks of the pages of a chain
 pub record Walk : Type 0 where
   pub file : List ℕ
-  pub segment : ℕ
-  pub holder : ℕ
-  pub reference : Reference
+  pub chain : Chain
   pub taken : ℕ → Bool
 
+abbrev pub walk_of : List ℕ → Chain → List Bool → Walk
+walk_of file chain marks = record { file = file; chain = chain; taken = is_set marks }
+
 abbrev pub all_pages : Walk → List ℕ
-all_pages w = chain_pages w.file w.reference
+all_pages w = pages_in w.file w.chain
 
 abbrev pub Checks : Walk → List ℕ → ℕ → Option Fault → Type 0
-Checks w = PartCheck w.file w.segment w.holder w.reference w.taken
+Checks w = PartCheck w.file w.chain.segment w.chain.holder w.chain.reference.now w.taken
 
--- some pages held, and so many bytes are left from page n on, to which `holder` leads
-pub record IsAlong (w : Walk) (marks : List Bool) (old text : Reader) (holder n left count : ℕ) : Type 0 where
+-- some pages held, and then one is due
+pub record IsAlong (w : Walk) (marks : List Bool) (old text : Reader) (due : Due) (count : ℕ) : Type 0 where
   pub before : List ℕ
   pub fuel : ℕ
-  pub enough : left ≤ fuel
-  pub split : all_pages w ≡ before ++ pages_from w.file fuel n left
-  pub total : total_on w.file before + left ≡ w.reference.length
-  pub holder_is : holder ≡ before_place w.holder before (length before)
+  pub enough : due.left ≤ fuel
+  pub split : all_pages w ≡ before ++ pages_from w.file fuel due.page due.left
+  pub total : total_on w.file before + due.left ≡ w.chain.reference.now.length
+  pub holder_is : due.holder ≡ before_place w.chain.holder before (length before)
   pub held : AllBefore (all_pages w) (Checks w) (length before)
   pub marked : Marked w.taken marks before
   pub counted : count ≡ length before
@@ -87,12 +90,12 @@ from_none file zero n = refl
 from_none file (suc fuel) n = refl
 
 pub along_start : (w : Walk) (marks : List Bool) (text : Reader) (feeds : IsFed text text []) → Marked w.taken marks []
-    → IsAlong w marks text text w.holder w.reference.page w.reference.length 0
+    → IsAlong w marks text text (first_due w.chain) 0
 unfolding chain_pages
 along_start w marks text feeds marked =
     record {
       before = [];
-      fuel = w.reference.length;
+      fuel = w.chain.reference.now.length;
       enough = omega arith;
       split = refl;
       total = omega (arith, no_total w.file);
@@ -104,122 +107,122 @@ along_start w marks text feeds marked =
     }
 
 -- the check at the page at hand is that at its place
-at_place : (w : Walk) (marks : List Bool) (old text : Reader) (holder n left count : ℕ) (v : Option Fault)
-    → (a : IsAlong w marks old text holder n left count) → 0 < left
-    → PageCheck w.file w.segment holder (is_set marks n) left n v
+at_place : (w : Walk) (marks : List Bool) (old text : Reader) (due : Due) (count : ℕ) (v : Option Fault)
+    → (a : IsAlong w marks old text due count) → 0 < due.left
+    → DueCheck w.file w.chain (is_set marks) due v
     → (d : ℕ) → Checks w (take (length a.before) (all_pages w)) (get_or (all_pages w) (length a.before) d) v
-at_place w marks old text holder n left count v a some check d =
-    let here = from_here w.file a.fuel n left some a.enough in
-    let rest = pages_from w.file here.0 (next_part (page_of w.file n)) (left - part_length (page_of w.file n)) in
-    let split : all_pages w ≡ a.before ++ n ∷ rest = a.split ∙ ap (λ (t : List ℕ). a.before ++ t) here.2 in
+at_place w marks old text due count v a some check d =
+    let here = from_here w.file a.fuel due.page due.left some a.enough in
+    let rest = pages_from w.file here.0 (next_part (page_of w.file due.page)) (due.left - part_length (page_of w.file due.page)) in
+    let split : all_pages w ≡ a.before ++ due.page ∷ rest = a.split ∙ ap (λ (t : List ℕ). a.before ++ t) here.2 in
     let front : take (length a.before) (all_pages w) ≡ a.before = ap (take (length a.before)) split
-    ∙ take-append_seam a.before (n ∷ rest) in
+    ∙ take-append_seam a.before (due.page ∷ rest) in
     let page : get_or (all_pages w)
-    (length a.before) d ≡ n = ap (λ (t : List ℕ). get_or t (length a.before) d) split
-    ∙ get_or-append_seam a.before n rest d in
-    let lacks : left ≡ w.reference.length - total_on w.file a.before = omega (arith, a.total) in
-    let one = subst (λ (h : ℕ). PageCheck w.file w.segment h (is_set marks n) left n v) a.holder_is check in
-    let two = subst (λ (t : Bool). PageCheck w.file w.segment (before_place w.holder a.before
-    (length a.before)) t left n v) (a.marked n) one in
-    let three = subst (λ (l : ℕ). PageCheck w.file w.segment (before_place w.holder a.before (length a.before))
-    (seen w.taken a.before n) l n v) lacks two in
+    (length a.before) d ≡ due.page = ap (λ (t : List ℕ). get_or t (length a.before) d) split
+    ∙ get_or-append_seam a.before due.page rest d in
+    let lacks : due.left ≡ w.chain.reference.now.length - total_on w.file a.before = omega (arith, a.total) in
+    let one = subst (λ (h : ℕ). PageCheck w.file w.chain.segment h (is_set marks due.page) due.left due.page v) a.holder_is check in
+    let two = subst (λ (t : Bool). PageCheck w.file w.chain.segment (before_place w.chain.holder a.before
+    (length a.before)) t due.left due.page v) (a.marked due.page) one in
+    let three = subst (λ (l : ℕ). PageCheck w.file w.chain.segment (before_place w.chain.holder a.before (length a.before))
+    (seen w.taken a.before due.page) l due.page v) lacks two in
     rw (front, page) three
 
-within : (w : Walk) (marks : List Bool) (old text : Reader) (holder n left count : ℕ)
-    → (a : IsAlong w marks old text holder n left count) → 0 < left → length a.before < length (all_pages w)
-within w marks old text holder n left count a some =
-    let here = from_here w.file a.fuel n left some a.enough in
-    let rest = pages_from w.file here.0 (next_part (page_of w.file n)) (left - part_length (page_of w.file n)) in
-    let split : all_pages w ≡ a.before ++ n ∷ rest = a.split ∙ ap (λ (t : List ℕ). a.before ++ t) here.2 in
-    omega (arith, ap length split, length-append a.before (n ∷ rest))
+within : (w : Walk) (marks : List Bool) (old text : Reader) (due : Due) (count : ℕ)
+    → (a : IsAlong w marks old text due count) → 0 < due.left → length a.before < length (all_pages w)
+within w marks old text due count a some =
+    let here = from_here w.file a.fuel due.page due.left some a.enough in
+    let rest = pages_from w.file here.0 (next_part (page_of w.file due.page)) (due.left - part_length (page_of w.file due.page)) in
+    let split : all_pages w ≡ a.before ++ due.page ∷ rest = a.split ∙ ap (λ (t : List ℕ). a.before ++ t) here.2 in
+    omega (arith, ap length split, length-append a.before (due.page ∷ rest))
 
 -- the page at hand is the first that breaks
-pub along_breaks : (w : Walk) (marks : List Bool) (old text : Reader) (holder n left count : ℕ) (fault : Fault)
-    → IsAlong w marks old text holder n left count → 0 < left
-    → PageCheck w.file w.segment holder (is_set marks n) left n (Some fault)
+pub along_breaks : (w : Walk) (marks : List Bool) (old text : Reader) (due : Due) (count : ℕ) (fault : Fault)
+    → IsAlong w marks old text due count → 0 < due.left
+    → DueCheck w.file w.chain (is_set marks) due (Some fault)
     → EachOf (all_pages w) (Checks w) (Some fault)
-along_breaks w marks old text holder n left count fault a some check = (
+along_breaks w marks old text due count fault a some check = (
   length a.before,
-  within w marks old text holder n left count a some,
+  within w marks old text due count a some,
   a.held,
-  at_place w marks old text holder n left count (Some fault) a some check,
+  at_place w marks old text due count (Some fault) a some check,
 )
 
-pub along_halts : (w : Walk) (marks : List Bool) (old text : Reader) (holder n left count : ℕ) (halt : Halt)
-    → IsAlong w marks old text holder n left count → 0 < left
-    → HaltsAt halt (PageCheck w.file w.segment holder (is_set marks n) left n)
+pub along_halts : (w : Walk) (marks : List Bool) (old text : Reader) (due : Due) (count : ℕ) (halt : Halt)
+    → IsAlong w marks old text due count → 0 < due.left
+    → HaltsAt halt (DueCheck w.file w.chain (is_set marks) due)
     → HaltsAt halt (EachOf (all_pages w) (Checks w))
-along_halts w marks old text holder n left count (Broken fault) a some check =
-    along_breaks w marks old text holder n left count fault a some check
-along_halts w marks old text holder n left count Source a some check = tt
+along_halts w marks old text due count (Broken fault) a some check =
+    along_breaks w marks old text due count fault a some check
+along_halts w marks old text due count Source a some check = tt
 
 -- one page more
-pub along_more : (w : Walk) (marks now : List Bool) (old text next : Reader) (holder n left count size : ℕ)
+pub along_more : (w : Walk) (marks now : List Bool) (old text next : Reader) (due : Due) (count size : ℕ)
     (page : List ℕ)
-    → IsAlong w marks old text holder n left count → 0 < left
-    → PageCheck w.file w.segment holder (is_set marks n) left n None
-    → page ≡ page_of w.file n → size ≡ part_length page → IsChainPart page left
-    → ((list : List ℕ) → Marked w.taken marks list → Marked w.taken now (list ++ n ∷ []))
+    → IsAlong w marks old text due count → 0 < due.left
+    → DueCheck w.file w.chain (is_set marks) due None
+    → page ≡ page_of w.file due.page → size ≡ part_length page → IsChainPart page due.left
+    → ((list : List ℕ) → Marked w.taken marks list → Marked w.taken now (list ++ due.page ∷ []))
     → ((bytes : List ℕ) → IsFed old text bytes → IsFed old next (bytes ++ part_bytes page))
-    → IsAlong w now old next n (next_part page) (left - size) (count + 1)
-along_more w marks now old text next holder n left count size page a some check is length_is part more feeds =
-    let here = from_here w.file a.fuel n left some a.enough in
-    let size_is : size ≡ part_length (page_of w.file n) = length_is ∙ ap part_length is in
-    let rest = pages_from w.file here.0 (next_part (page_of w.file n)) (left - part_length (page_of w.file n)) in
-    let split : all_pages w ≡ a.before ++ n ∷ rest = a.split ∙ ap (λ (t : List ℕ). a.before ++ t) here.2 in
-    let longer : length (a.before ++ n ∷ []) ≡ suc (length a.before) = omega (arith, length-append a.before (n ∷ [])) in
-    let same : pages_from w.file here.0 (next_part page) (left - size) ≡ rest =
-    ap (λ (p : List ℕ). pages_from w.file here.0 (next_part p) (left - size)) is
-    ∙ ap (pages_from w.file here.0 (next_part (page_of w.file n))) (ap (λ (k : ℕ). left - k) size_is) in
+    → IsAlong w now old next (record { page = next_part page; holder = due.page; left = due.left - size }) (count + 1)
+along_more w marks now old text next due count size page a some check is length_is part more feeds =
+    let here = from_here w.file a.fuel due.page due.left some a.enough in
+    let size_is : size ≡ part_length (page_of w.file due.page) = length_is ∙ ap part_length is in
+    let rest = pages_from w.file here.0 (next_part (page_of w.file due.page)) (due.left - part_length (page_of w.file due.page)) in
+    let split : all_pages w ≡ a.before ++ due.page ∷ rest = a.split ∙ ap (λ (t : List ℕ). a.before ++ t) here.2 in
+    let longer : length (a.before ++ due.page ∷ []) ≡ suc (length a.before) = omega (arith, length-append a.before (due.page ∷ [])) in
+    let same : pages_from w.file here.0 (next_part page) (due.left - size) ≡ rest =
+    ap (λ (p : List ℕ). pages_from w.file here.0 (next_part p) (due.left - size)) is
+    ∙ ap (pages_from w.file here.0 (next_part (page_of w.file due.page))) (ap (λ (k : ℕ). due.left - k) size_is) in
     record {
-      before = a.before ++ n ∷ [];
+      before = a.before ++ due.page ∷ [];
       fuel = here.0;
       enough = omega (arith, a.enough, here.1, part.part.0, length_is);
-      split = split ∙ (sym (append_assoc a.before (n ∷ []) rest)
-          ∙ ap (λ (t : List ℕ). (a.before ++ n ∷ []) ++ t) (sym same));
-      total = omega (arith, a.total, total_more w.file a.before n, size_is, part.within, length_is);
-      holder_is = rw longer (sym (get_or-append_seam a.before n [] w.holder));
+      split = split ∙ (sym (append_assoc a.before (due.page ∷ []) rest)
+          ∙ ap (λ (t : List ℕ). (a.before ++ due.page ∷ []) ++ t) (sym same));
+      total = omega (arith, a.total, total_more w.file a.before due.page, size_is, part.within, length_is);
+      holder_is = rw longer (sym (get_or-append_seam a.before due.page [] w.chain.holder));
       held = λ j d below. elim (cases_lt j (length a.before)) [
         | inl earlier ↦ a.held j d earlier
         | inr later ↦
             let last : length a.before ≡ j = omega (arith, below, later, longer) in
             subst (λ (i : ℕ). Checks w (take i (all_pages w)) (get_or (all_pages w) i d) None) last
-            (at_place w marks old text holder n left count None a some check d)
+            (at_place w marks old text due count None a some check d)
       ];
       marked = more a.before a.marked;
       counted = omega (arith, a.counted, longer);
       fed =
           subst (λ (bytes : List ℕ). IsFed old next bytes)
-          (ap (λ (p : List ℕ). bytes_on w.file a.before ++ part_bytes p) is ∙ sym (bytes_more w.file a.before n))
+          (ap (λ (p : List ℕ). bytes_on w.file a.before ++ part_bytes p) is ∙ sym (bytes_more w.file a.before due.page))
           (feeds (bytes_on w.file a.before) a.fed);
     }
 
 -- no byte is left: these are all pages
-all_before : (w : Walk) (marks : List Bool) (old text : Reader) (holder n left count : ℕ) → left ≡ 0
-    → (a : IsAlong w marks old text holder n left count) → all_pages w ≡ a.before
-all_before w marks old text holder n left count none a =
-    a.split ∙ (ap (λ (k : ℕ). a.before ++ pages_from w.file a.fuel n k) none
-    ∙ (ap (λ (t : List ℕ). a.before ++ t) (from_none w.file a.fuel n) ∙ append-nil a.before))
+all_before : (w : Walk) (marks : List Bool) (old text : Reader) (due : Due) (count : ℕ) → due.left ≡ 0
+    → (a : IsAlong w marks old text due count) → all_pages w ≡ a.before
+all_before w marks old text due count none a =
+    a.split ∙ (ap (λ (k : ℕ). a.before ++ pages_from w.file a.fuel due.page k) none
+    ∙ (ap (λ (t : List ℕ). a.before ++ t) (from_none w.file a.fuel due.page) ∙ append-nil a.before))
 
-pub along_holds : (w : Walk) (marks : List Bool) (old text : Reader) (holder n left count : ℕ) → left ≡ 0
-    → IsAlong w marks old text holder n left count → EachOf (all_pages w) (Checks w) None
-along_holds w marks old text holder n left count none a =
+pub along_holds : (w : Walk) (marks : List Bool) (old text : Reader) (due : Due) (count : ℕ) → due.left ≡ 0
+    → IsAlong w marks old text due count → EachOf (all_pages w) (Checks w) None
+along_holds w marks old text due count none a =
     subst (λ (k : ℕ). AllBefore (all_pages w) (Checks w) k)
-    (ap length (sym (all_before w marks old text holder n left count none a))) a.held
+    (ap length (sym (all_before w marks old text due count none a))) a.held
 
-pub along_count : (w : Walk) (marks : List Bool) (old text : Reader) (holder n left count : ℕ) → left ≡ 0
-    → IsAlong w marks old text holder n left count → count ≡ length (all_pages w)
-along_count w marks old text holder n left count none a =
-    a.counted ∙ ap length (sym (all_before w marks old text holder n left count none a))
+pub along_count : (w : Walk) (marks : List Bool) (old text : Reader) (due : Due) (count : ℕ) → due.left ≡ 0
+    → IsAlong w marks old text due count → count ≡ length (all_pages w)
+along_count w marks old text due count none a =
+    a.counted ∙ ap length (sym (all_before w marks old text due count none a))
 
-pub along_marked : (w : Walk) (marks : List Bool) (old text : Reader) (holder n left count : ℕ) → left ≡ 0
-    → IsAlong w marks old text holder n left count → Marked w.taken marks (all_pages w)
-along_marked w marks old text holder n left count none a =
+pub along_marked : (w : Walk) (marks : List Bool) (old text : Reader) (due : Due) (count : ℕ) → due.left ≡ 0
+    → IsAlong w marks old text due count → Marked w.taken marks (all_pages w)
+along_marked w marks old text due count none a =
     subst (λ (list : List ℕ). Marked w.taken marks list)
-    (sym (all_before w marks old text holder n left count none a)) a.marked
+    (sym (all_before w marks old text due count none a)) a.marked
 
-pub along_fed : (w : Walk) (marks : List Bool) (old text : Reader) (holder n left count : ℕ) → left ≡ 0
-    → IsAlong w marks old text holder n left count → IsFed old text (bytes_on w.file (all_pages w))
-along_fed w marks old text holder n left count none a =
+pub along_fed : (w : Walk) (marks : List Bool) (old text : Reader) (due : Due) (count : ℕ) → due.left ≡ 0
+    → IsAlong w marks old text due count → IsFed old text (bytes_on w.file (all_pages w))
+along_fed w marks old text due count none a =
     subst (λ (list : List ℕ). IsFed old text (bytes_on w.file list))
-    (sym (all_before w marks old text holder n left count none a)) a.fed
+    (sym (all_before w marks old text due count none a)) a.fed

@@ -6,12 +6,12 @@ ghost use Rattle.page_source.specs.Pages.{page_of, page_count};
 ghost use Rattle.page_source.specs.Lists.{unmarked};
 ghost use Rattle.page_source.specs.Checks.{Halts};
 ghost use Rattle.page_source.specs.Calls.{OfFile, HaltsOver};
-ghost use Rattle.page_source.specs.Verdict.{EachOf};
 ghost use Rattle.column_values.specs.Utf8Reader.{CountsUpTo, WasFed, TakesText, IsFed};
 ghost use Rattle.space_audit.specs.Space.{IsAuditOf};
 ghost use Rattle.space_audit.specs.Marks.{is_set, Marked};
 ghost use Rattle.offpage_chain.specs.Chain.{chain_pages, part_length, bytes_on, RefersHere};
-ghost use Rattle.offpage_chain.specs.ChainChecks.{ChainChecks, IsChainPlace, IsChainPart, PageCheck, PartCheck};
+ghost use Rattle.offpage_chain.specs.ChainChecks.{ChainChecks, IsChainPlace, IsChainPart};
+ghost use Rattle.offpage_chain.specs.CheckSteps.{IsReady, pages_in, first_due, DueCheck, PagesCheck};
 
 use crate::part::{is_part, next_part, part_bytes, part_length};
 use crate::reference::Reference;
@@ -23,6 +23,37 @@ use std::sync::ledger::Ledger;
 
 /// The first byte of a part's header on its page, which a reference names.
 const PART_HEADER: u32 = 38;
+
+/// The chain that is checked: its checked space, the segment of the clustered leaves, the leaf with the record, and
+/// the reference.
+#[derive(Clone, Copy)]
+struct Chain<'a> {
+    space: &'a Space,
+    segment: u32,
+    holder: u32,
+    reference: &'a Reference,
+}
+
+impl Chain<'_> {
+    /// The page that the reference leads to.
+    fn first(&self) -> Due
+        ensures { result ≡ first_due self.now }
+    {
+        Due {
+            page: self.reference.page,
+            holder: self.holder,
+            left: self.reference.length,
+        }
+    }
+}
+
+/// The page that is due: the one that leads to it, and how many bytes are left from it on.
+#[derive(Clone, Copy)]
+struct Due {
+    page: u32,
+    holder: u32,
+    left: u32,
+}
 
 /// Whether a chain may go on at a page: a new one of this type that the segment uses.
 fn is_place(space: &Space, segment: u32, marks: &Marks, n: u32) -> bool
@@ -44,36 +75,31 @@ fn refers_here(space: &Space, reference: &Reference) -> bool
     reference.space == space.space_id() && reference.offset == PART_HEADER
 }
 
-/// Checks one page of a chain, of which so many bytes are left, and gives the number of its bytes.
-/// The page `holder` leads to it.
+/// Checks the page that is due, and gives the number of its bytes.
 fn check_page<S: PageSource, L: Ledger>(
     source: &mut S,
-    space: &Space,
-    segment: u32,
-    holder: u32,
-    n: u32,
-    left: u32,
+    chain: &Chain,
+    due: Due,
     marks: &Marks,
     page: &mut Page,
     steps: &mut Steps<L>,
 ) -> Result<u32, Halt>
-    requires audit { OfFile S.PageSource source.old (λ file. IsAuditOf file space.now) }
-    requires members { length marks.now ≡ space.now.size }
+    requires ready { IsReady S.PageSource source.old chain.now marks.now }
     ensures exact { OfFile S.PageSource source.old (λ file.
-        Halts result (PageCheck file segment holder (is_set marks.now n) left n)) }
-    ensures page { OnOk result (OfFile S.PageSource source.old (λ file. page.new ≡ page_of file n)) }
-    ensures part { IfOk result (λ length. (length ≡ part_length page.new) × IsChainPart page.new left) }
-    ensures within { OnOk result (n < length marks.now) }
-    ensures new { OnOk result (is_set marks.now n ≡ false) }
+        Halts result (DueCheck file chain.now (is_set marks.now) due)) }
+    ensures page { OnOk result (OfFile S.PageSource source.old (λ file. page.new ≡ page_of file due.page)) }
+    ensures part { IfOk result (λ length. (length ≡ part_length page.new) × IsChainPart page.new due.left) }
+    ensures within { OnOk result (due.page < length marks.now) }
+    ensures new { OnOk result (is_set marks.now due.page ≡ false) }
     ensures cost { steps.new ≤ steps.old + 1 }
     ensures over { HaltsOver S.PageSource source.old source.new result }
 {
-    if !is_place(space, segment, marks, n) {
-        return Err(Halt::Broken(Rule::ChainPlace.at(holder)));
+    if !is_place(chain.space, chain.segment, marks, due.page) {
+        return Err(Halt::Broken(Rule::ChainPlace.at(due.holder)));
     }
-    source.fetch(n, page, steps)?;
-    if !is_part(page, left) {
-        return Err(Halt::Broken(Rule::ChainLength.at(n)));
+    source.fetch(due.page, page, steps)?;
+    if !is_part(page, due.left) {
+        return Err(Halt::Broken(Rule::ChainLength.at(due.page)));
     }
     Ok(part_length(page))
 }
@@ -82,45 +108,41 @@ fn check_page<S: PageSource, L: Ledger>(
 /// many there are.
 fn check_pages<S: PageSource, L: Ledger>(
     source: &mut S,
-    space: &Space,
-    segment: u32,
-    holder: u32,
-    reference: &Reference,
+    chain: &Chain,
     text: &mut Utf8,
     marks: &mut Marks,
     page: &mut Page,
     steps: &mut Steps<L>,
 ) -> Result<u32, Halt>
-    requires audit { OfFile S.PageSource source.old (λ file. IsAuditOf file space.now) }
-    requires members { length marks.old ≡ space.now.size }
+    requires ready { IsReady S.PageSource source.old chain.now marks.old }
     requires count { CountsUpTo 16384 text.old }
-    ensures exact { OfFile S.PageSource source.old (λ file. Halts result
-        (EachOf (chain_pages file reference.now) (PartCheck file segment holder reference.now (is_set marks.old)))) }
+    ensures exact { OfFile S.PageSource source.old (λ file.
+        Halts result (PagesCheck file chain.now (is_set marks.old))) }
     ensures count { IfOk result (λ count. OfFile S.PageSource source.old (λ file.
-        count ≡ length (chain_pages file reference.now))) }
+        count ≡ length (pages_in file chain.now))) }
     ensures grew { OnOk result (OfFile S.PageSource source.old (λ file.
-        Marked (is_set marks.old) marks.new (chain_pages file reference.now))) }
+        Marked (is_set marks.old) marks.new (pages_in file chain.now))) }
     ensures fed { OnOk result (OfFile S.PageSource source.old (λ file.
-        IsFed text.old text.new (bytes_on file (chain_pages file reference.now)))) }
+        IsFed text.old text.new (bytes_on file (pages_in file chain.now)))) }
     ensures members { length marks.new ≡ length marks.old }
     ensures cost { steps.new + unmarked marks.new ≤ steps.old + unmarked marks.old + 1 }
     ensures fewer { IfOk result (λ count. count + unmarked marks.new ≤ unmarked marks.old) }
     ensures spent { OnOk result (steps.new + unmarked marks.new ≤ steps.old + unmarked marks.old) }
     ensures over { HaltsOver S.PageSource source.old source.new result }
 {
-    let _size = space.size();
-    let mut holder = holder;
-    let mut n = reference.page;
-    let mut left = reference.length;
+    let _size = chain.space.size();
+    let mut due = chain.first();
     let mut count = 0;
-    while left > 0 {
-        let length = check_page(source, space, segment, holder, n, left, marks, page, steps)?;
-        marks.mark(n);
+    while due.left > 0 {
+        let length = check_page(source, chain, due, marks, page, steps)?;
+        marks.mark(due.page);
         text.feed(part_bytes(page));
         count += 1;
-        left -= length;
-        holder = n;
-        n = next_part(page);
+        due = Due {
+            page: next_part(page),
+            holder: due.page,
+            left: due.left - length,
+        };
     }
     Ok(count)
 }
@@ -162,9 +184,13 @@ pub fn check_chain<S: PageSource, L: Ledger>(
     if !refers_here(space, reference) {
         return Err(Halt::Broken(Rule::ChainPlace.at(holder)));
     }
-    let count = check_pages(
-        source, space, segment, holder, reference, text, marks, page, steps,
-    )?;
+    let chain = Chain {
+        space,
+        segment,
+        holder,
+        reference,
+    };
+    let count = check_pages(source, &chain, text, marks, page, steps)?;
     if !text.is_text() {
         return Err(Halt::Broken(Rule::TextSpelling.at(holder)));
     }
