@@ -13,7 +13,7 @@ use std::marker::Brand;
 use std::process::Abort;
 use std::sync::ledger::{Blank, Ledger};
 use std::test::Fail;
-use vectors::{Piece, Which, edited, schema};
+use vectors::{Broken, Piece, Which, edited, schema};
 
 /// More than any text that is written here.
 const ROOM: usize = 1000;
@@ -126,12 +126,12 @@ pub struct Outputs {
 impl Outputs {
     /// The exit status, the standard output and the standard error, with bars between.
     pub fn answer(&self, alloc: Global, status: Status) -> Result<ByteList, NoMemory> {
-        let mut text = ByteList::new(alloc);
-        text.extend(Buffer::new().format(status.number()).as_bytes())?;
-        for part in [b"|", self.out.bytes(), b"|", self.err.bytes()] {
-            text.extend(part)?;
-        }
-        Ok(text)
+        let mut number = Buffer::new();
+        let number = number.format(status.number()).as_bytes();
+        concat(
+            alloc,
+            &[number, b"|", self.out.bytes(), b"|", self.err.bytes()],
+        )
     }
 }
 
@@ -251,7 +251,7 @@ pub fn expect_sound(
 }
 
 /// Fails the test where they don't answer that this rule is broken first, at this page.
-pub fn expect_broken(
+fn expect_broken(
     rt: &impl Abort,
     alloc: Global,
     table: Table,
@@ -266,6 +266,28 @@ pub fn expect_broken(
     Ok(())
 }
 
+/// The same for each of these edits.
+pub fn expect_each_broken(
+    rt: &impl Abort,
+    alloc: Global,
+    table: Table,
+    cases: &[Broken],
+) -> Result<(), Fail> {
+    for (edits, rule, page) in cases {
+        expect_broken(rt, alloc, table, edits, *rule, *page)?;
+    }
+    Ok(())
+}
+
+/// These bytes one after another.
+pub fn concat(alloc: Global, parts: &[&[u8]]) -> Result<ByteList, NoMemory> {
+    let mut whole = ByteList::new(alloc);
+    for part in parts {
+        whole.extend(part)?;
+    }
+    Ok(whole)
+}
+
 /// These texts one after another.
 pub fn joined(alloc: Global, texts: &[&str]) -> Result<ByteList, NoMemory> {
     let mut whole = ByteList::new(alloc);
@@ -275,26 +297,40 @@ pub fn joined(alloc: Global, texts: &[&str]) -> Result<ByteList, NoMemory> {
     Ok(whole)
 }
 
+/// Puts a number behind this text.
+pub fn put_number(text: &mut ByteList, before: &str, number: u32) -> Result<(), NoMemory> {
+    text.extend(before.as_bytes())?;
+    text.extend(Buffer::new().format(number).as_bytes())
+}
+
 /// The answer of a check in which no rule is broken.
 fn numbers_text(alloc: Global, numbers: [u32; 5]) -> Result<ByteList, NoMemory> {
-    let names = ["0|pages=", " used=", " rows=", " deleted=", " unreached="];
     let mut text = ByteList::new(alloc);
-    for (name, number) in names.into_iter().zip(numbers) {
-        text.extend(name.as_bytes())?;
-        text.extend(Buffer::new().format(number).as_bytes())?;
-    }
+    put_number(&mut text, "0|pages=", numbers[0])?;
+    put_number(&mut text, " used=", numbers[1])?;
+    put_number(&mut text, " rows=", numbers[2])?;
+    put_number(&mut text, " deleted=", numbers[3])?;
+    put_number(&mut text, " unreached=", numbers[4])?;
     text.extend(b"\n|")?;
     Ok(text)
 }
 
 /// The answer where this rule is broken first.
 fn broken_text(alloc: Global, rule: Rule, page: u32) -> Result<ByteList, NoMemory> {
-    let mut text = joined(alloc, &["3||broken "])?;
-    text.extend(Buffer::new().format(rule.number()).as_bytes())?;
-    for part in [" ", rule.name(), " page "] {
-        text.extend(part.as_bytes())?;
-    }
-    text.extend(Buffer::new().format(page).as_bytes())?;
-    text.push(b'\n')?;
-    Ok(text)
+    let mut number = Buffer::new();
+    let mut place = Buffer::new();
+    let number = number.format(rule.number());
+    let place = place.format(page);
+    joined(
+        alloc,
+        &[
+            "3||broken ",
+            number,
+            " ",
+            rule.name(),
+            " page ",
+            place,
+            "\n",
+        ],
+    )
 }

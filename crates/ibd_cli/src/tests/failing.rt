@@ -1,6 +1,6 @@
 //! Each call of an object fails in turn, and outputs have little room.
 
-use super::command::{CHECK, Command, DUMP, expect};
+use super::command::{Command, expect};
 use super::files::ALL;
 use crate::Status;
 use std::alloc::Global;
@@ -83,23 +83,47 @@ const CHECKED: &str = "pages=6 used=4 rows=3 deleted=0 unreached=0\n";
 const DUMPED: &str =
     "INSERT INTO `t` VALUES (-1);\nINSERT INTO `t` VALUES (0);\nINSERT INTO `t` VALUES (2147483647);\n";
 
+// The size and each used page are read, the text of the schema and its end, and each number is put, or all rows at
+// once.
+
+fn expect_blame_of_check(rt: &impl Abort, alloc: Global, check: Command) -> Result<(), Fail> {
+    expect_each_call(rt, alloc, check, Object::File, CHECKED, 5)?;
+    expect_each_call(rt, alloc, check, Object::Schema, CHECKED, 2)?;
+    expect_each_call(rt, alloc, check, Object::Out, CHECKED, 11)
+}
+
+fn expect_blame_of_dump(rt: &impl Abort, alloc: Global, dump: Command) -> Result<(), Fail> {
+    expect_each_call(rt, alloc, dump, Object::File, DUMPED, 6)?;
+    expect_each_call(rt, alloc, dump, Object::Schema, DUMPED, 2)?;
+    expect_each_call(rt, alloc, dump, Object::Out, DUMPED, 1)
+}
+
+/// A call that isn't made fails, and nothing is blamed.
+fn expect_no_blame(rt: &impl Abort, alloc: Global, dump: Command) -> Result<(), Fail> {
+    for object in [Object::File, Object::Schema, Object::Out] {
+        expect(rt, alloc, object.failing(dump, &[1000]), ALL)?;
+    }
+    Ok(())
+}
+
 #[test]
 fn tells_which_object_failed(rt: HostRuntime) -> Result<(), Fail> {
-    let alloc = rt.alloc();
-    let file = file(alloc, Which::B)?;
-    let check = Command::check(file.bytes());
-    let dump = Command::dump(file.bytes());
-    // The size and each used page are read, the text of the schema and its end, and each number is put, or all rows at
-    // once.
-    expect_each_call(&rt, alloc, check, Object::File, CHECKED, 5)?;
-    expect_each_call(&rt, alloc, check, Object::Schema, CHECKED, 2)?;
-    expect_each_call(&rt, alloc, check, Object::Out, CHECKED, 11)?;
-    expect_each_call(&rt, alloc, dump, Object::File, DUMPED, 6)?;
-    expect_each_call(&rt, alloc, dump, Object::Schema, DUMPED, 2)?;
-    expect_each_call(&rt, alloc, dump, Object::Out, DUMPED, 1)?;
-    let later = [1000];
-    for object in [Object::File, Object::Schema, Object::Out] {
-        expect(&rt, alloc, object.failing(dump, &later), ALL)?;
+    let file = file(rt.alloc(), Which::B)?;
+    expect_blame_of_check(&rt, rt.alloc(), Command::check(file.bytes()))?;
+    expect_blame_of_dump(&rt, rt.alloc(), Command::dump(file.bytes()))?;
+    expect_no_blame(&rt, rt.alloc(), Command::dump(file.bytes()))
+}
+
+/// Fails the test where the output of a command has too little room and it ends otherwise.
+fn expect_each_room(
+    rt: &impl Abort,
+    alloc: Global,
+    command: Command,
+    whole: &str,
+) -> Result<(), Fail> {
+    for room in 0..whole.len() {
+        let small = Command { room, ..command };
+        expect_part(rt, alloc, small, Object::Out, whole)?;
     }
     Ok(())
 }
@@ -108,16 +132,8 @@ fn tells_which_object_failed(rt: HostRuntime) -> Result<(), Fail> {
 fn fills_the_output(rt: HostRuntime) -> Result<(), Fail> {
     let alloc = rt.alloc();
     let file = file(alloc, Which::B)?;
-    for (words, whole) in [(CHECK, CHECKED), (DUMP, DUMPED)] {
-        for room in 0..whole.len() {
-            let command = Command {
-                words: &words,
-                room,
-                ..Command::dump(file.bytes())
-            };
-            expect_part(&rt, alloc, command, Object::Out, whole)?;
-        }
-    }
+    expect_each_room(&rt, alloc, Command::check(file.bytes()), CHECKED)?;
+    expect_each_room(&rt, alloc, Command::dump(file.bytes()), DUMPED)?;
     let full = Command {
         room: DUMPED.len(),
         ..Command::dump(file.bytes())

@@ -1,7 +1,8 @@
 //! Which pages the commands fetch, in what order: those of the parts that they consist of, one after another.
 
-ghost use Rattle.std.specs.Prelude.{◌≡◌, ◌+◌, ◌<◌, None, false};
+ghost use Rattle.std.specs.Prelude.{◌≡◌, ◌+◌, ◌<◌, None, IfOk, false, length};
 ghost use Rattle.page_source.specs.Faults.{HasCause};
+ghost use Rattle.tree_walk.specs.Room.{HasRoom};
 
 use super::command::{CHECK, Command, DUMP};
 use page_source::{ByteList, Failed, Halt, LoggedPages, NoMemory, Page, PageSource, Steps, Stop};
@@ -49,6 +50,63 @@ impl PageSource for Untold {
     }
 }
 
+/// What walks work in, and the segments and pages that they met.
+#[derive(Drop)]
+struct Tools {
+    walk: Walk,
+    named: Marks,
+    marks: Marks,
+}
+
+impl Tools {
+    fn new(alloc: Global, space: &Space) -> Result<Tools, NoMemory>
+        ensures members { IfOk result (λ tools. length tools.marks ≡ space.now.size) }
+        ensures segments { IfOk result (λ tools. length tools.named ≡ length space.now.segments) }
+        ensures room { IfOk result (λ tools. HasRoom tools.walk 128) }
+    {
+        Ok(Tools {
+            walk: Walk::new(alloc, 128)?,
+            named: Marks::new(alloc, space.segment_count())?,
+            marks: Marks::new(alloc, space.size())?,
+        })
+    }
+}
+
+/// Walks the tree of index `j`.
+fn walk_index<L: Ledger>(
+    alloc: Global,
+    file: &mut Untold,
+    space: &Space,
+    table: &Schema,
+    j: usize,
+    tools: &mut Tools,
+    steps: &mut Steps<L>,
+) -> Result<TreeEnds, Stop>
+    requires index { j < length table.now.indexes }
+    requires members { length tools.old.marks ≡ space.now.size }
+    requires segments { length tools.old.named ≡ length space.now.segments }
+    requires room { HasRoom tools.old.walk 128 }
+    ensures members { length tools.new.marks ≡ length tools.old.marks }
+    ensures segments { length tools.new.named ≡ length tools.old.named }
+    ensures room { HasRoom tools.new.walk 128 }
+{
+    lists_are_of_one_index();
+    let leaf = table.fields(alloc, j, true)?;
+    let node = table.fields(alloc, j, false)?;
+    let root = table.indexes()[j].root;
+    Ok(walk_tree(
+        &mut tools.walk,
+        file,
+        space,
+        root,
+        &leaf,
+        &node,
+        &mut tools.named,
+        &mut tools.marks,
+        steps,
+    )?)
+}
+
 /// Walks the trees of all indexes in their order, and answers the ends of the first.
 fn walk_all<L: Ledger>(
     alloc: Global,
@@ -57,18 +115,10 @@ fn walk_all<L: Ledger>(
     table: &Schema,
     steps: &mut Steps<L>,
 ) -> Result<Option<TreeEnds>, Stop> {
-    lists_are_of_one_index();
-    let mut walk = Walk::new(alloc, 128)?;
-    let mut named = Marks::new(alloc, space.segment_count())?;
-    let mut marks = Marks::new(alloc, space.size())?;
+    let mut tools = Tools::new(alloc, space)?;
     let mut clustered = None;
     for j in 0..table.indexes().len() {
-        let leaf = table.fields(alloc, j, true)?;
-        let node = table.fields(alloc, j, false)?;
-        let root = table.indexes()[j].root;
-        let ends = walk_tree(
-            &mut walk, file, space, root, &leaf, &node, &mut named, &mut marks, steps,
-        )?;
+        let ends = walk_index(alloc, file, space, table, j, &mut tools, steps)?;
         clustered = clustered.or(Some(ends));
     }
     Ok(clustered)
@@ -200,12 +250,20 @@ fn broken(alloc: Global) -> Result<ByteList, NoMemory> {
     edited(alloc, Which::G, &[&[(6, 12, b"\0\0\0\x05")]])
 }
 
+/// The file with the pages that the parts fetched, which found a broken rule.
+fn broken_parts(alloc: Global) -> Result<Untold, Fail> {
+    let (file, parts) = parts_of(alloc, Which::G, broken(alloc)?)?;
+    match parts {
+        Err(Stop::Broken(_)) => Ok(file),
+        _ => Err("no rule is broken")?,
+    }
+}
+
 /// Where the walk finds a broken rule, nothing is fetched behind it.
 #[test]
 fn fetches_no_page_behind_a_broken_one(rt: HostRuntime) -> Result<(), Fail> {
     let alloc = rt.alloc();
-    let (logged, parts) = parts_of(alloc, Which::G, broken(alloc)?)?;
-    assert!(rt; matches!(parts, Err(Stop::Broken(_))));
+    let logged = broken_parts(alloc)?;
     let log = logged.pages.log();
     expect_check(&rt, alloc, Which::G, broken(alloc)?, log)?;
     expect_dump(&rt, alloc, Which::G, broken(alloc)?, log, &[])

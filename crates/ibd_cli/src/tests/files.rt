@@ -1,6 +1,9 @@
 //! The named files, and edits of them.
 
-use super::command::{CHECK, Command, expect, expect_broken, expect_sound, joined};
+use super::command::{CHECK, Command, concat, expect, expect_each_broken, expect_sound};
+use page_source::{ByteList, NoMemory};
+use std::alloc::Global;
+use std::process::Abort;
 use std::test::Fail;
 use vectors::{BROKEN, Piece, SOUND, Which, file, schema};
 
@@ -23,38 +26,38 @@ fn serves_sound_files(rt: HostRuntime) -> Result<(), Fail> {
 #[test]
 fn names_the_first_broken_rule(rt: HostRuntime) -> Result<(), Fail> {
     for (which, cases) in BROKEN {
-        for (edits, rule, page) in cases {
-            let table = (which, NOTHING, schema(which));
-            expect_broken(&rt, rt.alloc(), table, edits, *rule, *page)?;
-        }
+        let table = (which, NOTHING, schema(which));
+        expect_each_broken(&rt, rt.alloc(), table, cases)?;
     }
     Ok(())
 }
 
-/// A value of 40,000 bytes on three pages.
+/// The line with a value of 40,000 bytes, which is on three pages.
+fn long_line(alloc: Global) -> Result<ByteList, NoMemory> {
+    let note = Vec::from_elem(alloc, b'x', 40_000)?;
+    concat(alloc, &[b"0|INSERT INTO `t` VALUES (1,'", &note, b"');\n|"])
+}
+
+fn expect_long_line(rt: &impl Abort, alloc: Global, dump: Command) -> Result<(), Fail> {
+    let found = dump.answer(alloc)?;
+    let want = long_line(alloc)?;
+    assert_eq!(rt; found.bytes(), want.bytes());
+    Ok(())
+}
+
 #[test]
 fn dumps_a_long_value(rt: HostRuntime) -> Result<(), Fail> {
-    let alloc = rt.alloc();
-    let file = file(alloc, Which::E)?;
-    let note = Vec::from_elem(alloc, b'x', 40_000)?;
-    let mut line = joined(alloc, &["0|INSERT INTO `t` VALUES (1,'"])?;
-    line.extend(&note)?;
-    line.extend(b"');\n|")?;
+    let file = file(rt.alloc(), Which::E)?;
     let dump = Command {
         schema: schema(Which::E).as_bytes(),
         room: 50_000,
         ..Command::dump(file.bytes())
     };
+    expect_long_line(&rt, rt.alloc(), dump)?;
     let check = Command {
         words: &CHECK,
         ..dump
     };
-    let found = dump.answer(alloc)?;
-    assert_eq!(rt; found.bytes(), line.bytes());
-    expect(
-        &rt,
-        alloc,
-        check,
-        "0|pages=8 used=7 rows=1 deleted=0 unreached=0\n|",
-    )
+    let checked = "0|pages=8 used=7 rows=1 deleted=0 unreached=0\n|";
+    expect(&rt, rt.alloc(), check, checked)
 }

@@ -1,10 +1,11 @@
 //! The frames of pages, and files of any size.
 
-use super::command::{Command, copy, expect, expect_both};
+use super::command::{Command, concat, expect, expect_both};
 use super::files::ALL;
 use fil_frame::{SumKind, kind, seal_as};
 use page_source::{ByteList, PAGE_SIZE, Page};
 use std::alloc::Global;
+use std::ops::Range;
 use std::process::Abort;
 use std::test::Fail;
 use vectors::{Which, file};
@@ -14,11 +15,7 @@ fn flipped(alloc: Global, file: &[u8], n: u16, at: u16) -> Result<ByteList, Fail
     let place = usize::from(n) * PAGE_SIZE + usize::from(at);
     let (front, rest) = file.split_at_checked(place).ok_or("a short file")?;
     let (byte, back) = rest.split_first().ok_or("a short file")?;
-    let mut bytes = ByteList::new(alloc);
-    bytes.extend(front)?;
-    bytes.push(byte ^ 1)?;
-    bytes.extend(back)?;
-    Ok(bytes)
+    Ok(concat(alloc, &[front, &[byte ^ 1], back])?)
 }
 
 /// What a dump answers where the lowest bit of this byte is changed, in a frame field of page `n`.
@@ -35,20 +32,40 @@ fn want_flipped(n: u16, at: u16) -> &'static str {
     }
 }
 
+fn expect_flipped(
+    rt: &impl Abort,
+    alloc: Global,
+    file: &[u8],
+    n: u16,
+    at: u16,
+) -> Result<(), Fail> {
+    let edited = flipped(alloc, file, n, at)?;
+    let found = Command::dump(edited.bytes()).answer(alloc)?;
+    let want = want_flipped(n, at).as_bytes();
+    assert_eq!(rt; found.bytes(), want, "byte {at} of page {n}");
+    Ok(())
+}
+
+/// The same for the bytes of this range, each changed alone.
+fn expect_each_flipped(
+    rt: &impl Abort,
+    alloc: Global,
+    file: &[u8],
+    n: u16,
+    range: Range<u16>,
+) -> Result<(), Fail> {
+    for at in range {
+        expect_flipped(rt, alloc, file, n, at)?;
+    }
+    Ok(())
+}
+
 #[test]
 fn sees_each_byte_of_the_frames(rt: HostRuntime) -> Result<(), Fail> {
-    let alloc = rt.alloc();
-    let file = file(alloc, Which::B)?;
+    let file = file(rt.alloc(), Which::B)?;
     for n in 0..6 {
-        for at in (0..38).chain(16376..16384) {
-            let edited = flipped(alloc, file.bytes(), n, at)?;
-            let found = Command::dump(edited.bytes()).answer(alloc)?;
-            assert_eq!(rt;
-                found.bytes(),
-                want_flipped(n, at).as_bytes(),
-                "byte {at} of page {n}"
-            );
-        }
+        expect_each_flipped(&rt, rt.alloc(), file.bytes(), n, 0..38)?;
+        expect_each_flipped(&rt, rt.alloc(), file.bytes(), n, 16376..16384)?;
     }
     Ok(())
 }
@@ -72,10 +89,7 @@ fn resealed(
     seal_as(&mut page, n, 23, 0x1_0000_2F1C, kind, sum);
     assert!(rt; at <= PAGE_SIZE && bytes.len() <= PAGE_SIZE - at);
     page.put_bytes(at, bytes);
-    let mut whole = copy(alloc, front)?;
-    whole.extend(page.bytes())?;
-    whole.extend(back)?;
-    Ok(whole)
+    Ok(concat(alloc, &[front, page.bytes(), back])?)
 }
 
 #[test]

@@ -1,6 +1,8 @@
 //! A file of two descriptor pages, most of whose pages are zeros.
 
-use super::command::{CHECK, Command};
+ghost use Rattle.std.specs.Prelude.{◌≤◌};
+
+use super::command::Command;
 use fil_frame::seal;
 use page_source::{ByteList, Fails, NoMemory, PAGE_SIZE, Page, PageMap, SparsePages};
 use std::alloc::Global;
@@ -8,26 +10,34 @@ use std::process::Abort;
 use std::test::Fail;
 use vectors::{Which, edited};
 
-/// The descriptors of the extents 1 to 255, which are free, each linked to those beside it.
+/// Puts the address of an extent that is free, and none for those at both ends.
+fn put_node(bytes: &mut ByteList, extent: u16) -> Result<(), NoMemory>
+    requires { extent ≤ 256 }
+{
+    if extent == 0 || extent == 256 {
+        return bytes.extend(b"\xFF\xFF\xFF\xFF\0\0");
+    }
+    bytes.extend(b"\0\0\0\0")?;
+    bytes.extend(&(158 + 40 * extent).to_be_bytes())
+}
+
+/// Puts the descriptor of an extent that is free, linked to those beside it.
+fn put_free_extent(bytes: &mut ByteList, extent: u16) -> Result<(), NoMemory>
+    requires least { 1 ≤ extent }
+    requires most { extent ≤ 255 }
+{
+    bytes.extend(&[0; 8])?;
+    put_node(bytes, extent - 1)?;
+    put_node(bytes, extent + 1)?;
+    bytes.extend(b"\0\0\0\x01")?;
+    bytes.extend(&[0xFF; 16])
+}
+
+/// The descriptors of the extents 1 to 255.
 fn free_extents(alloc: Global) -> Result<ByteList, NoMemory> {
     let mut bytes = ByteList::new(alloc);
     for extent in 1..256u16 {
-        let node = 158 + 40 * extent;
-        bytes.extend(&[0; 8])?;
-        if extent > 1 {
-            bytes.extend(b"\0\0\0\0")?;
-            bytes.extend(&(node - 40).to_be_bytes())?;
-        } else {
-            bytes.extend(b"\xFF\xFF\xFF\xFF\0\0")?;
-        }
-        if extent < 255 {
-            bytes.extend(b"\0\0\0\0")?;
-            bytes.extend(&(node + 40).to_be_bytes())?;
-        } else {
-            bytes.extend(b"\xFF\xFF\xFF\xFF\0\0")?;
-        }
-        bytes.extend(b"\0\0\0\x01")?;
-        bytes.extend(&[0xFF; 16])?;
+        put_free_extent(&mut bytes, extent)?;
     }
     Ok(bytes)
 }
@@ -62,38 +72,56 @@ fn second_descriptors(alloc: Global) -> Result<Page, NoMemory> {
     Ok(page)
 }
 
-/// They, and the page behind, of the bitmap.
+/// Puts a page with these bytes.
+fn put_page(
+    rt: &impl Abort,
+    alloc: Global,
+    held: &mut PageMap,
+    n: u32,
+    bytes: &[u8],
+) -> Result<(), NoMemory> {
+    let mut page = Page::zeroed(alloc)?;
+    assert!(rt; bytes.len() == PAGE_SIZE);
+    page.put_bytes(0, bytes);
+    held.put(n, page)
+}
+
+/// The page behind, of the bitmap.
+fn second_bitmap(alloc: Global) -> Result<Page, NoMemory> {
+    let mut page = Page::zeroed(alloc)?;
+    seal(&mut page, 16385, 23, 0x1_0000_2F1C, 5);
+    Ok(page)
+}
+
+/// All pages that aren't zeros.
 fn pages(rt: &impl Abort, alloc: Global) -> Result<PageMap, NoMemory> {
     let mut held = PageMap::new(alloc);
     let front = first_pages(alloc)?;
     for (n, bytes) in (0..4).zip(front.bytes().chunks_exact(PAGE_SIZE)) {
-        let mut page = Page::zeroed(alloc)?;
-        assert!(rt; bytes.len() == PAGE_SIZE);
-        page.put_bytes(0, bytes);
-        held.put(n, page)?;
+        put_page(rt, alloc, &mut held, n, bytes)?;
     }
     held.put(16384, second_descriptors(alloc)?)?;
-    let mut bitmap = Page::zeroed(alloc)?;
-    seal(&mut bitmap, 16385, 23, 0x1_0000_2F1C, 5);
-    held.put(16385, bitmap)?;
+    held.put(16385, second_bitmap(alloc)?)?;
     Ok(held)
+}
+
+/// What a command answers of the file.
+fn answer_of(rt: &impl Abort, alloc: Global, command: Command) -> Result<ByteList, NoMemory> {
+    let held = pages(rt, alloc)?;
+    let mut file = SparsePages::new(16448, held, Fails::of(alloc, &[])?);
+    let (status, outputs) = command.run_over(alloc, &mut file)?;
+    outputs.answer(alloc, status)
+}
+
+fn expect_sparse(rt: &impl Abort, alloc: Global, command: Command, want: &str) -> Result<(), Fail> {
+    let found = answer_of(rt, alloc, command)?;
+    assert_eq!(rt; found.bytes(), want.as_bytes());
+    Ok(())
 }
 
 #[test]
 fn serves_a_sparse_file(rt: HostRuntime) -> Result<(), Fail> {
-    let alloc = rt.alloc();
-    let dump = Command::dump(b"");
-    let check = Command {
-        words: &CHECK,
-        ..dump
-    };
     let checked = "0|pages=16448 used=6 rows=0 deleted=0 unreached=0\n|";
-    for (command, want) in [(dump, "0||"), (check, checked)] {
-        let held = pages(&rt, alloc)?;
-        let mut file = SparsePages::new(16448, held, Fails::of(alloc, &[])?);
-        let (status, outputs) = command.run_over(alloc, &mut file)?;
-        let found = outputs.answer(alloc, status)?;
-        assert_eq!(rt; found.bytes(), want.as_bytes());
-    }
-    Ok(())
+    expect_sparse(&rt, rt.alloc(), Command::dump(b""), "0||")?;
+    expect_sparse(&rt, rt.alloc(), Command::check(b""), checked)
 }

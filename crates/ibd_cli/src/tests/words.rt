@@ -4,6 +4,7 @@ use super::command::{Command, copy, expect, expect_both};
 use itoa::Buffer;
 use page_source::{ByteList, NoMemory};
 use std::alloc::Global;
+use std::process::Abort;
 use std::test::Fail;
 use vectors::{Which, file};
 
@@ -120,15 +121,19 @@ fn serves_no_other_words(rt: HostRuntime) -> Result<(), Fail> {
 }
 
 /// The file's first call fails, so that none may be made.
+fn expect_schema(rt: &impl Abort, alloc: Global, schema: &str, want: &str) -> Result<(), Fail> {
+    let dump = Command {
+        schema: schema.as_bytes(),
+        file_fails: &[1],
+        ..Command::dump(b"")
+    };
+    expect_both(rt, alloc, dump, [want, want])
+}
+
 #[test]
 fn reads_the_schema_first(rt: HostRuntime) -> Result<(), Fail> {
     for (schema, want) in SCHEMAS {
-        let dump = Command {
-            schema: schema.as_bytes(),
-            file_fails: &[1],
-            ..Command::dump(b"")
-        };
-        expect_both(&rt, rt.alloc(), dump, [want, want])?;
+        expect_schema(&rt, rt.alloc(), schema, want)?;
     }
     Ok(())
 }

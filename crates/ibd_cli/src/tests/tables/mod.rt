@@ -4,7 +4,7 @@
 mod pieces;
 
 use self::pieces::{CASES, CHAINED, DATES, DEEP, HIDDEN, INDEXED, NULLS, ORDERS, SPACES, TABS};
-use super::command::{Command, Table, expect_both, expect_broken, expect_sound};
+use super::command::{Command, Table, expect_both, expect_each_broken, expect_sound};
 use page_source::Rule;
 use std::test::Fail;
 use vectors::{Piece, edited};
@@ -188,9 +188,7 @@ fn serves_sound_tables(rt: HostRuntime) -> Result<(), Fail> {
 #[test]
 fn names_the_first_broken_rule_of_tables(rt: HostRuntime) -> Result<(), Fail> {
     for (table, cases) in BROKEN {
-        for (edits, rule, page) in cases {
-            expect_broken(&rt, rt.alloc(), table, edits, *rule, *page)?;
-        }
+        expect_each_broken(&rt, rt.alloc(), table, cases)?;
     }
     Ok(())
 }

@@ -3,10 +3,10 @@
 ghost use Rattle.std.specs.Prelude.{◌≡◌, ◌+◌, ◌*◌, ◌<◌};
 
 use super::one_record;
-use crate::tests::command::{Command, copy, expect};
-use itoa::Buffer;
+use crate::tests::command::{Command, copy, expect, put_number};
 use page_source::{ByteList, NoMemory};
 use std::alloc::Global;
+use std::process::Abort;
 use std::test::Fail;
 use vectors::{Which, edited};
 
@@ -14,37 +14,52 @@ use vectors::{Which, edited};
 fn wide_schema(alloc: Global, columns: u8) -> Result<ByteList, NoMemory> {
     let mut text = copy(alloc, b"table t dynamic\ncolumn id int notnull\n")?;
     for i in 1..columns {
-        text.extend(b"column c")?;
-        text.extend(Buffer::new().format(i).as_bytes())?;
+        put_number(&mut text, "column c", u32::from(i))?;
         text.extend(b" tinyint notnull\n")?;
     }
     text.extend(b"clustered root 3 id\n")?;
     Ok(text)
 }
 
-/// The bytes of the small numbers 1 to 63, and the answer that prints them behind the key.
-fn wide_row(alloc: Global) -> Result<(ByteList, ByteList), NoMemory> {
+/// The bytes of the small numbers 1 to 63.
+fn wide_row(alloc: Global) -> Result<ByteList, NoMemory> {
     let mut bytes = ByteList::new(alloc);
-    let mut want = copy(alloc, b"0|INSERT INTO `t` VALUES (1")?;
     for i in 1..64u8 {
         bytes.push(0x80 + i)?;
-        want.extend(b",")?;
-        want.extend(Buffer::new().format(i).as_bytes())?;
     }
-    want.extend(b");\n|")?;
-    Ok((bytes, want))
+    Ok(bytes)
 }
 
-#[test]
-fn dumps_64_columns(rt: HostRuntime) -> Result<(), Fail> {
-    let (bytes, want) = wide_row(rt.alloc())?;
-    let file = one_record(&rt, rt.alloc(), b"", bytes.bytes())?;
-    let schema = wide_schema(rt.alloc(), 64)?;
+/// The answer that prints them behind the key.
+fn wide_text(alloc: Global) -> Result<ByteList, NoMemory> {
+    let mut text = copy(alloc, b"0|INSERT INTO `t` VALUES (1")?;
+    for i in 1..64u8 {
+        put_number(&mut text, ",", u32::from(i))?;
+    }
+    text.extend(b");\n|")?;
+    Ok(text)
+}
+
+fn wide_file(rt: &impl Abort, alloc: Global) -> Result<ByteList, NoMemory> {
+    let row = wide_row(alloc)?;
+    one_record(rt, alloc, b"", row.bytes())
+}
+
+/// What a dump of the row of 64 columns answers.
+fn wide_answer(rt: &impl Abort, alloc: Global) -> Result<ByteList, NoMemory> {
+    let file = wide_file(rt, alloc)?;
+    let schema = wide_schema(alloc, 64)?;
     let command = Command {
         schema: schema.bytes(),
         ..Command::dump(file.bytes())
     };
-    let found = command.answer(rt.alloc())?;
+    command.answer(alloc)
+}
+
+#[test]
+fn dumps_64_columns(rt: HostRuntime) -> Result<(), Fail> {
+    let found = wide_answer(&rt, rt.alloc())?;
+    let want = wide_text(rt.alloc())?;
     assert_eq!(rt; found.bytes(), want.bytes());
     Ok(())
 }
@@ -74,23 +89,29 @@ const fn origin_of(i: u16) -> u16
     125 + 22 * i
 }
 
-/// The records of a full page, with the keys 1, 2 and so on. The last one leads to the supremum, and the last one of
+/// Puts record `i` of a full page, which has the key `i + 1`. The last one leads to the supremum, and the last one of
 /// each eight owns those.
+fn put_record(bytes: &mut ByteList, i: u16) -> Result<(), NoMemory>
+    requires { i < 730 }
+{
+    let owned = if i % GROUP == GROUP - 1 { 8 } else { 0 };
+    let next = if i + 1 < FULL {
+        22
+    } else {
+        112u16.wrapping_sub(origin_of(i))
+    };
+    bytes.push(owned)?;
+    bytes.extend(&((i + 2) * 8).to_be_bytes())?;
+    bytes.extend(&next.to_be_bytes())?;
+    bytes.extend(b"\x80\0")?;
+    bytes.extend(&(i + 1).to_be_bytes())?;
+    bytes.extend(&[0; 13])
+}
+
 fn records(alloc: Global) -> Result<ByteList, NoMemory> {
     let mut bytes = ByteList::new(alloc);
     for i in 0..FULL {
-        let owned = if i % GROUP == GROUP - 1 { 8 } else { 0 };
-        let next = if i + 1 < FULL {
-            22
-        } else {
-            112u16.wrapping_sub(origin_of(i))
-        };
-        bytes.push(owned)?;
-        bytes.extend(&((i + 2) * 8).to_be_bytes())?;
-        bytes.extend(&next.to_be_bytes())?;
-        bytes.extend(b"\x80\0")?;
-        bytes.extend(&(i + 1).to_be_bytes())?;
-        bytes.extend(&[0; 13])?;
+        put_record(&mut bytes, i)?;
     }
     Ok(bytes)
 }
@@ -125,25 +146,29 @@ fn full_page(alloc: Global) -> Result<ByteList, NoMemory> {
     )
 }
 
-#[test]
-fn dumps_a_full_page(rt: HostRuntime) -> Result<(), Fail> {
-    let file = full_page(rt.alloc())?;
-    let want = full_text(rt.alloc())?;
+/// What a dump of the full page answers.
+fn full_answer(alloc: Global) -> Result<ByteList, NoMemory> {
+    let file = full_page(alloc)?;
     let command = Command {
         room: 100_000,
         ..Command::dump(file.bytes())
     };
-    let found = command.answer(rt.alloc())?;
+    command.answer(alloc)
+}
+
+#[test]
+fn dumps_a_full_page(rt: HostRuntime) -> Result<(), Fail> {
+    let found = full_answer(rt.alloc())?;
+    let want = full_text(rt.alloc())?;
     assert_eq!(rt; found.bytes(), want.bytes());
     Ok(())
 }
 
-/// The answer to a dump of the full page.
+/// What it has to answer.
 fn full_text(alloc: Global) -> Result<ByteList, NoMemory> {
     let mut text = copy(alloc, b"0|")?;
     for id in 1..=FULL {
-        text.extend(b"INSERT INTO `t` VALUES (")?;
-        text.extend(Buffer::new().format(id).as_bytes())?;
+        put_number(&mut text, "INSERT INTO `t` VALUES (", u32::from(id))?;
         text.extend(b");\n")?;
     }
     text.push(b'|')?;

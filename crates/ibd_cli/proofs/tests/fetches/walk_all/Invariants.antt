@@ -4,7 +4,7 @@ use Rattle.ibd_cli.proofs.tests.fetches.walk_all.Given as goal
 
 abbrev pub invariant-loop-j : goal.invariant-loop-j
 invariant-loop-j g l = record {
-  members : length l.marks ≡ l.space.size;
-  segments : length l.named ≡ length l.space.segments;
-  room : HasRoom l.walk 128;
+  members : length l.tools.marks ≡ l.space.size;
+  segments : length l.tools.named ≡ length l.space.segments;
+  room : HasRoom l.tools.walk 128;
 }
