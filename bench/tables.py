@@ -3,9 +3,9 @@
 
 usage: bench/tables.py PROGRAM
 
-PROGRAM is the program that is measured. The tables are made here, by tablespace.py, in the folder for temporary files,
-which needs 800 MB; that takes a minute. What `dump` writes is compared with the rows. Each time is the best of three
-runs.
+PROGRAM is the program that is measured. The tables are made here, by tablespace.py, one after the other in the folder
+for temporary files, which needs 330 MB; that takes a quarter of a minute. What `dump` writes is compared with the rows.
+Each time is the best of three runs. The memory is read from /proc.
 """
 import itertools
 import os
