@@ -9,7 +9,7 @@ use Rattle.page_source.specs.Pages.{num, be_bytes, AreBytes}
 use Rattle.column_values.specs.declared.kind.ColumnType.TheVariants as types
 use Rattle.column_values.specs.declared.value.Value.{Value}
 use Rattle.column_values.specs.declared.value.Value.TheVariants as values
-use Rattle.column_values.specs.Spell.{int_of, int_bytes, IsInRange, IsNumberOf, IsValueOf, IsSpelled}
+use Rattle.column_values.specs.Spell.{int_of, int_bytes, IsInRange, IsNumberOf, IsValueOf, IsSpelled, IsSpelling, Spell}
 use Rattle.column_values.proofs.Bytes.{worth, num-worth, worth-lt, are_be_bytes, num-be_bytes}
 use Rattle.column_values.proofs.Numbers.{signed_range, whole_is_twice}
 
@@ -84,3 +84,16 @@ whole_write w n m new old size wrote same =
 -- a number that was added to an empty list
 pub alone : (w n m : ℕ) (new old : List ℕ) → old ≡ [] → new ≡ old ++ be_bytes w n → n ≡ m → new ≡ be_bytes w m
 alone w n m new old empty wrote same = rw (wrote, empty, same) refl
+
+-- any bytes of the width spell an integer, and only these do
+pub spelling_of_size : (w : ℕ) (signed : Bool) (bytes : List ℕ) → length bytes ≡ w
+    → IsSpelling (types.Int w signed) bytes
+spelling_of_size w true bytes size = (values.Signed (int_of true w bytes), (size, refl))
+spelling_of_size w false bytes size = (values.Unsigned (num bytes 0 w), (size, refl))
+
+pub size_of_spelling : (w : ℕ) (signed : Bool) (value : Value) (bytes : List ℕ)
+    → Spell (types.Int w signed) value bytes → length bytes ≡ w
+size_of_spelling w true (values.Signed z) bytes spell = spell.0
+size_of_spelling w false (values.Unsigned n) bytes spell = spell.0
+size_of_spelling w true _ bytes spell = absurd spell
+size_of_spelling w false _ bytes spell = absurd spell

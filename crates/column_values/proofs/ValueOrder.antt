@@ -83,7 +83,7 @@ by_front w a b long_a long_b are_a are_b =
     ∙ cmp-append (take w a) (drop w a) (take w b) (drop w b) (size_a ∙ sym size_b)
     ∙ ap (λ (o : Ordering). ordering_then o (bytes_cmp (drop w a) (drop w b))) fronts
 
-whole_number : (w : ℕ) (a b : List ℕ) → length a ≡ w → length b ≡ w → AreBytes a → AreBytes b
+pub whole_number : (w : ℕ) (a b : List ℕ) → length a ≡ w → length b ≡ w → AreBytes a → AreBytes b
     → bytes_cmp a b ≡ nat_cmp (num a 0 w) (num b 0 w)
 whole_number w a b size_a size_b are_a are_b =
     worth_orders a b (size_a ∙ sym size_b) are_a are_b

@@ -8,6 +8,7 @@ use Rattle.column_values.specs.declared.kind.ColumnType.TheVariants.{Year, Decim
 use Rattle.column_values.specs.declared.field.FieldType.{FieldType}
 use Rattle.column_values.specs.declared.field.FieldType.TheVariants.{Column, RowId, TrxId, RollPointer, Child}
 use Rattle.column_values.specs.declared.field.Field.{Field}
+use Rattle.column_values.specs.declared.field.Storage.{Storage}
 use Rattle.column_values.specs.Lengths.{fraction_length, decimal_length}
 
 -- the widths of whole numbers, in bytes
@@ -106,6 +107,21 @@ fixed_length RowId = 6
 fixed_length TrxId = 6
 fixed_length RollPointer = 7
 fixed_length Child = 4
+
+-- how a record keeps a field
+abbrev pub storage_of : Field → Storage
+storage_of field =
+    record {
+      nullable = field.nullable;
+      variable = is_variable field.kind;
+      big = is_big field.kind;
+      may_leave = field.may_leave;
+      length = fixed_length field.kind;
+    }
+
+-- the length of a field of a fixed length has a bound
+abbrev pub IsShort : Storage → Type 0
+IsShort storage = storage.length < 34359738368
 
 -- the fields of an index, how many nullable ones the whole index has, and how many make the key
 pub record Fields : Type 0 where

@@ -68,8 +68,8 @@ pub fn is_value(kind: &ColumnType, bytes: &[u8]) -> bool
         | ColumnType::Binary { .. }
         | ColumnType::Varbinary { .. }
         | ColumnType::Blob { .. } => fits(kind, bytes),
-        ColumnType::Int { .. }
-        | ColumnType::Date
+        ColumnType::Int { width, .. } => bytes.len() == usize::from(width),
+        ColumnType::Date
         | ColumnType::DateTime { .. }
         | ColumnType::Timestamp { .. }
         | ColumnType::Year

@@ -1,7 +1,7 @@
 //! The fields of an index.
 
-ghost use Rattle.std.specs.Prelude.{◌≡◌, ◌≤◌, [], length, OnOk, OnErr};
-ghost use Rattle.column_values.specs.Types.{CanFollow, with_field};
+ghost use Rattle.std.specs.Prelude.{◌≡◌, ◌<◌, ◌≤◌, [], length, map, All, OnOk, OnErr};
+ghost use Rattle.column_values.specs.Types.{CanFollow, with_field, storage_of, IsShort};
 
 use crate::kind::ColumnType;
 use page_source::NoMemory;
@@ -34,23 +34,57 @@ pub struct Field {
     pub may_leave: bool,
 }
 
+/// How a record keeps a field (rem0rec): all that its bytes are found by.
+#[derive(Clone, Copy, Debug, PartialEq, Eq)]
+pub struct Storage {
+    /// Whether each record has a null bit for it.
+    pub nullable: bool,
+    /// Whether a record keeps its length.
+    pub variable: bool,
+    /// Whether that length may take two bytes.
+    pub big: bool,
+    /// Whether a part of its value may stand on pages of its own.
+    pub may_leave: bool,
+    /// Its length where it isn't variable.
+    pub length: usize,
+}
+
+/// How a record keeps a field of this kind.
+fn storage_of(field: Field) -> Storage
+    ensures value { result ≡ storage_of field }
+    ensures within { result.length < 34359738368 }
+{
+    Storage {
+        nullable: field.nullable,
+        variable: field.kind.is_variable(),
+        big: field.kind.is_big(),
+        may_leave: field.may_leave,
+        length: field.kind.fixed_length(),
+    }
+}
+
 /// The fields of an index's records, in order, with how many nullable fields the whole index has, and how many
 /// fields at the front make the key.
 #[derive(Debug, Drop)]
 pub struct FieldList {
     fields: Vec<Field>,
+    /// How a record keeps each of them.
+    stored: Vec<Storage>,
     nullable: u32,
     keys: u32,
 }
 
 impl Model for FieldList {
-    ghost use Rattle.column_values.specs.Types.{Fields, AreListed};
+    ghost use Rattle.std.specs.Prelude.{◌≡◌, map, All};
+    ghost use Rattle.column_values.specs.Types.{Fields, AreListed, storage_of, IsShort};
 
     ghost Value = { Fields };
 
     ghost view = { λ list. record { fields = list.fields.items; nullable = list.nullable; keys = list.keys } };
 
-    ghost invariant = { λ list. AreListed (record { fields = list.fields.items; nullable = list.nullable; keys = list.keys }) };
+    ghost invariant = { λ list. AreListed
+        (record { fields = list.fields.items; nullable = list.nullable; keys = list.keys })
+        × (list.stored.items ≡ map storage_of list.fields.items) × All IsShort list.stored.items };
 }
 
 impl FieldList {
@@ -60,6 +94,7 @@ impl FieldList {
     {
         FieldList {
             fields: Vec::new(alloc),
+            stored: Vec::new(alloc),
             nullable,
             keys,
         }
@@ -71,7 +106,11 @@ impl FieldList {
         ensures ok { OnOk result (self.new ≡ with_field self.old field) }
         ensures err { OnErr result (self.new ≡ self.old) }
     {
-        self.fields.push(field)?;
+        self.stored.push(storage_of(field))?;
+        if let Err(full) = self.fields.push(field) {
+            self.stored.pop();
+            return Err(full.into());
+        }
         Ok(())
     }
 
@@ -81,6 +120,14 @@ impl FieldList {
         ensures few { length result.now ≤ 128 }
     {
         &self.fields
+    }
+
+    /// How a record keeps each of them.
+    pub fn stored(&self) -> &[Storage]
+        ensures same { result.now ≡ map storage_of self.now.fields }
+        ensures short { All IsShort result.now }
+    {
+        &self.stored
     }
 
     /// How many nullable fields the whole index has.

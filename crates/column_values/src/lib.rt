@@ -20,7 +20,7 @@ mod utf8;
 mod value;
 
 pub use codec::{decode, decode_number, encode, is_value};
-pub use field::{Field, FieldList, FieldType};
+pub use field::{Field, FieldList, FieldType, Storage};
 pub use integers::IntCode;
 pub use kind::ColumnType;
 pub use lengths::{greatest_length, is_long_kind};

@@ -1,16 +1,17 @@
 -- The running pointers of a record's fields, one field on.
 use Rattle.std.proofs.Common.{◌≡◌, ℕ, ◌+◌, ◌/◌, ◌<◌, ◌≤◌, Bool, true, false, cond, ◌&&◌, List, ◌++◌, length, get_or}
-use Rattle.std.proofs.Common.{map, take, drop, sum_by, set, subst, get_or-set_same, get_or-set_other, refl, sym, ap}
+use Rattle.std.proofs.Common.{map, All, take, drop, sum_by, set, subst, get_or-set_same, get_or-set_other, refl, sym, ap}
 use Rattle.std.proofs.Common.{◌∙◌, arith, add-one, inl, inr}
 use Rattle.std.specs.List.{range_with_len}
-use Rattle.std.proofs.lemmas.Bool.{cases_eq}
-use Rattle.std.proofs.lemmas.List.{map-id, ext_get_or, get_or-take, length-take-le, take_at}
+use Rattle.std.proofs.lemmas.Bool.{cases_eq, false≢true}
+use Rattle.std.proofs.lemmas.List.{get_or-map, length-map, map-id, ext_get_or, get_or-take, length-take-le, take_at}
 use Rattle.std.proofs.lemmas.List.Filters.{length-filter_more}
 use Rattle.std.proofs.lemmas.List.FromFn.{sum_by-map-range_with_len_more, get_or-map-range_with_len}
 use Rattle.std.proofs.lemmas.List.FromFn.{length-map-range_with_len}
 use Rattle.column_values.specs.declared.field.Field.{Field}
 use Rattle.column_values.specs.declared.field.FieldType.TheVariants.{Child}
-use Rattle.column_values.specs.Types.{Fields, field_at}
+use Rattle.column_values.specs.declared.field.Storage.{Storage}
+use Rattle.column_values.specs.Types.{Fields, field_at, is_variable, fixed_length, storage_of, IsShort}
 use Rattle.compact_record.specs.declared.places.Place.{Place}
 use Rattle.compact_record.specs.Reading.{nullable_before, lengths_before, length_byte, has_length, has_long_length}
 use Rattle.compact_record.specs.Reading.{is_long_length, is_null, local_before, local_length, place_of, places_of}
@@ -112,3 +113,51 @@ places_are page origin fields places n counted room each =
 pub whole_slice : (xs ys : List Place) (n : ℕ) → length xs ≡ n → take n (xs ++ drop (length xs) ys) ≡ xs
 whole_slice xs ys n size =
     take_at xs (drop (length xs) ys) n size
+
+-- how a record keeps the field at a place
+pub storage_in : (fields : Fields) (stored : List Storage) (i : ℕ) (d : Storage)
+    → stored ≡ map storage_of fields.fields → i < length fields.fields
+    → get_or stored i d ≡ storage_of (field_at fields i)
+storage_in fields stored i d same below =
+    ap (λ (xs : List Storage). get_or xs i d) same ∙ get_or-map storage_of fields.fields i
+    (record { kind = Child; nullable = false; may_leave = false }) d below
+
+pub storage_short : (fields : Fields) (stored : List Storage) (i : ℕ) (d : Storage)
+    → stored ≡ map storage_of fields.fields → All IsShort stored → i < length fields.fields
+    → (get_or stored i d).length < 34359738368
+storage_short fields stored i d same short below =
+    short i d (omega (arith, below, ap (λ (xs : List Storage). length xs) same, length-map fields.fields storage_of))
+
+-- a field of a fixed length that is never null has no null bit and no length
+pub record FixedFacts (page : List ℕ) (origin : ℕ) (fields : Fields) (i length' : ℕ) : Type 0 where
+  pub null : false ≡ is_null page origin fields i
+  pub external : false ≡ is_external page origin fields i
+  pub size : length' ≡ local_length page origin fields i
+  pub nulls : nullable_before fields (i + 1) ≡ nullable_before fields i
+  pub lengths : lengths_before page origin fields (i + 1) ≡ lengths_before page origin fields i
+  pub spelled : FieldIsSpelled page origin fields i
+
+pub fixed_facts : (page : List ℕ) (origin : ℕ) (fields : Fields) (i : ℕ) (stored : Storage) → i < length fields.fields
+    → stored ≡ storage_of (field_at fields i) → stored.nullable ≡ false → stored.variable ≡ false
+    → FixedFacts page origin fields i stored.length
+unfolding is_null is_external local_length
+fixed_facts page origin fields i stored below is never fixed =
+    let n : (field_at fields i).nullable ≡ false = sym (ap (λ (s : Storage). s.nullable) is) ∙ never in
+    let v : is_variable (field_at fields i).kind ≡ false = sym (ap (λ (s : Storage). s.variable) is) ∙ fixed in
+    let long : has_long_length page origin fields i ≡ false = rw v refl in
+    let external : is_external page origin fields i ≡ false = rw v refl in
+    let size : local_length page origin fields i ≡ fixed_length (field_at fields i).kind = rw (n, v) refl in
+    let more = nullable_more fields i below in
+    let most = lengths_more page origin fields i in
+    record {
+      null = rw n refl;
+      external = sym external;
+      size = ap (λ (s : Storage). s.length) is ∙ sym size;
+      nulls = omega (arith, rw n at more);
+      lengths = omega (arith, rw v at most);
+      spelled = record {
+        shortest = λ is_long. absurd (false≢true (sym long ∙ is_long));
+        leaves = λ leaves. absurd (false≢true (sym external ∙ leaves));
+        refers = λ leaves. absurd (false≢true (sym external ∙ leaves));
+      };
+    }

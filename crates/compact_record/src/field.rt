@@ -1,12 +1,12 @@
 //! How one field of a record is spelled, where the fields before it are known.
 
 ghost use Rattle.std.specs.Prelude.{◌≡◌, ◌≤◌, ◌<◌, ◌↔◌, IsTrue, length, slice_index};
-ghost use Rattle.column_values.specs.Types.{field_at};
-ghost use Rattle.compact_record.specs.Reading.{IsHeapOrigin, bit_of, null_bytes, nullable_before, is_null, has_length};
+ghost use Rattle.column_values.specs.Types.{field_at, storage_of};
+ghost use Rattle.compact_record.specs.Reading.{IsHeapOrigin, bit_of, lengths_top, nullable_before, is_null, has_length};
 ghost use Rattle.compact_record.specs.Reading.{lengths_before, length_byte, has_long_length, is_external};
 ghost use Rattle.compact_record.specs.Reading.{local_length, length_at, FieldIsSpelled};
 
-use column_values::{Field, FieldList};
+use column_values::{Field, FieldList, Storage};
 use page_source::Page;
 
 /// What the null bits and lengths say of a field.
@@ -40,6 +40,16 @@ pub(crate) fn field_at(fields: &FieldList, i: usize) -> Field
     fields.fields()[i]
 }
 
+/// How a record keeps field `i`.
+#[tactic(auto, using(crate::proofs::Steps::storage_in, crate::proofs::Steps::storage_short))]
+pub(crate) fn storage_at(fields: &FieldList, i: usize) -> Storage
+    requires { i < length fields.now.fields }
+    ensures value { result ≡ storage_of (field_at fields.now i) }
+    ensures short { result.length < 34359738368 }
+{
+    fields.stored()[i]
+}
+
 /// Whether field `i` is null; `nulls` nullable fields stand before it.
 #[tactic(auto, unfolding(crate::specs::Reading::is_null))]
 fn is_null(page: &Page, origin: usize, fields: &FieldList, i: usize, nulls: usize) -> bool
@@ -48,11 +58,22 @@ fn is_null(page: &Page, origin: usize, fields: &FieldList, i: usize, nulls: usiz
     requires before { nulls ≡ nullable_before fields.now i }
     ensures { result ≡ is_null page.now origin fields.now i }
 {
-    field_at(fields, i).nullable
+    storage_at(fields, i).nullable
         && bit_of(
             byte_at(page, origin.saturating_sub(6).saturating_sub(nulls / 8)),
             nulls % 8,
         )
+}
+
+/// Where the first length of a record stands.
+pub(crate) fn lengths_top(origin: usize, fields: &FieldList) -> usize
+    requires { IsHeapOrigin origin }
+    ensures value { result ≡ lengths_top origin fields.now }
+    ensures within { result < 16384 }
+{
+    origin
+        .saturating_sub(6)
+        .saturating_sub((fields.nullable() as usize + 7) / 8)
 }
 
 /// Where the length of a field stands; the lengths before it take `taken` bytes.
@@ -62,19 +83,16 @@ fn length_byte(
     origin: usize,
     fields: &FieldList,
     i: usize,
-    nulls: usize,
+    top: usize,
     taken: usize,
 ) -> usize
-    requires origin { IsHeapOrigin origin }
+    requires top { top ≡ lengths_top origin fields.now }
+    requires within { top < 16384 }
     requires before { taken ≡ lengths_before page.now origin fields.now i }
-    requires bytes { nulls ≡ null_bytes fields.now }
     ensures value { result ≡ length_byte page.now origin fields.now i }
     ensures within { result < 16384 }
 {
-    origin
-        .saturating_sub(6)
-        .saturating_sub(nulls)
-        .saturating_sub(taken)
+    top.saturating_sub(taken)
 }
 
 /// A length of one byte or of two.
@@ -90,7 +108,7 @@ fn length_at(page: &Page, long: bool, at: usize) -> usize
     }
 }
 
-/// Reads field `i`, where `nulls` nullable fields stand before it, and their lengths take `taken` bytes.
+/// Reads field `i`, where `nulls` nullable fields stand before it, and their lengths take `taken` bytes, from `top` down.
 #[tactic(auto, unfolding(crate::specs::Reading::is_external, crate::specs::Reading::local_length))]
 pub(crate) fn read_field(
     page: &Page,
@@ -98,10 +116,13 @@ pub(crate) fn read_field(
     fields: &FieldList,
     i: usize,
     nulls: usize,
+    top: usize,
     taken: usize,
 ) -> FieldRead
     requires inside { i < length fields.now.fields }
     requires origin { IsHeapOrigin origin }
+    requires top { top ≡ lengths_top origin fields.now }
+    requires low { top < 16384 }
     requires before { nulls ≡ nullable_before fields.now i }
     requires lengths { taken ≡ lengths_before page.now origin fields.now i }
     ensures null { result.null ≡ is_null page.now origin fields.now i }
@@ -110,18 +131,17 @@ pub(crate) fn read_field(
     ensures length { result.length ≡ local_length page.now origin fields.now i }
     ensures within { result.length < 34359738368 }
 {
-    let kind = field_at(fields, i).kind;
+    let stored = storage_at(fields, i);
     let null = is_null(page, origin, fields, i, nulls);
-    let bytes = (fields.nullable() as usize + 7) / 8;
-    let at = length_byte(page, origin, fields, i, bytes, taken);
-    let long = kind.is_variable() && !null && kind.is_big() && byte_at(page, at) >= 128;
+    let at = length_byte(page, origin, fields, i, top, taken);
+    let long = stored.variable && !null && stored.big && byte_at(page, at) >= 128;
     let external = long && bit_of(byte_at(page, at), 6);
     let length = if null {
         0
-    } else if kind.is_variable() {
+    } else if stored.variable {
         length_at(page, long, at)
     } else {
-        kind.fixed_length()
+        stored.length
     };
     FieldRead {
         null,
@@ -146,7 +166,7 @@ pub(crate) fn is_field_spelled(
     ensures { IsTrue result ↔ FieldIsSpelled page.now origin fields.now i }
 {
     let short = read.long && !read.external && read.length < 128;
-    let stays = read.external && !field_at(fields, i).may_leave;
+    let stays = read.external && !storage_at(fields, i).may_leave;
     let small = read.external && read.length < 20;
     !short && !stays && !small
 }

@@ -6,7 +6,7 @@ ghost use Rattle.compact_record.specs.Reading.{IsHeapOrigin, FieldIsSpelled, len
 ghost use Rattle.compact_record.specs.Reading.{field_count, place_of, nullable_before, is_null, has_long_length};
 ghost use Rattle.compact_record.specs.declared.places.Place.{Place};
 
-use crate::field::{field_at, is_field_spelled, read_field};
+use crate::field::{is_field_spelled, lengths_top, read_field, storage_at};
 use column_values::FieldList;
 use page_source::Page;
 
@@ -51,22 +51,34 @@ pub(crate) fn read_places(
     ensures short { IfSome result (λ sizes. sizes.local ≤ 4398046511104) }
 {
     let count = fields.fields().len();
+    let top = lengths_top(origin, fields);
     let mut nulls = 0;
     let mut lengths = 0;
     let mut local = 0;
     for i in 0..count {
-        let read = read_field(page, origin, fields, i, nulls, lengths);
+        let stored = storage_at(fields, i);
+        if !stored.nullable && !stored.variable {
+            places[i] = Place {
+                null: false,
+                external: false,
+                from: origin + local,
+                until: origin + local + stored.length,
+            };
+            local += stored.length;
+            continue;
+        }
+        let read = read_field(page, origin, fields, i, nulls, top, lengths);
         if !is_field_spelled(page, origin, fields, i, &read) {
             return None;
         }
+        nulls = nulls_with(fields, i, nulls);
+        lengths = lengths_with(page, origin, fields, i, read.null, read.long, lengths);
         places[i] = Place {
             null: read.null,
             external: read.external,
             from: origin + local,
             until: origin + local + read.length,
         };
-        nulls = nulls_with(fields, i, nulls);
-        lengths = lengths_with(page, origin, fields, i, read.null, read.long, lengths);
         local += read.length;
     }
     Some(Sizes { lengths, local })
@@ -82,7 +94,7 @@ fn nulls_with(fields: &FieldList, i: usize, nulls: usize) -> usize
     ensures value { result ≡ nullable_before fields.now (i + 1) }
     ensures less { result ≤ i + 1 }
 {
-    if field_at(fields, i).nullable {
+    if storage_at(fields, i).nullable {
         nulls + 1
     } else {
         nulls
@@ -109,7 +121,7 @@ fn lengths_with(
     ensures value { result ≡ lengths_before page.now origin fields.now (i + 1) }
     ensures less { result ≤ 2 * (i + 1) }
 {
-    if !field_at(fields, i).kind.is_variable() || null {
+    if !storage_at(fields, i).variable || null {
         lengths
     } else if long {
         lengths + 2

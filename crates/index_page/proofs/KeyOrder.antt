@@ -1,6 +1,6 @@
 -- Keys along the chain by places of the walk.
 use Rattle.std.proofs.Common.{◌≡◌, ℕ, zero, suc, get_or, ◌+◌, ◌-◌, ◌<◌, ◌≤◌, Bool, List, length, sym, ◌∙◌, subst}
-use Rattle.std.proofs.Common.{arith, inl, inr}
+use Rattle.std.proofs.Common.{ap, arith, inl, inr}
 use Rattle.std.proofs.lemmas.Bool.{cases_lt}
 use Rattle.column_values.specs.Types.{Fields}
 use Rattle.compact_record.specs.Header.{next_origin}
@@ -136,3 +136,25 @@ rise_throughout page fields lowest_first chain i j rise before below =
     let d : ℕ = j - (i + 1) in
     let e : j ≡ i + (d + 1) = omega arith in
     rw e (rise_over page fields lowest_first chain i d rise (omega arith))
+
+-- one place more, where each is compared with the one before it
+pub rises_behind : (page : List ℕ) (fields : Fields) (lowest_first : Bool) (i before here : ℕ)
+    → (0 < i → before ≡ record_at page (first_record page) (i - 1)) → here ≡ record_at page (first_record page) i
+    → (0 < i → IsRise page fields lowest_first (i - 1) before here)
+    → ((k : ℕ) → k + 1 < i → RisesAt page fields lowest_first k) → (k : ℕ)
+    → k + 1 < i + 1 → RisesAt page fields lowest_first k
+rises_behind page fields lowest_first i before here place place' rise earlier k below =
+    elim (cases_lt (k + 1) i) [
+      | inl less ↦ earlier k less
+      | inr more ↦
+          let some : 0 < i = omega (arith, below) in
+          let e : i - 1 ≡ k = omega (arith, below, more) in
+          let f : i ≡ k + 1 = omega (arith, below, more) in
+          let P : ℕ → ℕ → ℕ → Type 0 = λ j a b. IsRise page fields lowest_first j a b in
+          let there : before ≡ record_at page (first_record page) k = place some
+          ∙ ap (λ j. record_at page (first_record page) j) e in
+          let behind : here ≡ record_at page (first_record page) (k + 1) = place'
+          ∙ ap (λ j. record_at page (first_record page) j) f in
+          subst (λ b. P k (record_at page (first_record page) k) b) behind
+          (subst (λ a. P k a here) there (subst (λ j. P j before here) e (rise some)))
+    ]

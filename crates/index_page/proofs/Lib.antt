@@ -6,6 +6,7 @@ pub mod MarkBits
 pub mod HeapNumbers
 pub mod RoomMarks
 pub mod KeyOrder
+pub mod PassSteps
 pub mod ChecksLaw
 pub mod AllNumbers
 pub mod ReadRecords

@@ -5,12 +5,12 @@ ghost use Rattle.index_page.specs.Header.{records_of};
 ghost use Rattle.index_page.specs.Page.{IsIndexPage, MayBeEmpty, is_lowest_first};
 ghost use Rattle.index_page.specs.PageChecks.{PageChecks};
 
-use crate::chain::has_chain;
 use crate::directory::has_directory;
 use crate::header::{has_ends, has_header, record_count};
 use crate::keys::keys_rise;
 use crate::marks::Marks;
-use crate::numbers::{has_free_list, has_heap_numbers};
+use crate::numbers::{chain_fault, has_free_list};
+use crate::pass::pass;
 use crate::records::{have_kind, heap_is_spelled};
 use crate::room::have_room;
 use column_values::FieldList;
@@ -95,17 +95,28 @@ fn first_broken(
     if !has_ends(page) {
         return Some(Rule::PageEnds);
     }
-    if !has_chain(page) {
-        return Some(Rule::RecordChain);
-    }
-    if !has_heap_numbers(&mut scratch.numbers, page) {
-        return Some(Rule::HeapNumbers);
+    if let Some(rule) = chain_fault(&mut scratch.numbers, page) {
+        return Some(rule);
     }
     if !has_free_list(&mut scratch.numbers, page) {
         return Some(Rule::FreeList);
     }
     if !has_directory(page) {
         return Some(Rule::Directory);
+    }
+    let lowest = is_lowest_first(leaf, leftmost);
+    if may_be_empty(page, leaf, root)
+        && pass(
+            &mut scratch.bytes,
+            &mut scratch.low,
+            &mut scratch.high,
+            page,
+            fields,
+            leaf,
+            lowest,
+        )
+    {
+        return None;
     }
     if !have_kind(page, leaf) {
         return Some(Rule::RecordKind);
@@ -119,7 +130,6 @@ fn first_broken(
     if !may_be_empty(page, leaf, root) {
         return Some(Rule::EmptyPage);
     }
-    let lowest = is_lowest_first(leaf, leftmost);
     if !keys_rise(&mut scratch.low, &mut scratch.high, page, fields, lowest) {
         return Some(Rule::KeyOrder);
     }

@@ -52,7 +52,7 @@ pub(crate) fn keys_rise(
 
 /// Whether the key of record `i` of the chain, read by `low`, is below that of the one behind it, read
 /// by `high`.
-fn rise(
+pub(crate) fn rise(
     low: &Located,
     high: &Located,
     page: &Page,

@@ -10,6 +10,7 @@ mod keys;
 pub mod laws;
 mod marks;
 mod numbers;
+mod pass;
 mod records;
 mod room;
 #[cfg(test)]

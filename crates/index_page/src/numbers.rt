@@ -1,16 +1,21 @@
 //! The heap numbers of the chain's records and of the free ones, and the free list.
 
-ghost use Rattle.std.specs.Prelude.{◌≡◌, ◌≤◌, ◌↔◌, IsTrue};
+ghost use Rattle.std.specs.Prelude.{◌≡◌, ◌≤◌, ◌↔◌, IsTrue, IsNone};
+ghost use Rattle.page_source.specs.Verdict.{Check, Then};
+ghost use Rattle.page_source.specs.declared.rule.Rule.{Rule};
 ghost use Rattle.compact_record.specs.Reading.{IsHeapOrigin};
 ghost use Rattle.index_page.specs.Header.{records_from, records_of};
 ghost use Rattle.index_page.specs.Page.{HasHeader, AreOrigins, IsChain, HasHeapNumbers, IsFreeWalk};
 ghost use Rattle.index_page.specs.PageChecks.{HasFreeList};
 ghost use Rattle.index_page.specs.Marks.{bits_of, PassInTurn, seen_after, IsNew, with_number, chain_numbers};
 
-use crate::header::{INFIMUM, first_free, free_count, heap_count, is_origin, record_count};
+use crate::chain::has_chain;
+use crate::header::{
+    INFIMUM, SUPREMUM, first_free, free_count, heap_count, is_origin, record_count,
+};
 use crate::marks::Marks;
 use compact_record::{heap_number, next_field, next_origin};
-use page_source::Page;
+use page_source::{Page, Rule};
 
 /// Marks the record's heap number, where it is one that a record may have and wasn't marked before.
 fn mark_number(numbers: &mut Marks, page: &Page, origin: usize) -> bool
@@ -45,7 +50,7 @@ fn mark_numbers(numbers: &mut Marks, page: &Page, first: usize, count: usize) ->
 }
 
 /// Whether each heap number of the chain is one that a record may have, and comes once.
-pub(crate) fn has_heap_numbers(numbers: &mut Marks, page: &Page) -> bool
+fn has_heap_numbers(numbers: &mut Marks, page: &Page) -> bool
     requires header { HasHeader page.now }
     requires chain { IsChain page.now (records_of page.now) }
     ensures exact { IsTrue result ↔ HasHeapNumbers page.now (records_of page.now) }
@@ -58,6 +63,47 @@ pub(crate) fn has_heap_numbers(numbers: &mut Marks, page: &Page) -> bool
         next_origin(page, INFIMUM),
         record_count(page),
     )
+}
+
+/// Whether the records lead from the infimum to the supremum, as many as the header says, and their heap numbers are
+/// found to come once, in one walk, with a mark for each of them. They may do so after false, too.
+fn has_numbered_chain(numbers: &mut Marks, page: &Page) -> bool
+    requires header { HasHeader page.now }
+    ensures chain { IsTrue result → IsChain page.now (records_of page.now) }
+    ensures had { IsTrue result → HasHeapNumbers page.now (records_of page.now) }
+    ensures marks { IsTrue result → bits_of numbers.new ≡ chain_numbers page.now }
+{
+    numbers.clear();
+    let mut origin = next_origin(page, INFIMUM);
+    for i in 0..record_count(page) {
+        if !is_origin(page, origin) {
+            return false;
+        }
+        if !mark_number(numbers, page, origin) {
+            return false;
+        }
+        origin = next_origin(page, origin);
+    }
+    origin == SUPREMUM
+}
+
+/// The rule that the record chain or its heap numbers break first, and a mark for each of these where they break none.
+pub(crate) fn chain_fault(numbers: &mut Marks, page: &Page) -> Option<Rule>
+    requires header { HasHeader page.now }
+    ensures exact { Then (Check Rule.RecordChain (IsChain page.now (records_of page.now)))
+        (Check Rule.HeapNumbers (HasHeapNumbers page.now (records_of page.now))) result }
+    ensures marks { IsNone result → bits_of numbers.new ≡ chain_numbers page.now }
+{
+    if has_numbered_chain(numbers, page) {
+        return None;
+    }
+    if !has_chain(page) {
+        return Some(Rule::RecordChain);
+    }
+    if !has_heap_numbers(numbers, page) {
+        return Some(Rule::HeapNumbers);
+    }
+    None
 }
 
 /// Whether the free list has the records of the heap that the chain hasn't. That its origins differ

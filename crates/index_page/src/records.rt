@@ -12,7 +12,7 @@ use compact_record::{Located, next_origin, status};
 use page_source::Page;
 
 /// Whether the record is a row, of status 0, or above the leaves a node pointer, of status 1.
-fn has_kind(page: &Page, leaf: bool, origin: usize) -> bool
+pub(crate) fn has_kind(page: &Page, leaf: bool, origin: usize) -> bool
     requires { IsHeapOrigin origin }
     ensures { IsTrue result ↔ HasKind page.now leaf origin }
 {
@@ -37,7 +37,7 @@ pub(crate) fn have_kind(page: &Page, leaf: bool) -> bool
 }
 
 /// Whether `count` records from `first` on are spelled as they must be.
-fn are_spelled(
+pub(crate) fn are_spelled(
     reader: &mut Located,
     page: &Page,
     fields: &FieldList,

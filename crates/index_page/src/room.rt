@@ -38,7 +38,7 @@ fn mark_record(
 }
 
 /// Marks the bytes of `count` records from `first` on, where none of them was marked before.
-fn mark_records(
+pub(crate) fn mark_records(
     bytes: &mut Marks,
     reader: &mut Located,
     page: &Page,

@@ -1,7 +1,11 @@
 mod References
 mod Rests
 mod Alongs
-mod Feeds
+pub mod Feeds
 mod Stages
 mod Links
 mod Whole
+mod Writes
+mod PartPages
+mod ValueChains
+mod HeldParts

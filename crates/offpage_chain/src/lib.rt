@@ -3,12 +3,14 @@
 
 mod check;
 pub mod laws;
-mod part;
+pub mod part;
 mod reader;
 mod reference;
 #[cfg(test)]
 mod tests;
+mod write;
 
 pub use check::check_chain;
 pub use reader::ChainReader;
 pub use reference::{Reference, read_reference, write_reference};
+pub use write::write_chain;

@@ -7,33 +7,33 @@ ghost use Rattle.offpage_chain.specs.ChainChecks.{IsChainPart};
 use page_source::{FIL_NULL, Page, read_be};
 
 /// FIL_PAGE_DATA, where the header of the part begins: BTR_BLOB_HDR_PART_LEN, 4 bytes.
-const PART_LENGTH: usize = 38;
+pub(crate) const PART_LENGTH: usize = 38;
 
 /// BTR_BLOB_HDR_NEXT_PAGE_NO, 4 bytes.
-const NEXT_PAGE: usize = 42;
+pub(crate) const NEXT_PAGE: usize = 42;
 
 /// The first byte of the part, behind its header.
-const PART: usize = 46;
+pub(crate) const PART: usize = 46;
 
 /// The most bytes of a part: up to the trailer of the page.
-const MOST: u32 = 16330;
+pub(crate) const MOST: u32 = 16330;
 
 /// The number of bytes that the page has of the value.
-pub(crate) fn part_length(page: &Page) -> u32
+pub fn part_length(page: &Page) -> u32
     ensures { result ≡ part_length page.now }
 {
     read_be::<4>(page, PART_LENGTH) as u32
 }
 
 /// The page on which the value goes on.
-pub(crate) fn next_part(page: &Page) -> u32
+pub fn next_part(page: &Page) -> u32
     ensures { result ≡ next_part page.now }
 {
     read_be::<4>(page, NEXT_PAGE) as u32
 }
 
 /// Whether the page has a part of the bytes that are left, and the chain ends with the last of them.
-pub(crate) fn is_part(page: &Page, left: u32) -> bool
+pub fn is_part(page: &Page, left: u32) -> bool
     ensures { IsTrue result ↔ IsChainPart page.now left }
 {
     let length = part_length(page);
@@ -43,7 +43,7 @@ pub(crate) fn is_part(page: &Page, left: u32) -> bool
 }
 
 /// The bytes of the part.
-pub(crate) fn part_bytes(page: &Page) -> &[u8]
+pub fn part_bytes(page: &Page) -> &[u8]
     requires { part_length page.now ≤ 16330 }
     ensures bytes { result.now ≡ part_bytes page.now }
     ensures length { length result.now ≡ part_length page.now }

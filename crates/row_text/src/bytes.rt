@@ -1,15 +1,32 @@
 //! Texts and bytes as they stand in a line.
 
-ghost use Rattle.std.specs.Prelude.{◌≡◌, ◌<◌, ◌≤◌, position, length, slice_index, Some, MatchOption, IfSome, IsNone};
-ghost use Rattle.hex.specs.Hex.{encode_lower};
+ghost use Rattle.std.specs.Prelude.{◌≡◌, ◌*◌, ◌<◌, ◌≤◌, position, length, take, slice_index, Some, MatchOption, IfSome, IsNone, IsTrue};
+ghost use Rattle.std.specs.Prelude.{◌==◌, if◌then◌else◌};
+ghost use Rattle.hex.specs.Hex.{encode_lower, lower_digits};
 ghost use Rattle.page_source.specs.Calls.{Puts};
 ghost use Rattle.row_text.specs.Values.{IsPlain, is_escaped, escape_letter, escaped_text, quoted, hex_text};
 ghost use Rattle.row_text.specs.Values.{hex_or_empty};
 
 use page_source::{ByteSink, Failed, put_pieces};
 
-/// How many bytes are turned to digits at a time.
+/// How many bytes are turned to digits, or to a text with escapes, at a time.
 const CHUNK: usize = 256;
+
+/// How many bytes of a text are looked at together.
+const RUN: usize = 32;
+
+/// The letter of each byte's escape, 0 where the byte stands for itself.
+pub static LETTERS: [u8; 256] = [
+    48, 0, 0, 0, 0, 0, 0, 0, 0, 0, 110, 0, 0, 114, 0, 0, 0, 0, 0, 0, 0, 0, 0, 0, 0, 0, 90, 0, 0, 0,
+    0, 0, 0, 0, 34, 0, 0, 0, 0, 39, 0, 0, 0, 0, 0, 0, 0, 0, 0, 0, 0, 0, 0, 0, 0, 0, 0, 0, 0, 0, 0,
+    0, 0, 0, 0, 0, 0, 0, 0, 0, 0, 0, 0, 0, 0, 0, 0, 0, 0, 0, 0, 0, 0, 0, 0, 0, 0, 0, 0, 0, 0, 0,
+    92, 0, 0, 0, 0, 0, 0, 0, 0, 0, 0, 0, 0, 0, 0, 0, 0, 0, 0, 0, 0, 0, 0, 0, 0, 0, 0, 0, 0, 0, 0,
+    0, 0, 0, 0, 0, 0, 0, 0, 0, 0, 0, 0, 0, 0, 0, 0, 0, 0, 0, 0, 0, 0, 0, 0, 0, 0, 0, 0, 0, 0, 0, 0,
+    0, 0, 0, 0, 0, 0, 0, 0, 0, 0, 0, 0, 0, 0, 0, 0, 0, 0, 0, 0, 0, 0, 0, 0, 0, 0, 0, 0, 0, 0, 0, 0,
+    0, 0, 0, 0, 0, 0, 0, 0, 0, 0, 0, 0, 0, 0, 0, 0, 0, 0, 0, 0, 0, 0, 0, 0, 0, 0, 0, 0, 0, 0, 0, 0,
+    0, 0, 0, 0, 0, 0, 0, 0, 0, 0, 0, 0, 0, 0, 0, 0, 0, 0, 0, 0, 0, 0, 0, 0, 0, 0, 0, 0, 0, 0, 0, 0,
+    0, 0, 0, 0, 0,
+];
 
 /// The letter that stands for a byte behind a backslash; none where the byte stands for itself.
 fn escape_letter(byte: u8) -> Option<u8>
@@ -26,19 +43,82 @@ fn escape_letter(byte: u8) -> Option<u8>
     }
 }
 
+/// The letter of a byte's escape, 0 where it stands for itself.
+fn letter_of(byte: u8) -> u8
+    ensures { result ≡ escape_letter byte }
+{
+    LETTERS[usize::from(byte)]
+}
+
 /// Whether the byte stands behind a backslash.
 fn is_escaped(byte: u8) -> bool
     ensures { result ≡ is_escaped byte }
 {
-    escape_letter(byte).is_some()
+    letter_of(byte) != 0
 }
 
-/// Where the first byte lies that doesn't stand for itself.
-fn first_escaped(text: &[u8]) -> Option<usize>
+/// The same, by comparisons alone, so that a compiler can make it of many bytes at once.
+fn is_special(byte: u8) -> bool
+    ensures { result ≡ is_escaped byte }
+{
+    (byte == 0)
+        | (byte == b'\n')
+        | (byte == b'\r')
+        | (byte == 0x1A)
+        | (byte == b'"')
+        | (byte == b'\'')
+        | (byte == b'\\')
+}
+
+/// Whether each byte of a run stands for itself. All are looked at, without a way out at the first that doesn't, so
+/// that a compiler makes wide vectors of the loop.
+fn is_plain(run: &[u8]) -> bool
+    ensures { IsTrue result → IsPlain run.now }
+{
+    let mut found = 0u8;
+    for i in 0..run.len() {
+        found = found.max(is_special(run[i]) as u8);
+    }
+    found == 0
+}
+
+/// How many bytes at the front of a text were found to stand for themselves, by whole runs.
+fn plain_front(text: &[u8]) -> usize
+    ensures within { result ≤ length text.now }
+    ensures plain { IsPlain (take result text.now) }
+{
+    let mut rest = text;
+    let mut front = 0;
+    while rest.len() >= RUN {
+        let (run, more) = rest.split_at(RUN);
+        if !is_plain(run) {
+            return front;
+        }
+        front += RUN;
+        rest = more;
+    }
+    front
+}
+
+/// Where the first byte lies that doesn't stand for itself, one after another.
+fn first_by_bytes(text: &[u8]) -> Option<usize>
+    ensures place { result ≡ position is_escaped text.now }
+    ensures inside { IfSome result (λ at. at < length text.now) }
+{
+    text.iter().position(|byte| is_escaped(*byte))
+}
+
+/// The same, by whole runs up to it.
+pub(crate) fn first_escaped(text: &[u8]) -> Option<usize>
     ensures place { result ≡ position is_escaped text.now }
     ensures none { IsNone result → IsPlain text.now }
 {
-    text.iter().position(|byte| is_escaped(*byte))
+    let front = plain_front(text);
+    let (_, rest) = text.split_at(front);
+    match first_by_bytes(rest) {
+        Some(at) => Some(front + at),
+        None => None,
+    }
 }
 
 /// The same, with the letter that stands for that byte.
@@ -53,8 +133,78 @@ fn first_escape(text: &[u8]) -> Option<(usize, u8)>
     Some((at, letter))
 }
 
+/// The byte that an escape begins with, or the byte itself where it has no letter.
+fn front_of(byte: u8, letter: u8) -> u8
+    ensures { result ≡ (if letter == 0 then byte else 92) }
+{
+    if letter == 0 { byte } else { b'\\' }
+}
+
+/// How many bytes stand for a byte with this letter.
+fn width_of(letter: u8) -> usize
+    ensures value { result ≡ (if letter == 0 then 1 else 2) }
+    ensures few { result ≤ 2 }
+{
+    if letter == 0 { 1 } else { 2 }
+}
+
+/// Writes a text with its escapes into the room, and answers how many bytes that takes. Two bytes are written for each
+/// byte, the second of which the next one may overwrite, so that no way depends on the text.
+fn write_escaped(text: &[u8], room: &mut [u8]) -> usize
+    requires { length room.old ≡ 2 * length text.now }
+    ensures most { result ≤ length room.new }
+    ensures text { take result room.new ≡ escaped_text text.now }
+{
+    let mut n = 0;
+    for i in 0..text.len() {
+        let letter = letter_of(text[i]);
+        room[n] = front_of(text[i], letter);
+        room[n + 1] = letter;
+        n += width_of(letter);
+    }
+    n
+}
+
+/// Puts a part of a text with its escapes, in one piece. It is made in the room.
+fn put_chunk<O: ByteSink>(sink: &mut O, chunk: &[u8], room: &mut [u8]) -> Result<(), Failed>
+    requires { length room.old ≡ 2 * length chunk.now }
+    ensures puts { Puts O.ByteSink sink.old sink.new (escaped_text chunk.now) result }
+    ensures same { length room.new ≡ length room.old }
+{
+    if is_plain(chunk) {
+        return sink.put(chunk);
+    }
+    let n = write_escaped(chunk, room);
+    sink.put(&room[..n])
+}
+
+/// Puts a long text with its escapes, a chunk at a time.
+fn put_chunks<O: ByteSink>(sink: &mut O, text: &[u8]) -> Result<(), Failed>
+    ensures { Puts O.ByteSink sink.old sink.new (escaped_text text.now) result }
+{
+    let mut room = [0; 2 * CHUNK];
+    let mut rest = text;
+    while rest.len() >= CHUNK {
+        let (chunk, more) = rest.split_at(CHUNK);
+        put_chunk(sink, chunk, &mut room)?;
+        rest = more;
+    }
+    put_between(sink, rest)
+}
+
 /// Puts a text with its escapes.
 pub(crate) fn put_escaped<O: ByteSink>(sink: &mut O, text: &[u8]) -> Result<(), Failed>
+    ensures { Puts O.ByteSink sink.old sink.new (escaped_text text.now) result }
+{
+    if text.len() < CHUNK {
+        put_between(sink, text)
+    } else {
+        put_chunks(sink, text)
+    }
+}
+
+/// Puts a text with its escapes, and in one piece what stands between two of them.
+fn put_between<O: ByteSink>(sink: &mut O, text: &[u8]) -> Result<(), Failed>
     ensures { Puts O.ByteSink sink.old sink.new (escaped_text text.now) result }
 {
     let mut rest = text;
@@ -74,6 +224,29 @@ pub(crate) fn put_quoted<O: ByteSink>(sink: &mut O, text: &[u8]) -> Result<(), F
     sink.put(b"'")
 }
 
+/// The digit of a number below 16, by comparison, so that a compiler can make it of many numbers at once.
+fn digit(number: u8) -> u8
+    requires { number < 16 }
+    ensures { result ≡ slice_index lower_digits number }
+{
+    if number < 10 {
+        number + b'0'
+    } else {
+        number + (b'a' - 10)
+    }
+}
+
+/// Fills the room with the two digits of each byte.
+fn write_hex(bytes: &[u8], room: &mut [u8])
+    requires { length room.old ≡ 2 * length bytes.now }
+    ensures { room.new ≡ encode_lower bytes.now }
+{
+    for i in 0..bytes.len() {
+        room[2 * i] = digit(bytes[i] / 16);
+        room[2 * i + 1] = digit(bytes[i] % 16);
+    }
+}
+
 /// Puts the two digits of each byte.
 pub(crate) fn put_hex<O: ByteSink>(sink: &mut O, bytes: &[u8]) -> Result<(), Failed>
     ensures { Puts O.ByteSink sink.old sink.new (encode_lower bytes.now) result }
@@ -83,7 +256,7 @@ pub(crate) fn put_hex<O: ByteSink>(sink: &mut O, bytes: &[u8]) -> Result<(), Fai
     while !rest.is_empty() {
         let (chunk, more) = rest.split_at(rest.len().min(CHUNK));
         let digits = &mut digits[..2 * chunk.len()];
-        let _ = hex::encode_to_slice(chunk, digits);
+        write_hex(chunk, digits);
         sink.put(digits)?;
         rest = more;
     }

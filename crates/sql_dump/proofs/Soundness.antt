@@ -60,7 +60,7 @@ page_size_of file n within =
     rw taken (length-take-le 16384 (drop (16384 * n) file) (omega (arith, length-drop (16384 * n) file)))
 
 -- the bytes along a chain are as many as are due
-bytes_due : (file : List ℕ) (pages : List ℕ) (n left : ℕ) → GoesOn file n left pages
+pub bytes_due : (file : List ℕ) (pages : List ℕ) (n left : ℕ) → GoesOn file n left pages
     → length (bytes_on file pages) ≡ left
 unfolding bytes_on
 bytes_due file [] n left goes = sym goes
@@ -85,7 +85,7 @@ bytes_due file (p ∷ pages) n left goes =
     )
 
 -- the bytes of a long type spell a value where they are not too many and a text where they must be
-long_spells : (kind : ColumnType) (bytes : List ℕ) → is_long kind ≡ true → length bytes ≤ greatest_length kind
+pub long_spells : (kind : ColumnType) (bytes : List ℕ) → is_long kind ≡ true → length bytes ≤ greatest_length kind
     → IsTextOfKind kind bytes → IsSpelling kind bytes
 long_spells (types.Varchar n) bytes long fits text = (values.Text bytes, (fits, refl))
 long_spells (types.Varbinary n) bytes long fits text = (values.Bytes bytes, (fits, refl))
@@ -212,7 +212,7 @@ value_here file segment leaf kind page place taken laws long checks = by_tests p
         }
 
 -- the field of a column that may be read elsewhere is long
-external_is_long : (page : List ℕ) (origin i : ℕ) (fields : Fields) (kind : ColumnType)
+pub external_is_long : (page : List ℕ) (origin i : ℕ) (fields : Fields) (kind : ColumnType)
     → (field_at fields i).kind ≡ kinds.Column kind → (place_of page origin fields i).external ≡ true
     → is_long kind ≡ true
 unfolding place_of is_external
@@ -227,7 +227,7 @@ pub record ValuesUpTo (P : ℕ → Value → Type 0) (n : ℕ) : Type 0 where
   pub count : length row ≡ n
   pub each : (c : ℕ) → c < n → P c (get_or row c values.Null)
 
-values_up_to : (P : ℕ → Value → Type 0) (n : ℕ) → ((c : ℕ) → c < n → (value : Value) × P c value) → ValuesUpTo P n
+pub values_up_to : (P : ℕ → Value → Type 0) (n : ℕ) → ((c : ℕ) → c < n → (value : Value) × P c value) → ValuesUpTo P n
 values_up_to P zero here = record { row = []; count = refl; each = λ c below. absurd (omega arith) }
 values_up_to P (suc n) here =
     let before = values_up_to P n (λ c below. here c (omega arith)) in

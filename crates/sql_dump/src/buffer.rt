@@ -14,7 +14,7 @@ const ROOM: usize = 65_536;
 /// A text that waits for more, so that the sink is asked for few writes. It takes all its memory before the first
 /// line, and is full once it refused a piece.
 #[derive(Debug, Drop)]
-pub(crate) struct Buffer {
+pub struct Buffer {
     bytes: Vec<u8>,
     refused: u64,
 }
@@ -80,12 +80,13 @@ impl ByteSink for Buffer {
     ghost faults = { λ buffer. buffer.refused };
 
     fn put(&mut self, piece: &[u8]) -> Result<(), Failed> {
-        let fits = piece.len().min(ROOM - self.bytes.len());
-        self.bytes.extend_from_slice(&piece[..fits]).unwrap();
-        if fits < piece.len() {
+        let room = ROOM - self.bytes.len();
+        if piece.len() > room {
+            self.bytes.extend_from_slice(&piece[..room]).unwrap();
             self.refused = self.refused.saturating_add(1);
             return Err(Failed);
         }
+        self.bytes.extend_from_slice(piece).unwrap();
         Ok(())
     }
 }

@@ -29,7 +29,7 @@ fn key_fields(key: &[u16]) -> usize
 }
 
 /// The fields that hold the columns, in the order of the table.
-pub(crate) fn column_fields(alloc: Global, schema: &Schema) -> Result<Vec<usize>, NoMemory>
+pub fn column_fields(alloc: Global, schema: &Schema) -> Result<Vec<usize>, NoMemory>
     ensures fields { IfOk result (λ list. list.items ≡ fields_of_columns schema.now) }
     ensures table { IsTable schema.now }
 {

@@ -4,7 +4,7 @@
 mod buffer;
 mod cell;
 mod columns;
-mod laws;
+pub mod laws;
 mod line;
 mod long;
 mod reader;
@@ -15,5 +15,10 @@ mod stop;
 mod tests;
 mod text;
 
-pub use stop::DumpStop;
+pub use buffer::Buffer;
+pub use columns::column_fields;
+pub use long::ChainRoom;
+pub use reader::RowReader;
+pub use row::{Row, put_row};
+pub use stop::{DumpStop, WriteStop};
 pub use text::dump;

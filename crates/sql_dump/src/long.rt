@@ -25,7 +25,7 @@ const PART: usize = 46;
 
 /// A page for the parts of chains, how many may still be fetched, and room for the text of one part.
 #[derive(Debug, Drop)]
-pub(crate) struct ChainRoom {
+pub struct ChainRoom {
     pub page: Page,
     pub left: u32,
     pub text: Buffer,

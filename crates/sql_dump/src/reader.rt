@@ -18,7 +18,7 @@ use std::marker::Model;
 
 /// Reads the rows of a table on their leaves, in memory that is used again and again.
 #[derive(Drop)]
-pub(crate) struct RowReader<'a> {
+pub struct RowReader<'a> {
     schema: &'a Schema,
     /// The field of each column.
     at: Vec<usize>,

@@ -19,7 +19,7 @@ use std::sync::ledger::Ledger;
 
 /// A row on its leaf.
 #[derive(Drop)]
-pub(crate) struct Row<'a> {
+pub struct Row<'a> {
     pub schema: &'a Schema,
     /// The field of each column.
     pub at: &'a [usize],
@@ -62,7 +62,7 @@ impl<'a> Row<'a> {
 }
 
 /// Puts the line of a row.
-pub(crate) fn put_row<S: PageSource, O: ByteSink, L: Ledger>(
+pub fn put_row<S: PageSource, O: ByteSink, L: Ledger>(
     source: &mut S,
     sink: &mut O,
     row: &Row,

@@ -26,7 +26,7 @@ pub enum DumpStop {
 
 /// What ends the writing of the rows, which takes no memory.
 #[derive(Clone, Copy, Debug, PartialEq, Eq, Error)]
-pub(crate) enum WriteStop {
+pub enum WriteStop {
     #[error("rule {} is broken at page {}", .0.rule.name(), .0.page)]
     Broken(Fault),
     #[error("the file can't be read")]

@@ -1,7 +1,7 @@
-mod ValueStages
-mod Progress
-mod RecordSteps
-mod RecordMarks
+pub mod ValueStages
+pub mod Progress
+pub mod RecordSteps
+pub mod RecordMarks
 mod LiveSteps
 mod RowSteps
 mod RowMarks
@@ -14,3 +14,4 @@ mod NewPages
 mod TreesLaw
 mod ValuesLaw
 mod ValidLaw
+mod SomeAnswer

@@ -1,10 +1,12 @@
 -- The trees of a table, one after another.
 use Rattle.std.proofs.Common.{◌≡◌, ℕ, zero, suc, ◌+◌, ◌<◌, Bool, true, false, cond, List, [], ◌∷◌, ◌++◌, length}
 use Rattle.std.proofs.Common.{get_or, replicate, map, Option, Some, None, refl, sym, ap}
-use Rattle.std.proofs.Common.{◌∙◌, subst, arith}
+use Rattle.std.proofs.Common.{◌∙◌, subst, inl, inr, arith}
 use Rattle.std.specs.List.{range_with_len}
 use Rattle.std.proofs.Math.Path.{fun_ext}
-use Rattle.std.proofs.lemmas.List.{get_or_default}
+use Rattle.std.proofs.lemmas.Bool.{cases_lt}
+use Rattle.std.proofs.lemmas.List.{get_or_default, get_or_append_left, get_or_at, length-append}
+use Rattle.std.proofs.lemmas.List.Sums.{sum_by-append}
 use Rattle.page_source.specs.declared.rule.Fault.{Fault}
 use Rattle.page_source.specs.declared.checks.Halt.{Halt}
 use Rattle.page_source.specs.declared.checks.Halt.TheVariants.{Broken, Source}
@@ -31,7 +33,7 @@ use Rattle.table_check.specs.Values.{RowChecks}
 use Rattle.table_check.specs.Trees.{clustered_tree, all_tree_pages, index_in, index_count, IndexCheck, NamedCheck}
 use Rattle.table_check.specs.Trees.{NamedChecks, pages_of_trees, segments_of_trees, leaf_segments_of}
 use Rattle.table_check.specs.declared.trees.Taken.{Taken}
-use Rattle.table_check.specs.Taken.{AreExactly, AreTaken, AreWalked}
+use Rattle.table_check.specs.Taken.{AreExactly, AreTaken, AreWalked, AreEnds, leaves_of}
 use Rattle.table_check.proofs.Progress.{is_in_append}
 use Rattle.table_check.proofs.RecordSteps.{flat_map_more, range_more, below_more}
 
@@ -147,6 +149,45 @@ module _ (file : List ℕ) (table : TableDef) where
     has_clustered = are.has_clustered;
     has_leaves = leaf_added j leaves now ends are.has_leaves is added;
   }
+
+-- the ends of one more tree
+module _ (file : List ℕ) (table : TableDef) where
+  pub ends_none : AreEnds file table 0 []
+  ends_none = record {
+    count = refl;
+    walked = λ i below. absurd (omega (arith, below));
+    each = λ i d below. absurd (omega (arith, below));
+  }
+
+  pub ends_more : (j : ℕ) (before now : List TreeEnds) (ends : TreeEnds) → AreEnds file table j before
+      → now ≡ before ++ ends ∷ [] → IsWalked (index_in file table j) → IsEndsOf (index_in file table j) ends
+      → AreEnds file table (j + 1) now
+  ends_more j before now ends are grown walked is = record {
+    count = ap length grown ∙ length-append before (ends ∷ []) ∙ ap (λ (n : ℕ). n + 1) are.count;
+    walked = λ i below. elim (cases_lt i j) [
+      | inl less ↦ are.walked i less
+      | inr last ↦ let e : j ≡ i = omega arith in subst (λ (k : ℕ). IsWalked (index_in file table k)) e walked
+    ];
+    each = λ i d below. elim (cases_lt i j) [
+      | inl less ↦
+          let at : get_or now i d ≡ get_or before i d =
+          ap (λ (list : List TreeEnds). get_or list i d) grown
+          ∙ get_or_append_left before (ends ∷ []) d i (omega (arith, less, are.count)) in
+          subst (IsEndsOf (index_in file table i)) (sym at) (are.each i d less)
+      | inr last ↦
+          let e : j ≡ i = omega arith in
+          let at : get_or now i d ≡ ends =
+          ap (λ (list : List TreeEnds). get_or list i d) grown ∙ get_or_at before ends [] d i (are.count ∙ e) in
+          subst (IsEndsOf (index_in file table i)) (sym at)
+          (subst (λ (k : ℕ). IsEndsOf (index_in file table k) ends) e is)
+    ];
+  }
+
+-- and its leaves
+pub tree_leaves_more : (before now : List TreeEnds) (ends : TreeEnds) → now ≡ before ++ ends ∷ []
+    → leaves_of now ≡ leaves_of before + ends.leaves
+tree_leaves_more before now ends grown =
+    ap leaves_of grown ∙ sum_by-append (λ (e : TreeEnds). e.leaves) before (ends ∷ []) ∙ omega arith
 
 -- no number is marked of so many
 none_marked_yet : (size n : ℕ) → is_set (replicate size false) n ≡ false

@@ -1,5 +1,5 @@
 -- All checks of a file against a schema, in order: the answer is the first broken one.
-use Rattle.std.specs.Prelude.{◌≡◌, ℕ, ◌+◌, ◌*◌, ◌≤◌, ◌⊎◌, Bool, true, false, ◌&&◌, not, List, length, filter}
+use Rattle.std.specs.Prelude.{◌≡◌, ℕ, ◌+◌, ◌*◌, ◌≤◌, ◌⊎◌, Bool, true, false, ◌&&◌, not, List, length, filter, sum_by}
 use Rattle.std.specs.Prelude.{Contains, Option}
 use Rattle.std.specs.List.{range_with_len}
 use Rattle.page_source.specs.declared.objects.PageSource.{Ghosts as FileOf}
@@ -24,6 +24,8 @@ use Rattle.tree_walk.specs.Leaf.{IsWalked}
 use Rattle.tree_walk.specs.Walk.{IsEndsOf}
 use Rattle.table_check.specs.declared.table.Checked.{Checked}
 use Rattle.table_check.specs.declared.table.Table.{Table}
+use Rattle.table_check.specs.declared.table.Whole.{Whole}
+use Rattle.tree_walk.specs.declared.ends.TreeEnds.{TreeEnds}
 use Rattle.table_check.specs.Trees.{clustered_tree, all_tree_pages, leaf_segments, AllTreeChecks, NamedChecks}
 use Rattle.table_check.specs.Values.{live_rows, deleted_rows, all_chain_pages, RowChecks}
 
@@ -109,3 +111,11 @@ pub record LeavesSteps (steps spent : ℕ) (table : Table) : Type 0 where
   pub pages : table.checked.pages ≤ 4194304
   pub checked : spent ≤ steps + check_steps table.checked.pages
   pub rows : spent + table.clustered.leaves + table.chain_pages ≤ steps + dump_steps table.checked.pages
+
+-- the same of all trees: their leaves can be read once more, those of the clustered one among them
+pub record LeavesAllSteps (steps spent : ℕ) (whole : Whole) : Type 0 where
+  pub pages : whole.table.checked.pages ≤ 4194304
+  pub checked : spent ≤ steps + check_steps whole.table.checked.pages
+  pub least : whole.table.clustered.leaves ≤ sum_by (λ (e : TreeEnds). e.leaves) whole.ends
+  pub rows : spent + sum_by (λ (e : TreeEnds). e.leaves) whole.ends + whole.table.chain_pages
+      ≤ steps + dump_steps whole.table.checked.pages

@@ -8,3 +8,4 @@ pub mod Live
 pub mod Taken
 pub mod Valid
 pub mod Laws
+pub mod Whole

@@ -1,5 +1,5 @@
 -- What is known of a table's trees while they are walked one after another, and once all were.
-use Rattle.std.specs.Prelude.{◌≡◌, ℕ, ◌+◌, ◌*◌, ◌≤◌, Bool, List, length, None}
+use Rattle.std.specs.Prelude.{◌≡◌, ℕ, ◌+◌, ◌*◌, ◌<◌, ◌≤◌, Bool, List, length, sum_by, slice_index_or, None}
 use Rattle.page_source.specs.declared.objects.PageSource.{Ghosts as FileOf}
 use Rattle.page_source.specs.Lists.{unmarked}
 use Rattle.space_audit.specs.Marks.{is_in, is_set}
@@ -12,7 +12,7 @@ use Rattle.table_check.specs.declared.trees.Taken.{Taken}
 use Rattle.table_check.specs.declared.trees.Trees.{Trees}
 use Rattle.table_check.specs.Marking.{CanMark}
 use Rattle.table_check.specs.First.{is_reached}
-use Rattle.table_check.specs.Trees.{clustered_tree, pages_of_trees, segments_of_trees, all_tree_pages}
+use Rattle.table_check.specs.Trees.{index_in, index_count, clustered_tree, pages_of_trees, segments_of_trees, all_tree_pages}
 use Rattle.table_check.specs.Trees.{leaf_segments, leaf_segments_of, AllTreeChecks, NamedChecks, IndexCheck}
 use Rattle.page_source.specs.Verdict.{AllBelow}
 
@@ -43,6 +43,12 @@ pub record AreWalked (file : List ℕ) (table : TableDef) (j : ℕ) (taken : Tak
   pub has_clustered : IsClustered file table clustered
   pub has_leaves : leaves ≡ leaf_segments_of file table j
 
+-- the first j trees were walked, and these are their ends
+pub record AreEnds (file : List ℕ) (table : TableDef) (j : ℕ) (ends : List TreeEnds) : Type 0 where
+  pub count : length ends ≡ j
+  pub walked : (i : ℕ) → i < j → IsWalked (index_in file table i)
+  pub each : (i : ℕ) (d : TreeEnds) → i < j → IsEndsOf (index_in file table i) (slice_index_or ends i d)
+
 -- all trees hold, and each segment is named
 pub record AreTrees (file : List ℕ) (table : TableDef) (trees : Trees) : Type 0 where
   pub sound : AllTreeChecks file table None
@@ -50,6 +56,7 @@ pub record AreTrees (file : List ℕ) (table : TableDef) (trees : Trees) : Type 
   pub pages : AreExactly trees.marks (all_tree_pages file table)
   pub has_clustered : IsClustered file table trees.clustered
   pub has_leaves : trees.leaf_segments.items ≡ leaf_segments file table
+  pub has_ends : AreEnds file table (index_count table) trees.ends
 
 -- exactly the pages of trees and chains are marked
 abbrev pub IsReached : List ℕ → TableDef → List Bool → Type 0
@@ -64,3 +71,7 @@ pub record LeavesRoom (leaves : ℕ) (before after : List Bool) (steps spent : �
 pub record LeavesSome (leaves : ℕ) (after : List Bool) (size steps spent : ℕ) : Type 0 where
   pub fewer : leaves + unmarked after ≤ size
   pub cost : spent + 2 * unmarked after + leaves ≤ steps + 2 * size
+
+-- how many leaves these trees have
+abbrev pub leaves_of : List TreeEnds → ℕ
+leaves_of ends = sum_by (λ (e : TreeEnds). e.leaves) ends

@@ -1,6 +1,7 @@
 //! A whole table: all rules of its file, in order.
 #![tactic(auto)]
 
+mod ends;
 pub mod laws;
 mod leaf;
 mod record;
@@ -10,10 +11,11 @@ mod table;
 mod tests;
 mod trees;
 mod unreached;
-mod value;
+pub mod value;
 mod values;
 mod whole;
 
+pub use ends::EndsList;
 pub use rows::LiveRows;
-pub use table::{Checked, Table};
-pub use whole::{check, check_table};
+pub use table::{Checked, Table, Whole};
+pub use whole::{check, check_table, check_whole};

@@ -1,5 +1,6 @@
 //! What is known of a checked table.
 
+use crate::ends::EndsList;
 use tree_walk::TreeEnds;
 
 /// The numbers of a tablespace in which no rule is broken.
@@ -28,4 +29,12 @@ pub struct Table {
     pub clustered: TreeEnds,
     /// How many pages the values of the live rows go on in.
     pub chain_pages: u32,
+}
+
+/// The same with the ends of all its trees, by which their rows can be read.
+#[derive(Debug, Drop)]
+pub struct Whole {
+    pub table: Table,
+    /// Those of each index, in the order of the schema.
+    pub ends: EndsList,
 }

@@ -12,8 +12,9 @@ ghost use Rattle.tree_walk.specs.Room.{HasRoom};
 ghost use Rattle.tree_walk.specs.Walk.{IsEndsOf};
 ghost use Rattle.table_check.specs.Trees.{index_in, index_count, IndexCheck, AllTreeChecks, NamedCheck};
 ghost use Rattle.table_check.specs.First.{TableTreeChecks};
-ghost use Rattle.table_check.specs.Taken.{CanTake, AreTaken, AreWalked, AreTrees, LeavesRoom, LeavesSome};
+ghost use Rattle.table_check.specs.Taken.{CanTake, AreTaken, AreWalked, AreEnds, AreTrees, LeavesRoom, LeavesSome, leaves_of};
 
+use crate::ends::EndsList;
 use page_source::{Fault, NoMemory, PageSource, Rule, Steps, Stop};
 use schema_text::Schema;
 use schema_text::laws::lists_are_of_one_index;
@@ -30,6 +31,7 @@ const MOST_FIELDS: u32 = 128;
 #[derive(Debug, Drop)]
 pub(crate) struct Trees {
     pub(crate) clustered: TreeEnds,
+    pub(crate) ends: EndsList,
     pub(crate) leaf_segments: Vec<u32>,
     pub(crate) marks: Marks,
 }
@@ -87,45 +89,52 @@ fn walk_index<S: PageSource, L: Ledger>(
     )?)
 }
 
-/// Adds a segment.
-fn push(segments: &mut Vec<u32>, segment: u32) -> Result<(), NoMemory>
-    ensures { OnOk result (segments.new.items ≡ segments.old.items ++ segment ∷ []) }
+/// Adds the ends of a tree, and the segment of its leaves.
+fn push(list: &mut EndsList, segments: &mut Vec<u32>, ends: TreeEnds) -> Result<(), NoMemory>
+    ensures ends { OnOk result (list.new ≡ list.old ++ ends ∷ []) }
+    ensures segments { OnOk result (segments.new.items ≡ segments.old.items ++ ends.leaf_segment ∷ []) }
 {
-    segments.push(segment)?;
+    list.push(ends)?;
+    segments.push(ends.leaf_segment)?;
     Ok(())
 }
 
-/// Checks the trees of all indexes, in their order. Adds the segments of their leaves, and answers the ends of the
-/// clustered one.
+/// Checks the trees of all indexes, in their order. Adds their ends and the segments of their leaves, and answers the
+/// ends of the clustered one.
 fn walk_indexes<S: PageSource, L: Ledger>(
     alloc: Global,
     source: &mut S,
     space: &Space,
     schema: &Schema,
+    list: &mut EndsList,
     leaf_segments: &mut Vec<u32>,
     taken: &mut Taken,
     steps: &mut Steps<L>,
 ) -> Result<TreeEnds, Stop>
+    requires none { list.old ≡ [] }
     requires empty { leaf_segments.old.items ≡ [] }
     requires ready { CanTake S.PageSource source.old space.now taken.old }
     requires told { OfFile S.PageSource source.old (λ file. AreTaken file schema.now 0 taken.old) }
     ensures exact { OfFile S.PageSource source.old (λ file. Answers result (AllTreeChecks file schema.now)) }
     ensures walked { IfOk result (λ clustered. OfFile S.PageSource source.old (λ file.
         AreWalked file schema.now (index_count schema.now) taken.new clustered leaf_segments.new.items)) }
+    ensures ends { OnOk result (OfFile S.PageSource source.old (λ file.
+        AreEnds file schema.now (index_count schema.now) list.new)) }
     ensures members { length taken.new.pages ≡ length taken.old.pages }
     ensures segments { length taken.new.segments ≡ length taken.old.segments }
-    ensures leaves { IfOk result (λ ends.
-        LeavesRoom ends.leaves taken.old.pages taken.new.pages steps.old steps.new) }
+    ensures leaves { OnOk result
+        (LeavesRoom (leaves_of list.new) taken.old.pages taken.new.pages steps.old steps.new) }
+    ensures least { IfOk result (λ clustered. clustered.leaves ≤ leaves_of list.new) }
     ensures steps { steps.new ≤ steps.old + 2 * unmarked taken.old.pages + 2 }
     ensures over { StopsOver S.PageSource source.old source.new result }
 {
     let count = schema.indexes().len();
     let mut walk = Walk::new(alloc, MOST_FIELDS)?;
     let clustered = walk_index(alloc, &mut walk, source, space, schema, 0, taken, steps)?;
-    push(leaf_segments, clustered.leaf_segment)?;
+    push(list, leaf_segments, clustered)?;
     for j in 1..count {
         let ends = walk_index(alloc, &mut walk, source, space, schema, j, taken, steps)?;
-        push(leaf_segments, ends.leaf_segment)?;
+        push(list, leaf_segments, ends)?;
     }
     Ok(clustered)
 }
@@ -156,19 +165,22 @@ pub(crate) fn check_trees<S: PageSource, L: Ledger>(
     ensures trees { IfOk result (λ trees. OfFile S.PageSource source.old (λ file. AreTrees file schema.now trees)) }
     ensures members { IfOk result (λ trees. length trees.marks ≡ space.now.size) }
     ensures leaves { IfOk result (λ trees.
-        LeavesSome trees.clustered.leaves trees.marks space.now.size steps.old steps.new) }
+        LeavesSome (leaves_of trees.ends) trees.marks space.now.size steps.old steps.new) }
+    ensures least { IfOk result (λ trees. trees.clustered.leaves ≤ leaves_of trees.ends) }
     ensures steps { steps.new ≤ steps.old + 2 * space.now.size + 2 }
     ensures over { StopsOver S.PageSource source.old source.new result }
 {
     let pages = Marks::new(alloc, space.size())?;
     let segments = Marks::new(alloc, space.segment_count())?;
     let mut taken = Taken { pages, segments };
+    let mut ends = EndsList::new(alloc);
     let mut leaf_segments = Vec::new(alloc);
     let clustered = walk_indexes(
         alloc,
         source,
         space,
         schema,
+        &mut ends,
         &mut leaf_segments,
         &mut taken,
         steps,
@@ -176,6 +188,7 @@ pub(crate) fn check_trees<S: PageSource, L: Ledger>(
     check_named(space, &taken.segments)?;
     Ok(Trees {
         clustered,
+        ends,
         leaf_segments,
         marks: taken.pages,
     })

@@ -3,11 +3,12 @@
 ghost use Rattle.std.specs.Prelude.{IfOk, ◌+◌, ◌≤◌};
 ghost use Rattle.page_source.specs.Checks.{Answers};
 ghost use Rattle.page_source.specs.Calls.{OfFile, StopsOver};
-ghost use Rattle.table_check.specs.First.{First, IsChecked, IsCheckedTable, TakesSteps, LeavesSteps, check_steps};
+ghost use Rattle.table_check.specs.First.{First, IsChecked, IsCheckedTable, TakesSteps, LeavesSteps, LeavesAllSteps, check_steps};
 ghost use Rattle.table_check.specs.Valid.{TellsValid};
+ghost use Rattle.table_check.specs.Whole.{IsCheckedWhole};
 
 use crate::laws::{checks_are_validity, first_has_one_answer};
-use crate::table::{Checked, Table};
+use crate::table::{Checked, Table, Whole};
 use crate::trees::check_trees;
 use crate::unreached::count_unreached;
 use crate::values::check_values;
@@ -53,6 +54,23 @@ pub fn check_table<S: PageSource, L: Ledger>(
     ensures leaves { IfOk result (λ table. LeavesSteps steps.old steps.new table) }
     ensures over { StopsOver S.PageSource source.old source.new result }
 {
+    Ok(check_whole(alloc, source, schema, steps)?.table)
+}
+
+/// The same, with what reading the rows of all indexes needs. Each error comes as with `check`.
+pub fn check_whole<S: PageSource, L: Ledger>(
+    alloc: Global,
+    source: &mut S,
+    schema: &Schema,
+    steps: &mut Steps<L>,
+) -> Result<Whole, Stop>
+    ensures exact { OfFile S.PageSource source.old (λ file. Answers result (First file schema.now)) }
+    ensures whole { IfOk result (λ whole. OfFile S.PageSource source.old (λ file.
+        IsCheckedWhole file schema.now whole)) }
+    ensures steps { TakesSteps S.PageSource source.old check_steps steps.old steps.new }
+    ensures leaves { IfOk result (λ whole. LeavesAllSteps steps.old steps.new whole) }
+    ensures over { StopsOver S.PageSource source.old source.new result }
+{
     let space = audit(alloc, source, schema.flags(), steps)?;
     let pages = space.size();
     let mut trees = check_trees(alloc, source, &space, schema, steps)?;
@@ -74,10 +92,14 @@ pub fn check_table<S: PageSource, L: Ledger>(
         deleted: clustered.deleted,
         unreached,
     };
-    Ok(Table {
+    let table = Table {
         checked,
         space: space.space_id(),
         clustered,
         chain_pages,
+    };
+    Ok(Whole {
+        table,
+        ends: trees.ends,
     })
 }

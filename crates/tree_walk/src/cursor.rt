@@ -8,7 +8,7 @@ use page_source::Page;
 
 /// The page that holds a node pointer, its origin there, and how many pages of the level come behind that page.
 #[derive(Clone, Copy, Debug, PartialEq, Eq)]
-pub(crate) struct Cursor {
+pub struct Cursor {
     pub number: u32,
     pub origin: usize,
     pub more: u32,
@@ -16,7 +16,7 @@ pub(crate) struct Cursor {
 
 /// Where the next node pointer of a level stands: on the same page, at the head of the page behind it, or nowhere.
 #[derive(Clone, Copy, Debug, PartialEq, Eq)]
-pub(crate) enum Next {
+pub enum Next {
     Here(Cursor),
     Ahead(Cursor),
     End,

@@ -13,7 +13,9 @@ mod tests;
 mod tree;
 mod walk;
 
+pub use cursor::{Cursor, Next};
 pub use ends::TreeEnds;
 pub use leaves::LeafCursor;
+pub use place::{Stand, check_node};
 pub use tree::walk_tree;
 pub use walk::Walk;

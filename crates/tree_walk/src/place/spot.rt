@@ -65,8 +65,9 @@ fn check_records(walk: &mut Walk, fields: &FieldList, stand: Stand) -> Result<()
     }
 }
 
-/// The checks of the page in hand at its level: of its records, and of their keys between the separators.
-fn check_node(
+/// The checks of the page in hand at its level, by the rules 32 to 45: of its records, and of their keys between the
+/// separators, which are the keys of the node pointers on either side of the one that leads to it.
+pub fn check_node(
     walk: &mut Walk,
     fields: &FieldList,
     node: &FieldList,

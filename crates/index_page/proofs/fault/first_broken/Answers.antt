@@ -8,8 +8,8 @@ unfolding PageChecks
 returns-then-not-have_room-clause-exact c =
     let header = c.has_header.ensures.0 c.if-not-has_header.false in
     let ends = c.has_ends.ensures.0 c.if-not-has_ends.false in
-    let chain = c.has_chain.ensures.0 c.if-not-has_chain.false in
-    let numbers = c.has_heap_numbers.ensures.exact.0 c.if-not-has_heap_numbers.false in
+    let chain = c.in_default.ensures.exact.0 in
+    let numbers = c.in_default.ensures.exact.1 in
     let free = c.has_free_list.ensures.0 c.if-not-has_free_list.false in
     let directory = c.has_directory.ensures.0 c.if-not-has_directory.false in
     let kind = c.have_kind.ensures.0 c.if-not-have_kind.false in
@@ -48,8 +48,8 @@ unfolding PageChecks
 returns-then-not-may_be_empty-clause-exact c =
     let header = c.has_header.ensures.0 c.if-not-has_header.false in
     let ends = c.has_ends.ensures.0 c.if-not-has_ends.false in
-    let chain = c.has_chain.ensures.0 c.if-not-has_chain.false in
-    let numbers = c.has_heap_numbers.ensures.exact.0 c.if-not-has_heap_numbers.false in
+    let chain = c.in_default.ensures.exact.0 in
+    let numbers = c.in_default.ensures.exact.1 in
     let free = c.has_free_list.ensures.0 c.if-not-has_free_list.false in
     let directory = c.has_directory.ensures.0 c.if-not-has_directory.false in
     let kind = c.have_kind.ensures.0 c.if-not-have_kind.false in
@@ -89,14 +89,14 @@ unfolding PageChecks
 returns-then-not-keys_rise-clause-exact c =
     let header = c.has_header.ensures.0 c.if-not-has_header.false in
     let ends = c.has_ends.ensures.0 c.if-not-has_ends.false in
-    let chain = c.has_chain.ensures.0 c.if-not-has_chain.false in
-    let numbers = c.has_heap_numbers.ensures.exact.0 c.if-not-has_heap_numbers.false in
+    let chain = c.in_default.ensures.exact.0 in
+    let numbers = c.in_default.ensures.exact.1 in
     let free = c.has_free_list.ensures.0 c.if-not-has_free_list.false in
     let directory = c.has_directory.ensures.0 c.if-not-has_directory.false in
     let kind = c.have_kind.ensures.0 c.if-not-have_kind.false in
     let spelled = c.heap_is_spelled.ensures.exact.0 c.if-not-heap_is_spelled.false in
     let room = c.have_room.ensures.exact.0 c.if-not-have_room.false in
-    let empty = c.may_be_empty.ensures.0 c.if-not-may_be_empty.false in
+    let empty = c.may_be_empty-2.ensures.0 c.if-not-may_be_empty.false in
     let page = c.args.page.now in
     inr (
       header,

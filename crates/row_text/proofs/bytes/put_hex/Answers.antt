@@ -3,7 +3,7 @@ use Rattle.std.proofs.Common.{arith}
 use Rattle.std.proofs.lemmas.List.{take-append-drop, length-take-le}
 use Rattle.page_source.specs.Calls.{Puts}
 use Rattle.hex.specs.Hex.{encode_lower, encode_with, lower_digits}
-use Rattle.row_text.proofs.Hex.{encode_append, at_ok}
+use Rattle.row_text.proofs.Hex.{encode_append}
 use Rattle.page_source.proofs.Texts.{HasPut, put_none, put_more, put_cut}
 use Rattle.row_text.proofs.bytes.put_hex.Goals as goal
 
@@ -18,21 +18,19 @@ returns-in_err-put g c =
     let n = c.min.result in
     let rest = c.loop-rest.rest.now in
     let chunk = c.split_at.result.0.now in
-    let digits : c.encode_to_slice.new.output ≡ encode_lower chunk = at_ok c.encode_to_slice.result
-    (c.encode_to_slice.ensures.fits.1 (length-take-le (2 * length c.split_at.result.0.now) c.loop-rest.digits
-    (omega arith))) c.encode_to_slice.ensures.written in
+    let digits : c.write_hex.new.room ≡ encode_lower chunk = c.write_hex.ensures in
     let now = c.put.ensures in
     let cut : chunk ++ drop n rest ≡ rest = ap (λ (t : List ℕ). t ++ drop n rest) c.split_at.ensures.front ∙
     take-append-drop n rest in
     let whole : encode_lower c.args.bytes.now ≡ encode_lower done.before ++
-    (c.encode_to_slice.new.output ++ encode_lower (drop n rest)) =
+    (c.write_hex.new.room ++ encode_lower (drop n rest)) =
     ap encode_lower (done.same ∙ ap (λ (t : List ℕ). done.before ++ t) (sym cut))
     ∙ encode_append lower_digits done.before (chunk ++ drop n rest)
     ∙ ap (λ (t : List ℕ). encode_lower done.before ++ t) (encode_append lower_digits chunk (drop n rest)
     ∙ ap (λ (t : List ℕ). t ++ encode_lower (drop n rest)) (sym digits)) in
     subst (λ (t : List ℕ). Puts s c.args.sink.now c.put.new.self t c.from_residual.result) (sym whole)
     (put_cut s c.args.sink.now c.loop-rest.sink c.put.new.self (encode_lower done.before)
-    c.encode_to_slice.new.output (encode_lower (drop n rest))
+    c.write_hex.new.room (encode_lower (drop n rest))
     c.put.result _ c.from_residual.result done.put (record { ok = now.ok; failed = now.failed; cause = now.cause })
     c.in_err-put.was c.from_residual.ensures.0)
 
@@ -46,13 +44,10 @@ loop-rest-preserved g c =
     let more = c.split_at.result.1.now in
     let cut : chunk ++ more ≡ rest = ap (λ (t : List ℕ). t ++ more) c.split_at.ensures.front
     ∙ ap (λ (t : List ℕ). take n rest ++ t) c.split_at.ensures.back ∙ take-append-drop n rest in
-    let digits : c.encode_to_slice.new.output ≡ encode_lower chunk =
-    at_ok c.encode_to_slice.result (c.encode_to_slice.ensures.fits.1
-    (length-take-le (2 * length c.split_at.result.0.now) c.loop-rest.digits (omega arith)))
-    c.encode_to_slice.ensures.written in
+    let digits : c.write_hex.new.room ≡ encode_lower chunk = c.write_hex.ensures in
     let now = c.put.ensures in
     let put = put_more s c.args.sink.now c.loop-rest.sink c.put.new.self (encode_lower done.before)
-    c.encode_to_slice.new.output
+    c.write_hex.new.room
     c.put.result c.in_ok-put.field-0 done.put (record { ok = now.ok; failed = now.failed; cause = now.cause })
     c.in_ok-put.was in
     record {

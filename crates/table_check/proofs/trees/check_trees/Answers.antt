@@ -1,6 +1,6 @@
 use Rattle.std.proofs.Common.{Some, None, inr}
 use Rattle.std.proofs.lemmas.Result.{err_from_is_err_and}
-use Rattle.page_source.proofs.Told.{told0, told3}
+use Rattle.page_source.proofs.Told.{told0, told3, told4}
 use Rattle.table_check.proofs.TreeSteps.{none_taken, named_checked}
 use Rattle.table_check.proofs.trees.check_trees.Goals as goal
 
@@ -36,13 +36,14 @@ returns-clause-exact g c =
 
 pub returns-clause-trees : goal.returns-clause-trees
 returns-clause-trees g c =
-    told3 (g.S.PageSource.content c.args.source.now)
-    (λ file audit trees are. record {
+    told4 (g.S.PageSource.content c.args.source.now)
+    (λ file audit trees are ends. record {
       sound = trees;
       named = named_checked file c.args.schema.now c.walk_indexes.new.taken.segments c.args.space.now.segments
           audit.has_segments are.are_taken.segments None c.in_ok-check_named.ensures;
       pages = are.are_taken.pages;
       has_clustered = are.has_clustered;
       has_leaves = are.has_leaves;
+      has_ends = ends;
     })
-    c.requires.audit c.in_ok-clustered.ensures.exact c.in_ok-clustered.ensures.walked
+    c.requires.audit c.in_ok-clustered.ensures.exact c.in_ok-clustered.ensures.walked c.in_ok-clustered.ensures.ends

@@ -1,7 +1,7 @@
 use Rattle.std.proofs.Common.{◌≡◌, ◌≤◌, length}
 use Rattle.page_source.specs.Calls.{OfFile}
 use Rattle.tree_walk.specs.Room.{HasRoom}
-use Rattle.table_check.specs.Taken.{AreWalked, LeavesRoom}
+use Rattle.table_check.specs.Taken.{AreWalked, AreEnds, LeavesRoom, leaves_of}
 use Rattle.table_check.proofs.trees.walk_indexes.Given as goal
 
 -- the trees before this one hold
@@ -14,7 +14,9 @@ invariant-loop-j g l =
       members : length l.taken.pages ≡ length l.fn.taken.pages;
       segments : length l.taken.segments ≡ length l.fn.taken.segments;
       room : HasRoom l.walk 128;
-      leaves : LeavesRoom l.clustered.leaves l.fn.taken.pages l.taken.pages l.fn.steps l.steps;
+      leaves : LeavesRoom (leaves_of l.list) l.fn.taken.pages l.taken.pages l.fn.steps l.steps;
+      least : l.clustered.leaves ≤ leaves_of l.list;
+      ends : OfFile g.S.PageSource l.fn.source (λ file. AreEnds file l.schema l.j l.list);
       told : OfFile g.S.PageSource l.fn.source (λ file.
           AreWalked file l.schema l.j l.taken l.clustered l.leaf_segments.items);
     }

@@ -1,0 +1,382 @@
+-- The rows of a sound file, whose values are kept one row after another.
+use Rattle.std.proofs.Common.{◌≡◌, ℕ, ◌+◌, ◌<◌, ◌≤◌, Bool, true, false, not, List, [], ◌∷◌, ◌++◌, length, get_or, map, take, All}
+use Rattle.std.proofs.Common.{Contains, filter, flat_map, refl, sym, ap, ◌∙◌, subst, arith, cond}
+use Rattle.std.specs.Prelude.{sum_by, ◌&&◌, ◌==◌}
+use Rattle.std.specs.List.{range_with_len, list_any}
+use Rattle.std.proofs.lemmas.Bool.{false≢true}
+use Rattle.std.proofs.lemmas.List.{append-nil, take_more, take_all, get_or_default, length-append}
+use Rattle.std.proofs.lemmas.List.Concat.{flat_map-append, length-flat_map}
+use Rattle.std.proofs.lemmas.List.Sums.{length-filter, sum_by-append}
+use Rattle.std.proofs.lemmas.List.Folds.{length-flat_map-take}
+use Rattle.std.proofs.lemmas.List.Elements.{All-head, All-tail, All-filter, All-contains}
+use Rattle.std.proofs.lemmas.List.FromFn.{length-range_with_len, get_or-range_with_len, get_or-map-range_with_len}
+use Rattle.page_source.specs.Pages.{page_count}
+use Rattle.page_source.proofs.Members.{filter_contains}
+use Rattle.column_values.specs.declared.kind.ColumnType.{ColumnType}
+use Rattle.column_values.specs.declared.field.FieldType.{FieldType}
+use Rattle.column_values.specs.declared.field.FieldType.TheVariants as kinds
+use Rattle.column_values.specs.Types.{Fields, AreFields, field_at, is_big}
+use Rattle.column_values.specs.Order.{Key}
+use Rattle.compact_record.specs.declared.places.Place.{Place}
+use Rattle.compact_record.specs.Reading.{place_of, places_of, field_count, is_external}
+use Rattle.space_header.specs.Header.{size_of}
+use Rattle.offpage_chain.specs.Reference.{reference_of}
+use Rattle.offpage_chain.specs.Reader.{GoesOn}
+use Rattle.offpage_chain.specs.Laws.{HasOneChain, ChainGoesOn}
+use Rattle.schema_text.specs.TableDef.{TableDef}
+use Rattle.schema_text.specs.IndexFields.{leaf_fields}
+use Rattle.tree_walk.specs.declared.leaves.leaf.Leaf.{Leaf}
+use Rattle.std.specs.Prelude.{Option, Some, None, Result, Ok, Err}
+use Rattle.page_source.specs.declared.checks.Halt.{Halt}
+use Rattle.page_source.specs.declared.checks.Halt.TheVariants as halts
+use Rattle.tree_walk.specs.Leaf.{IsWalked}
+use Rattle.tree_walk.specs.Laws.{RowsCanBeRead}
+use Rattle.tree_walk.specs.Index.{Index, Row, no_row, row_at, page_in, index_of, leaf_rows, is_live_row}
+use Rattle.tree_walk.specs.Segments.{leaf_segment}
+use Rattle.tree_walk.specs.Records.{IsRecord}
+use Rattle.table_check.specs.Trees.{clustered_tree, index_in}
+use Rattle.table_check.specs.Values.{bytes_at, live_rows, pages_of_field, pages_of_record, pages_of_row, pages_of_rows}
+use Rattle.table_check.specs.Values.{pages_of_value}
+use Rattle.table_check.specs.Values.{all_chain_pages}
+use Rattle.table_check.specs.Valid.{IsSoundValue, IsSoundField, IsSoundRow, IsValid}
+use Rattle.table_check.specs.Live.{LiveView, HasGivenLive, CanGiveLive, FindsLive, IsRowInHand}
+use Rattle.cross_index.specs.declared.crossed.CrossStop.{CrossStop}
+use Rattle.cross_index.specs.declared.crossed.CrossStop.TheVariants as stops
+use Rattle.cross_index.specs.Compare.{cross_stop_of}
+use Rattle.cross_index.specs.Entries.{field_of_row, whole_cell}
+use Rattle.cross_index.specs.Gather.{CanFollowPlace, CanGather, pages_of_place, place_in, pages_of_fields, cells_of}
+use Rattle.cross_index.specs.Gather.{kept_fields, all_entry_fields, kept_cells, CanGatherAll, IsGathered, OnlyReads}
+
+sum_cons : (f : ℕ → ℕ) (x : ℕ) (xs : List ℕ) → sum_by f (x ∷ xs) ≡ f x + sum_by f xs
+sum_cons f x xs = omega (arith, sum_by-append f (x ∷ []) xs)
+
+sum_same : (f g : ℕ → ℕ) (xs : List ℕ) → All (λ x. f x ≡ g x) xs → sum_by f xs ≡ sum_by g xs
+sum_same f g [] same = refl
+sum_same f g (x ∷ xs) same =
+    let here : f x ≡ g x = All-head (λ x. f x ≡ g x) x xs same in
+    omega (
+      arith,
+      sum_cons f x xs,
+      sum_cons g x xs,
+      here,
+      sum_same f g xs (All-tail (λ x. f x ≡ g x) x xs same),
+    )
+
+sum_filter : (f : ℕ → ℕ) (p : ℕ → Bool) (xs : List ℕ) → sum_by f (filter p xs) ≤ sum_by f xs
+sum_filter f p [] = omega arith
+sum_filter f p (x ∷ xs) = by_test (p x) (sum_filter f p xs)
+  where
+    by_test : (b : Bool) → sum_by f (filter p xs) ≤ sum_by f xs
+        → sum_by f (cond b (x ∷ filter p xs) (filter p xs)) ≤ sum_by f (x ∷ xs)
+    by_test true rest = omega (arith, rest, sum_cons f x (filter p xs), sum_cons f x xs)
+    by_test false rest = omega (arith, rest, sum_cons f x xs)
+
+map_same : {Y : Type 0} (f g : ℕ → Y) (xs : List ℕ) → All (λ x. f x ≡ g x) xs → map f xs ≡ map g xs
+map_same f g [] same = refl
+map_same f g (x ∷ xs) same =
+    rw (All-head (λ x. f x ≡ g x) x xs same, map_same f g xs (All-tail (λ x. f x ≡ g x) x xs same)) refl
+
+all_below : (n : ℕ) → All (λ k. k < n) (range_with_len 0 n)
+all_below n k d inside =
+    let here : k < n = omega (arith, inside, length-range_with_len 0 n) in
+    omega (arith, here, get_or-range_with_len 0 n k d here)
+
+-- the kept fields are fields of a row
+pub kept_below : (table : TableDef) → All (λ k. k < field_count (leaf_fields table 0)) (kept_fields table)
+unfolding kept_fields
+kept_below table =
+    All-filter (λ k. list_any (λ j. j == k) (all_entry_fields table)) (λ k. k < field_count (leaf_fields table 0))
+    (range_with_len 0 (field_count (leaf_fields table 0))) (all_below (field_count (leaf_fields table 0)))
+
+-- the place of a field that was read
+place_is : (page : List ℕ) (origin : ℕ) (fields : Fields) (k : ℕ) → k < field_count fields
+    → place_in (places_of page origin fields) k ≡ place_of page origin fields k
+unfolding place_in places_of
+place_is page origin fields k inside =
+    get_or-map-range_with_len (place_of page origin fields) 0 (field_count fields) k k _ inside (omega arith)
+
+module _ (one : HasOneChain) (goes : ChainGoesOn) (file : List ℕ) (most : size_of file ≤ 4194304)
+    (least : size_of file ≤ page_count file) where
+  sound_follow : (segment : ℕ) (kind : ColumnType) (page : List ℕ) (place : Place)
+      → IsSoundValue file segment kind page place → CanFollowPlace file page place
+  sound_follow segment kind page place sound null away =
+      let long = sound.external null away in
+      let reference = reference_of (bytes_at page place) in
+      record {
+        goes_on = subst (λ (pages : List ℕ). GoesOn file reference.page reference.length pages)
+            (one file segment reference long.whole.pages most long.whole.chain)
+            (goes file segment reference long.whole.pages most least long.whole.chain);
+      }
+
+  -- only the value of a column goes on elsewhere
+  field_follow : (segment : ℕ) (kind : FieldType) (page : List ℕ) (place : Place)
+      → (place.external ≡ true → is_big kind ≡ true) → IsSoundField file segment kind page place
+      → CanFollowPlace file page place
+  field_follow segment (kinds.Column kind) page place big sound = sound_follow segment kind page place sound
+  field_follow segment kinds.RowId page place big sound = λ null away. absurd (false≢true (big away))
+  field_follow segment kinds.TrxId page place big sound = λ null away. absurd (false≢true (big away))
+  field_follow segment kinds.RollPointer page place big sound = λ null away. absurd (false≢true (big away))
+  field_follow segment kinds.Child page place big sound = λ null away. absurd (false≢true (big away))
+
+near_pages : (file page : List ℕ) (place : Place) → (place.external ≡ true → ⊥)
+    → length (pages_of_place file page place) ≡ 0
+near_pages file page place near = by_tests place.null place.external refl
+  where
+    by_tests : (n e : Bool) → place.external ≡ e
+        → length (cond (not n && e) (pages_of_value file (bytes_at page place) true) []) ≡ 0
+    by_tests n true is = absurd (near is)
+    by_tests true false is = refl
+    by_tests false false is = refl
+
+same_pages : (file : List ℕ) (kind : FieldType) (page : List ℕ) (place : Place)
+    → (place.external ≡ true → is_big kind ≡ true)
+    → length (pages_of_place file page place) ≡ length (pages_of_field file kind page place)
+same_pages file (kinds.Column kind) page place big = refl
+same_pages file kinds.RowId page place big = near_pages file page place (λ away. false≢true (big away))
+same_pages file kinds.TrxId page place big = near_pages file page place (λ away. false≢true (big away))
+same_pages file kinds.RollPointer page place big = near_pages file page place (λ away. false≢true (big away))
+same_pages file kinds.Child page place big = near_pages file page place (λ away. false≢true (big away))
+
+-- a record of the clustered tree
+module _ (file page : List ℕ) (table : TableDef) (origin : ℕ) (are : AreFields (leaf_fields table 0))
+    (can : IsRecord page (leaf_fields table 0) origin) where
+  abbrev fields : Fields
+  fields = leaf_fields table 0
+
+  abbrev count : ℕ
+  count = field_count fields
+
+  big : (k : ℕ) → k < count → (place_of page origin fields k).external ≡ true → is_big (field_at fields k).kind ≡ true
+  unfolding place_of
+  big k inside away = (are.listed.leaving k ((can.spelled.each k inside).leaves away)).0
+
+  -- the kept fields go on in some of the pages of the record
+  pages_within : pages_of_fields file page (places_of page origin fields) (kept_fields table)
+      ≤ length (pages_of_record file page origin fields)
+  unfolding pages_of_fields pages_of_record kept_fields
+  pages_within =
+      let f : ℕ → ℕ = λ k. length (pages_of_place file page (place_in (places_of page origin fields) k)) in
+      let h : ℕ → ℕ = λ k. length (pages_of_field file (field_at fields k).kind page (place_of page origin fields k)) in
+      let same = sum_same f h (range_with_len 0 count)
+      (λ n d inside.
+      let k = get_or (range_with_len 0 count) n d in
+      let within : k < count = all_below count n d inside in
+      ap (λ (p : Place). length (pages_of_place file page p)) (place_is page origin fields k within)
+      ∙ same_pages file (field_at fields k).kind page (place_of page origin fields k) (big k within)) in
+      let part = sum_filter f (λ k. list_any (λ j. j == k) (all_entry_fields table)) (range_with_len 0 count) in
+      let all = length-flat_map (λ k. pages_of_field file (field_at fields k).kind page (place_of page origin fields k))
+      (range_with_len 0 count) in
+      omega (arith, same, part, all)
+
+-- so many rows were kept, and no more pages were read than their values have
+pub record Gathering (file : List ℕ) (table : TableDef) (rows : LiveView) (cells : Key) (most left n : ℕ)
+    : Type 0 where
+  pub gives : HasGivenLive (clustered_tree file table) rows n
+  pub grown : cells ≡ kept_cells file table (take n (live_rows (clustered_tree file table)))
+  pub used : most ≤ left + length (pages_of_rows (clustered_tree file table) (take n (live_rows (clustered_tree file
+      table))))
+
+pub gather_start : (file : List ℕ) (table : TableDef) (rows : LiveView) (cells : Key) (left : ℕ) → cells ≡ []
+    → CanGatherAll file table rows → Gathering file table rows cells left left 0
+unfolding kept_cells pages_of_rows
+gather_start file table rows cells left empty can = record {
+  gives = can.start;
+  grown = empty;
+  used = omega arith;
+}
+
+-- one row more
+module _ (one : HasOneChain) (goes : ChainGoesOn) (file : List ℕ) (table : TableDef) (start : LiveView)
+    (can : CanGatherAll file table start) (are : AreFields (leaf_fields table 0)) (leaf : Leaf) (page : List ℕ)
+    (origin n : ℕ) (hand : IsRowInHand (clustered_tree file table) leaf n origin) (held : page ≡ leaf.page)
+    (record' : IsRecord page (leaf_fields table 0) origin) where
+  abbrev index : Index
+  index = clustered_tree file table
+
+  abbrev rows : List Row
+  rows = live_rows index
+
+  abbrev row : Row
+  row = record { page = leaf.number; origin = origin }
+
+  row_is : get_or rows n no_row ≡ row
+  unfolding row_at
+  row_is = hand.row
+
+  at : Contains rows row
+  at = (n, hand.within, get_or_default rows n row no_row hand.within ∙ row_is)
+
+  page_is : page ≡ page_in index leaf.number
+  page_is = held ∙ hand.held
+
+  sound : IsSoundRow index row
+  sound = All-contains (IsSoundRow index) rows row can.valid.values.rows at
+
+  -- the place of a field
+  here : (k : ℕ) → place_of page origin (leaf_fields table 0) k
+      ≡ place_of (page_in index leaf.number) origin index.leaf k
+  unfolding index_in
+  here k = ap (λ (p : List ℕ). place_of p origin (leaf_fields table 0) k) page_is
+
+  follow : (k : ℕ) → k < field_count (leaf_fields table 0)
+      → CanFollowPlace file page (place_of page origin (leaf_fields table 0) k)
+  unfolding index_in
+  follow k inside =
+      field_follow one goes file can.valid.space.extents.head.size.most can.valid.space.extents.head.size.within
+      (leaf_segment index) (field_at (leaf_fields table 0) k).kind page (place_of page origin (leaf_fields table 0) k)
+      (big file page table origin are record' k inside)
+      (subst (λ (p : List ℕ). IsSoundField file (leaf_segment index) (field_at (leaf_fields table 0) k).kind p
+      (place_of p origin (leaf_fields table 0) k)) (sym page_is) (sound k inside))
+
+  pages_are : length (pages_of_record file page origin (leaf_fields table 0)) ≡ length (pages_of_row index row)
+  unfolding index_in
+  pages_are = ap (λ (p : List ℕ). length (pages_of_record file p origin (leaf_fields table 0))) page_is
+
+  pages_more : length (pages_of_rows index (take (n + 1) rows))
+      ≡ length (pages_of_rows index (take n rows)) + length (pages_of_row index row)
+  unfolding pages_of_rows
+  pages_more =
+      ap (λ (list : List Row). length (flat_map (pages_of_row index) list)) (take_more rows n no_row hand.within)
+      ∙ ap length (flat_map-append (pages_of_row index) (take n rows) (get_or rows n no_row ∷ []))
+      ∙ length-append (flat_map (pages_of_row index) (take n rows)) (flat_map (pages_of_row index) (get_or rows n no_row
+      ∷ []))
+      ∙ ap (λ (r : Row). length (flat_map (pages_of_row index) (take n rows)) + length (flat_map (pages_of_row index) (r
+      ∷ []))) row_is
+      ∙ ap (λ (list : List ℕ). length (flat_map (pages_of_row index) (take n rows)) + length list) (append-nil
+      (pages_of_row index row))
+
+  pages_part : length (pages_of_rows index (take n rows)) + length (pages_of_row index row)
+      ≤ length (all_chain_pages index)
+  unfolding pages_of_rows
+  pages_part =
+      let part = length-flat_map-take (pages_of_row index) rows n no_row hand.within in
+      omega (arith, part, ap (λ (r : Row). length (pages_of_row index r)) row_is)
+
+  -- its kept fields can be read
+  pub can_gather : (places : List Place) (kept : List ℕ) (view : LiveView) (cells : Key) (most left : ℕ)
+      → places ≡ places_of page origin (leaf_fields table 0) → kept ≡ kept_fields table
+      → length (all_chain_pages index) ≤ most → Gathering file table view cells most left n
+      → CanGather file page places kept left
+  can_gather places kept view cells most left placed is few so = rw (placed, is) (record {
+    follow = λ k d inside.
+        let field = get_or (kept_fields table) k d in
+        let within = kept_below table k d inside in
+        subst (CanFollowPlace file page) (sym (place_is page origin (leaf_fields table 0) field within))
+        (follow field within);
+    few = omega (arith, pages_within file page table origin are record', pages_are, pages_part, so.used, few);
+  })
+
+  -- and are kept
+  values_are : cells_of file page (places_of page origin (leaf_fields table 0)) (kept_fields table)
+      ≡ map (field_of_row index row) (kept_fields table)
+  unfolding cells_of field_of_row index_in
+  values_are =
+      map_same (λ k. whole_cell file page (place_in (places_of page origin (leaf_fields table 0)) k))
+      (λ k. whole_cell file (page_in index leaf.number) (place_of (page_in index leaf.number) origin (leaf_fields table
+      0) k)) (kept_fields table)
+      (λ k d inside.
+      let field = get_or (kept_fields table) k d in
+      let within = kept_below table k d inside in
+      ap (whole_cell file page) (place_is page origin (leaf_fields table 0) field within)
+      ∙ ap (λ (p : List ℕ). whole_cell file p (place_of p origin (leaf_fields table 0) field)) page_is)
+
+  kept_more : kept_cells file table (take (n + 1) rows)
+      ≡ kept_cells file table (take n rows) ++ map (field_of_row index row) (kept_fields table)
+  unfolding kept_cells
+  kept_more =
+      let f : Row → Key = λ r. map (field_of_row index r) (kept_fields table) in
+      ap (flat_map f) (take_more rows n no_row hand.within)
+      ∙ flat_map-append f (take n rows) (get_or rows n no_row ∷ [])
+      ∙ ap (λ (r : Row). flat_map f (take n rows) ++ flat_map f (r ∷ [])) row_is
+      ∙ ap (λ (list : Key). flat_map f (take n rows) ++ list) (append-nil (f row))
+
+  pub gather_more : (places : List Place) (kept : List ℕ) (view now : LiveView) (cells next : Key) (most left less : ℕ)
+      → places ≡ places_of page origin (leaf_fields table 0) → kept ≡ kept_fields table
+      → Gathering file table view cells most left n → HasGivenLive index now (n + 1)
+      → next ≡ cells ++ cells_of file page places kept → less + pages_of_fields file page places kept ≡ left
+      → Gathering file table now next most less (n + 1)
+  gather_more places kept view now cells next most left less placed is so gives grown used =
+      let values : cells_of file page places kept ≡ map (field_of_row index row) (kept_fields table) =
+      ap (λ (ps : List Place). cells_of file page ps kept) placed
+      ∙ ap (cells_of file page (places_of page origin (leaf_fields table 0))) is ∙ values_are in
+      let pages : pages_of_fields file page places kept
+      ≡ pages_of_fields file page (places_of page origin (leaf_fields table 0)) (kept_fields table) =
+      ap (λ (ps : List Place). pages_of_fields file page ps kept) placed
+      ∙ ap (pages_of_fields file page (places_of page origin (leaf_fields table 0))) is in
+      record {
+        gives = gives;
+        grown = grown ∙ ap (λ (c : Key). c ++ cells_of file page places kept) so.grown
+            ∙ ap (λ (c : Key). kept_cells file table (take n rows) ++ c) values ∙ sym kept_more;
+        used = omega (
+          arith,
+          so.used,
+          used,
+          pages,
+          pages_within file page table origin are record',
+          pages_are,
+          pages_more,
+        );
+      }
+
+-- no more rows were given than there are
+given_most : (index : Index) (rows : LiveView) (n : ℕ) → HasGivenLive index rows n → n ≤ length (live_rows index)
+unfolding live_rows
+given_most index rows n has =
+    omega (arith, has.live, length-filter (is_live_row index) (leaf_rows index))
+
+-- all rows were kept
+pub gather_all : (file : List ℕ) (table : TableDef) (rows : LiveView) (cells : Key) (most left n : ℕ)
+    → Gathering file table rows cells most left n → length (live_rows (clustered_tree file table)) ≤ n
+    → IsGathered file table cells n
+gather_all file table rows cells most left n so past = record {
+  counted = omega (arith, given_most (clustered_tree file table) rows n so.gives, past);
+  kept = so.grown ∙ ap (kept_cells file table) (take_all n (live_rows (clustered_tree file table)) past);
+}
+
+-- the rows can be read on
+pub can_give : (file : List ℕ) (table : TableDef) (rows start : LiveView) (cells : Key) (most left n : ℕ)
+    → CanGatherAll file table start → Gathering file table rows cells most left n → CanGiveLive file rows
+unfolding index_in
+can_give file table rows start cells most left n can so = record {
+  root = (clustered_tree file table).root;
+  fields = (clustered_tree file table).leaf;
+  node = (clustered_tree file table).node;
+  given = n;
+  walked = can.walked;
+  has = so.gives;
+}
+
+-- what the cursor finds
+pub finds : (file : List ℕ) (table : TableDef) (rows now start : LiveView) (cells : Key) (most left n : ℕ)
+    (found : Result (Option ℕ) Halt)
+    → ((root : ℕ) (fields node : Fields) (j : ℕ) → IsWalked (index_of file root fields node)
+    → HasGivenLive (index_of file root fields node) rows j → FindsLive (index_of file root fields node) j found now)
+    → CanGatherAll file table start → Gathering file table rows cells most left n
+    → FindsLive (clustered_tree file table) n found now
+unfolding index_in
+finds file table rows now start cells most left n found exact can so =
+    exact (clustered_tree file table).root (clustered_tree file table).leaf (clustered_tree file table).node n can.walked
+    so.gives
+
+pub halts_so : (file : List ℕ) (table : TableDef) (n : ℕ) (now : LiveView) (halt : Halt)
+    → FindsLive (clustered_tree file table) n (Err halt) now → OnlyReads {A = ℕ} (Err (cross_stop_of halt))
+halts_so file table n now (halts.Broken fault) found = found
+halts_so file table n now halts.Source found = tt
+
+-- the row in hand can be read
+pub row_readable : RowsCanBeRead → (file : List ℕ) (table : TableDef) (leaf : Leaf) (page : List ℕ) (fields : Fields)
+    (origin n : ℕ) → fields ≡ leaf_fields table 0 → page ≡ leaf.page → IsWalked (clustered_tree file table)
+    → IsRowInHand (clustered_tree file table) leaf n origin → IsRecord page fields origin
+unfolding live_rows row_at index_in
+row_readable law file table leaf page fields origin n list held walked hand =
+    let index = clustered_tree file table in
+    let row : Row = record { page = leaf.number; origin = origin } in
+    let at : Contains (live_rows index) row = (
+      n,
+      hand.within,
+      get_or_default (live_rows index) n row no_row hand.within ∙ hand.row,
+    ) in
+    let there = (filter_contains (is_live_row index) (leaf_rows index) row at).0 in
+    let can = All-contains (λ (r : Row). IsRecord (page_in index r.page) index.leaf r.origin) (leaf_rows index) row
+    (law index walked) there in
+    rw (list, held ∙ hand.held) can

@@ -1,0 +1,143 @@
+-- The fields of the columns of an entry, one by one.
+use Rattle.std.proofs.Common.{◌≡◌, ℕ, ◌+◌, ◌<◌, Bool, true, false, not, cond, List, [], ◌∷◌, ◌++◌, length, get_or, map, take}
+use Rattle.std.proofs.Common.{filter, refl, sym, ap, ◌∙◌, subst, arith, append_assoc}
+use Rattle.std.specs.Prelude.{◌==◌}
+use Rattle.std.specs.List.{list_any}
+use Rattle.std.proofs.lemmas.List.{append-nil, map-append, get_or_default}
+use Rattle.std.proofs.lemmas.List.Elements.{filter_more}
+use Rattle.std.proofs.Common.{All, flat_map, ◌-◌, ◌≤◌}
+use Rattle.std.specs.List.{range_with_len}
+use Rattle.std.proofs.lemmas.Bool.{eqb-true}
+use Rattle.std.proofs.lemmas.Bool.Decides.{nat_tests}
+use Rattle.std.proofs.lemmas.List.Concat.{flat_map-append}
+use Rattle.schema_text.proofs.FieldLemmas.{range_more}
+use Rattle.std.proofs.lemmas.List.Elements.{All-head, All-tail, All-filter, filter-append}
+use Rattle.schema_text.specs.TableDef.{TableDef, index_at}
+use Rattle.schema_text.specs.IndexFields.{positions_without, field_of_column, clustered_positions}
+use Rattle.sql_dump.specs.Cells.{fields_of_columns}
+use Rattle.sql_dump.proofs.Cells.{field_at_column}
+use Rattle.cross_index.specs.Entries.{entry_fields, entry_columns, hidden_fields}
+
+module _ (at columns others old now : List ℕ) (n d place : ℕ) (within : n < length columns)
+    (is : place ≡ get_or columns n d)
+    (so : now ≡ old ++ map (λ c. get_or at c 0) (positions_without (take n columns) others)) where
+  abbrev field : ℕ → ℕ
+  field c = get_or at c 0
+
+  abbrev passes : ℕ → Bool
+  passes i = not (list_any (λ j. j == i) others)
+
+  more : (b : Bool) → list_any (λ j. j == place) others ≡ b
+      → positions_without (take (n + 1) columns) others
+      ≡ positions_without (take n columns) others ++ cond (not b) (place ∷ []) []
+  more b among =
+      filter_more passes columns n d within
+      ∙ ap (λ (c : ℕ). filter passes (take n columns) ++ cond (passes c) (c ∷ []) []) (sym is)
+      ∙ ap (λ (t : Bool). filter passes (take n columns) ++ cond (not t) (place ∷ []) []) among
+
+  -- one of the others adds nothing
+  pub column_passed : list_any (λ j. j == place) others ≡ true
+      → now ≡ old ++ map field (positions_without (take (n + 1) columns) others)
+  column_passed among =
+      so ∙ ap (λ (list : List ℕ). old ++ map field list)
+      (sym (more true among ∙ append-nil (positions_without (take n columns) others)))
+
+  -- and else a column its field
+  pub column_added : (next : List ℕ) (f : ℕ) → list_any (λ j. j == place) others ≡ false → f ≡ get_or at place 0
+      → next ≡ now ++ f ∷ [] → next ≡ old ++ map field (positions_without (take (n + 1) columns) others)
+  column_added next f among at_place grown =
+      let front = positions_without (take n columns) others in
+      grown ∙ ap (λ (list : List ℕ). list ++ f ∷ []) so
+      ∙ append_assoc old (map field front) (f ∷ [])
+      ∙ ap (λ (g : ℕ). old ++ (map field front ++ g ∷ [])) at_place
+      ∙ ap (λ (list : List ℕ). old ++ list) (sym (map-append field front (place ∷ [])))
+      ∙ ap (λ (list : List ℕ). old ++ map field list) (sym (more false among))
+
+-- where there are no others, all columns are left
+without_none : (columns : List ℕ) → positions_without columns [] ≡ columns
+without_none [] = refl
+without_none (c ∷ columns) = ap (λ (rest : List ℕ). c ∷ rest) (without_none columns)
+
+-- the field of a column, by the list of all
+fields_same : (table : TableDef) (at columns : List ℕ) → at ≡ fields_of_columns table
+    → All (λ c. c < length table.columns) columns
+    → map (λ c. get_or at c 0) columns ≡ map (field_of_column table) columns
+fields_same table at [] are known = refl
+fields_same table at (c ∷ columns) are known =
+    rw (
+      field_at_column table at c 0 are (All-head (λ c. c < length table.columns) c columns known),
+      fields_same table at columns are (All-tail (λ c. c < length table.columns) c columns known),
+    )
+    refl
+
+-- the fields of an entry: those of its columns, and the row id where there is no clustered key
+module _ (table : TableDef) (i : ℕ) (at own key old one two : List ℕ) (are : at ≡ fields_of_columns table)
+    (own_is : own ≡ (index_at table i).columns) (key_is : key ≡ clustered_positions table)
+    (own_known : All (λ c. c < length table.columns) own) (key_known : All (λ c. c < length table.columns) key)
+    (first : one ≡ old ++ map (λ c. get_or at c 0) (positions_without own []))
+    (second : two ≡ one ++ map (λ c. get_or at c 0) (positions_without key own)) where
+  columns_added : two ≡ old ++ map (field_of_column table) (own ++ positions_without key own)
+  columns_added =
+      let rest = positions_without key own in
+      let rest_known = All-filter (λ i. not (list_any (λ j. j == i) own)) (λ c. c < length table.columns) key key_known in
+      second
+      ∙ ap (λ (list : List ℕ). list ++ map (λ c. get_or at c 0) rest) (first
+      ∙ ap (λ (list : List ℕ). old ++ map (λ c. get_or at c 0) list) (without_none own))
+      ∙ append_assoc old (map (λ c. get_or at c 0) own) (map (λ c. get_or at c 0) rest)
+      ∙ ap (λ (list : List ℕ). old ++ (list ++ map (λ c. get_or at c 0) rest)) (fields_same table at own are own_known)
+      ∙ ap (λ (list : List ℕ). old ++ (map (field_of_column table) own ++ list)) (fields_same table at rest are rest_known)
+      ∙ ap (λ (list : List ℕ). old ++ list) (sym (map-append (field_of_column table) own rest))
+
+  pub entry_with_key : (length key == 0) ≡ false → two ≡ old ++ entry_fields table i
+  unfolding entry_fields
+  entry_with_key some =
+      let hidden : hidden_fields table ≡ [] = rw (sym key_is, some) refl in
+      columns_added ∙ rw (own_is, key_is) refl
+      ∙ sym (ap (λ (list : List ℕ). old ++ (map (field_of_column table) (entry_columns table i) ++ list)) hidden
+      ∙ ap (λ (list : List ℕ). old ++ list) (append-nil (map (field_of_column table) (entry_columns table i))))
+
+  pub entry_with_id : (length key == 0) ≡ true → (next : List ℕ) → next ≡ two ++ 0 ∷ []
+      → next ≡ old ++ entry_fields table i
+  unfolding entry_fields
+  entry_with_id none next grown =
+      let hidden : hidden_fields table ≡ 0 ∷ [] = rw (sym key_is, none) refl in
+      grown ∙ ap (λ (list : List ℕ). list ++ 0 ∷ []) (columns_added ∙ rw (own_is, key_is) refl)
+      ∙ append_assoc old (map (field_of_column table) (entry_columns table i)) (0 ∷ [])
+      ∙ sym (ap (λ (list : List ℕ). old ++ (map (field_of_column table) (entry_columns table i) ++ list)) hidden)
+
+-- whether there are none
+pub is_none : (n : ℕ) → n ≡ 0 → (n == 0) ≡ true
+is_none n e = grind (arith, nat_tests, e)
+
+pub is_some : (n : ℕ) → (n ≡ 0 → ⊥) → (n == 0) ≡ false
+is_some n some = by_test (n == 0) refl
+  where
+    by_test : (b : Bool) → (n == 0) ≡ b → (n == 0) ≡ false
+    by_test true e = absurd (some (eqb-true n 0 e))
+    by_test false e = e
+
+-- the fields of one index more
+pub all_more : (table : TableDef) (list next : List ℕ) (index : ℕ) → 1 ≤ index
+    → list ≡ flat_map (entry_fields table) (range_with_len 1 (index - 1)) → next ≡ list ++ entry_fields table index
+    → next ≡ flat_map (entry_fields table) (range_with_len 1 (index + 1 - 1))
+all_more table list next index some so grown =
+    let e : index + 1 - 1 ≡ (index - 1) + 1 = omega arith in
+    let last : 1 + (index - 1) ≡ index = omega arith in
+    grown ∙ ap (λ (xs : List ℕ). xs ++ entry_fields table index) so
+    ∙ sym (ap (λ (n : ℕ). flat_map (entry_fields table) (range_with_len 1 n)) e
+    ∙ ap (flat_map (entry_fields table)) (range_more 1 (index - 1))
+    ∙ flat_map-append (entry_fields table) (range_with_len 1 (index - 1)) ((1 + (index - 1)) ∷ [])
+    ∙ ap (λ (n : ℕ). flat_map (entry_fields table) (range_with_len 1 (index - 1)) ++ flat_map (entry_fields table) (n ∷ [])) last
+    ∙ ap (λ (xs : List ℕ). flat_map (entry_fields table) (range_with_len 1 (index - 1)) ++ xs) (append-nil (entry_fields table index)))
+
+-- one field more is kept or not
+pub kept_more : (all list next : List ℕ) (n : ℕ) (b : Bool) → list_any (λ j. j == n) all ≡ b
+    → list ≡ filter (λ k. list_any (λ j. j == k) all) (range_with_len 0 n) → next ≡ list ++ cond b (n ∷ []) []
+    → next ≡ filter (λ k. list_any (λ j. j == k) all) (range_with_len 0 (n + 1))
+kept_more all list next n b among so grown =
+    let p : ℕ → Bool = λ k. list_any (λ j. j == k) all in
+    let last : 0 + n ≡ n = omega arith in
+    grown ∙ ap (λ (xs : List ℕ). xs ++ cond b (n ∷ []) []) so
+    ∙ ap (λ (t : Bool). filter p (range_with_len 0 n) ++ cond t (n ∷ []) []) (sym among)
+    ∙ sym (ap (filter p) (range_more 0 n ∙ ap (λ (m : ℕ). range_with_len 0 n ++ m ∷ []) last)
+    ∙ filter-append p (range_with_len 0 n) (n ∷ []))

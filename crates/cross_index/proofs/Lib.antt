@@ -1,0 +1,12 @@
+pub mod Sides
+pub mod Keys
+pub mod Rows
+pub mod Differences
+pub mod Merge
+pub mod CellSteps
+pub mod EntrySteps
+pub mod ChainSteps
+pub mod RowSteps
+pub mod GatherSteps
+pub mod KeysAre
+pub mod KeptSteps

@@ -1,0 +1,33 @@
+-- What a comparison answers.
+use Rattle.std.specs.Prelude.{◌≡◌, ℕ, ◌-◌, ◌≤◌, ⊤, List, length, sum_by, Option, Some, None, Result, Ok, Err}
+use Rattle.std.specs.List.{range_with_len}
+use Rattle.page_source.specs.Faults.{Rose}
+use Rattle.schema_text.specs.TableDef.{TableDef}
+use Rattle.table_check.specs.Trees.{index_count}
+use Rattle.table_check.specs.First.{First}
+use Rattle.table_check.specs.Valid.{IsValid}
+use Rattle.cross_index.specs.declared.crossed.Crossed.{Crossed}
+use Rattle.cross_index.specs.declared.crossed.CrossStop.{CrossStop}
+use Rattle.cross_index.specs.declared.crossed.CrossStop.TheVariants as stops
+use Rattle.cross_index.specs.Entries.{entries_in}
+use Rattle.cross_index.specs.Differ.{Difference, Missing, Extra, Differ}
+
+-- how many secondary indexes there are, and how many entries they have
+pub record IsCrossed (file : List ℕ) (table : TableDef) (crossed : Crossed) : Type 0 where
+  pub has_indexes : crossed.indexes ≡ index_count table - 1
+  pub has_entries : crossed.entries
+      ≡ sum_by (λ i. length (entries_in file table i)) (range_with_len 1 (index_count table - 1))
+
+-- the file is sound, and its indexes and rows differ so
+pub record Differs (file : List ℕ) (table : TableDef) (difference : Option Difference) : Type 0 where
+  pub valid : IsValid file table
+  pub differ : Differ file table difference
+
+-- the answer over a file that is told
+abbrev pub Crosses : List ℕ → TableDef → Result Crossed CrossStop → Type 0
+Crosses file table (Ok crossed) = Differs file table None × IsCrossed file table crossed
+Crosses file table (Err (stops.Broken fault)) = First file table (Some fault)
+Crosses file table (Err (stops.Missing index row)) = Differs file table (Some (Missing index row))
+Crosses file table (Err (stops.Extra index page)) = Differs file table (Some (Extra index page))
+Crosses file table (Err stops.Source) = ⊤
+Crosses file table (Err stops.Memory) = ⊤

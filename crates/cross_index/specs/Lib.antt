@@ -1,0 +1,9 @@
+pub mod Entries
+pub mod Sides
+pub mod Order
+pub mod Kept
+pub mod Differ
+pub mod Compare
+pub mod Gather
+pub mod Cross
+pub mod Laws

@@ -1,0 +1,143 @@
+//! Values that may be null, one after another in one run of bytes.
+
+ghost use Rattle.std.specs.Prelude.{◌≡◌, ◌++◌, ◌∷◌, [], All, Some, None, OnOk, length, slice_index_or, true, false};
+ghost use Rattle.column_values.specs.Order.{cell_cmp};
+ghost use Rattle.compact_record.specs.Reading.{cell_at};
+ghost use Rattle.compact_record.specs.declared.places.Place.{Place};
+ghost use Rattle.cross_index.specs.Kept.{LiesIn};
+
+use column_values::{FieldType, compare};
+use compact_record::Place;
+use page_source::{NoMemory, Page};
+use std::alloc::Global;
+use std::cmp::Ordering;
+use std::marker::Model;
+
+/// Where a null value lies.
+const NULL: Place = Place {
+    null: true,
+    external: false,
+    from: 0,
+    until: 0,
+};
+
+/// Values that may be null.
+#[derive(Debug, Drop)]
+pub(crate) struct Cells {
+    /// The bytes of all.
+    bytes: Vec<u8>,
+    /// Where those of each lie.
+    places: Vec<Place>,
+}
+
+impl Model for Cells {
+    ghost use Rattle.std.specs.Prelude.{map, length, All};
+    ghost use Rattle.column_values.specs.Order.{Key};
+    ghost use Rattle.compact_record.specs.Reading.{cell_at};
+    ghost use Rattle.cross_index.specs.Kept.{LiesIn};
+
+    ghost Value = { Key };
+
+    ghost view = { λ cells. map (cell_at cells.bytes.items) cells.places.items };
+
+    ghost invariant = { λ cells. All (LiesIn (length cells.bytes.items)) cells.places.items };
+}
+
+/// The place of a value; null past the last.
+fn place_at(places: &[Place], i: usize, most: usize) -> Place
+    requires { All (LiesIn most) places.now }
+    ensures lies { LiesIn most result }
+    ensures same { result ≡ slice_index_or places.now i
+        (record { null = true; external = false; from = 0; until = 0 }) }
+{
+    match places.get(i) {
+        Some(place) => *place,
+        None => NULL,
+    }
+}
+
+/// The order of two values of one kind, each among some bytes.
+fn compare_cells(kind: &FieldType, bytes: &[u8], a: Place, other: &[u8], b: Place) -> Ordering
+    requires first { LiesIn (length bytes.now) a }
+    requires second { LiesIn (length other.now) b }
+    ensures { result ≡ cell_cmp kind.now (cell_at bytes.now a) (cell_at other.now b) }
+{
+    if a.null {
+        if b.null {
+            Ordering::Equal
+        } else {
+            Ordering::Less
+        }
+    } else if b.null {
+        Ordering::Greater
+    } else {
+        compare(kind, &bytes[a.from..a.until], &other[b.from..b.until])
+    }
+}
+
+impl Cells {
+    /// None yet.
+    pub(crate) fn new(alloc: Global) -> Cells
+        ensures { result ≡ [] }
+    {
+        Cells {
+            bytes: Vec::new(alloc),
+            places: Vec::new(alloc),
+        }
+    }
+
+    /// One more, which is null.
+    pub(crate) fn push_null(&mut self) -> Result<(), NoMemory>
+        ensures { OnOk result (self.new ≡ self.old ++ None ∷ []) }
+    {
+        self.places.push(NULL)?;
+        Ok(())
+    }
+
+    /// One more, with these bytes.
+    pub(crate) fn push(&mut self, value: &[u8]) -> Result<(), NoMemory>
+        ensures { OnOk result (self.new ≡ self.old ++ Some value.now ∷ []) }
+    {
+        let from = self.bytes.len();
+        self.bytes.extend_from_slice(value)?;
+        self.places.push(Place {
+            null: false,
+            external: false,
+            from,
+            until: self.bytes.len(),
+        })?;
+        Ok(())
+    }
+
+    /// How many there are.
+    pub(crate) fn len(&self) -> usize
+        ensures { result ≡ length self.now }
+    {
+        self.places.len()
+    }
+
+    /// The order of two of them, which are of one kind; past the last there are nulls.
+    pub(crate) fn compare(&self, kind: &FieldType, a: usize, b: usize) -> Ordering
+        ensures { result ≡ cell_cmp kind.now (slice_index_or self.now a None) (slice_index_or self.now b None) }
+    {
+        let most = self.bytes.len();
+        let here = place_at(&self.places, a, most);
+        let there = place_at(&self.places, b, most);
+        compare_cells(kind, &self.bytes, here, &self.bytes, there)
+    }
+
+    /// The order of a field on a page and one of them.
+    pub(crate) fn compare_field(
+        &self,
+        kind: &FieldType,
+        page: &Page,
+        place: Place,
+        b: usize,
+    ) -> Ordering
+        requires { LiesIn 16384 place }
+        ensures { result ≡ cell_cmp kind.now (cell_at page.now place) (slice_index_or self.now b None) }
+    {
+        let there = place_at(&self.places, b, self.bytes.len());
+        compare_cells(kind, page.bytes(), place, &self.bytes, there)
+    }
+}

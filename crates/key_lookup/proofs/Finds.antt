@@ -1,0 +1,58 @@
+-- The checks of the head, and then those of the look-up.
+use Rattle.std.proofs.Common.{◌≡◌, ℕ, ◌+◌, ◌*◌, ◌≤◌, List, Option, None, Some, inl, inr, sym, ap, ◌∙◌, subst, arith}
+use Rattle.page_source.specs.declared.objects.PageSource.{Ghosts as FileOf}
+use Rattle.page_source.specs.declared.rule.Fault.{Fault}
+use Rattle.page_source.specs.declared.checks.Halt.{Halt}
+use Rattle.page_source.specs.declared.checks.Halt.TheVariants.{Broken, Source}
+use Rattle.page_source.specs.Checks.{HaltsAt, Stops, stop_of}
+use Rattle.page_source.specs.Calls.{OfFile}
+use Rattle.page_source.specs.Pages.{page_count}
+use Rattle.page_source.proofs.Told.{told1}
+use Rattle.column_values.specs.Types.{Fields}
+use Rattle.column_values.specs.Order.{Key}
+use Rattle.extent_map.specs.Head.{HeadChecks}
+use Rattle.schema_text.specs.Formats.{flags_of}
+use Rattle.schema_text.specs.TableDef.{TableDef, index_at}
+use Rattle.schema_text.specs.IndexFields.{leaf_fields, node_fields}
+use Rattle.tree_walk.specs.Index.{Index, index_of}
+use Rattle.table_check.specs.Trees.{index_in, clustered_tree}
+use Rattle.table_check.specs.First.{TakesSteps}
+use Rattle.key_lookup.specs.GetFirst.{LookUpChecks, GetFirst}
+use Rattle.key_lookup.specs.Get.{get_steps}
+
+pub index_same : (file : List ℕ) (table : TableDef) (root : ℕ) (leaf node : Fields) → root ≡ (index_at table 0).root
+    → leaf ≡ leaf_fields table 0 → node ≡ node_fields table 0 → index_of file root leaf node ≡ clustered_tree file table
+unfolding index_in
+index_same file table root leaf node r l n =
+    ap (λ (r : ℕ). index_of file r leaf node) r
+    ∙ ap (λ (f : Fields). index_of file (index_at table 0).root f node) l
+    ∙ ap (index_of file (index_at table 0).root (leaf_fields table 0)) n
+
+module _ (file : List ℕ) (table : TableDef) (key : Key) (flags : ℕ) (f : flags ≡ flags_of table.format) where
+  head_is : (v : Option Fault) → HeadChecks file flags v → HeadChecks file (flags_of table.format) v
+  head_is v x = subst (λ (n : ℕ). HeadChecks file n v) f x
+
+  pub in_head : (halt : Halt) → HaltsAt halt (HeadChecks file flags) → Stops (stop_of halt) (GetFirst file table key)
+  unfolding GetFirst
+  in_head (Broken fault) x = inl (head_is (Some fault) x)
+  in_head Source x = tt
+
+  module _ (index : Index) (is : index ≡ clustered_tree file table) (head : HeadChecks file flags None) where
+    pub in_look_up : (halt : Halt) → HaltsAt halt (LookUpChecks index key)
+        → Stops (stop_of halt) (GetFirst file table key)
+    unfolding GetFirst
+    in_look_up (Broken fault) x =
+        inr (head_is None head, subst (λ (i : Index). LookUpChecks i key (Some fault)) is x)
+    in_look_up Source x = tt
+
+    pub holds : LookUpChecks index key None → GetFirst file table key None
+    unfolding GetFirst
+    holds x = (head_is None head, subst (λ (i : Index). LookUpChecks i key None) is x)
+
+pub takes_steps : {S : Type 0} {g : FileOf S} {source : S} {size steps spent : ℕ}
+    → OfFile g source (λ file. size ≤ page_count file) → size ≤ 4194304 → spent ≤ steps + get_steps size
+    → TakesSteps g source get_steps steps spent
+takes_steps {g = g} {source = source} within most few = record {
+  told = told1 (g.content source) (λ file less. omega (arith, less, few)) within;
+  always = omega (arith, most, few);
+}

@@ -1,0 +1,248 @@
+-- The row that was found can be read, along the chains that were checked.
+use Rattle.std.proofs.Common.{◌≡◌, ℕ, zero, suc, ◌+◌, ◌-◌, ◌==◌, ◌<◌, ◌≤◌, Bool, true, false, cond, List, [], ◌∷◌, ◌++◌}
+use Rattle.std.proofs.Common.{length, take, get_or, drop, None, refl, sym, ap, ◌∙◌, subst, inl, inr, arith, length-append}
+use Rattle.std.proofs.Common.{append_assoc}
+use Rattle.std.proofs.Math.Seq.{take-append_seam, get_or-append_seam}
+use Rattle.std.proofs.lemmas.Bool.{ne_eqb, false≢true, cases_lt}
+use Rattle.std.proofs.lemmas.List.{length-take-le}
+use Rattle.std.proofs.lemmas.List.Sums.{sum_by-append, sum_by-cons}
+use Rattle.page_source.specs.Pages.{page_of, page_count}
+use Rattle.page_source.specs.Verdict.{AllBefore}
+use Rattle.column_values.specs.declared.kind.ColumnType.{ColumnType}
+use Rattle.column_values.specs.declared.field.FieldType.{FieldType}
+use Rattle.column_values.specs.declared.field.FieldType.TheVariants.{Column}
+use Rattle.column_values.specs.declared.value.Value.{Value}
+use Rattle.column_values.specs.declared.value.Value.TheVariants.{Null}
+use Rattle.column_values.specs.Types.{Fields, field_at}
+use Rattle.column_values.specs.Spell.{Spell, IsSpelling}
+use Rattle.compact_record.specs.declared.places.Place.{Place}
+use Rattle.compact_record.specs.Reading.{place_of}
+use Rattle.space_header.specs.Header.{size_of}
+use Rattle.space_audit.specs.Marks.{seen}
+use Rattle.offpage_chain.specs.declared.reference.Reference.{Reference}
+use Rattle.offpage_chain.specs.Reference.{reference_of}
+use Rattle.offpage_chain.specs.Chain.{part_length, next_part, pages_from, chain_pages, bytes_on, total_on}
+use Rattle.offpage_chain.specs.ChainChecks.{ChainChecksBy, IsChainPart}
+use Rattle.offpage_chain.specs.Reader.{GoesOn}
+use Rattle.row_text.specs.Writer.{is_long}
+use Rattle.schema_text.specs.TableDef.{TableDef, column_at}
+use Rattle.schema_text.specs.Grammar.{IsTable}
+use Rattle.schema_text.specs.IndexFields.{field_of_column, leaf_fields}
+use Rattle.table_check.specs.Values.{bytes_at, front_of, FitsKind, IsTextBehind, pages_of_part, pages_of_record}
+use Rattle.sql_dump.specs.Long.{chain_bytes, stated_length}
+use Rattle.sql_dump.specs.Cells.{IsWholeLong, ReadsValue, ReadsRow, CanReadRow, row_on, cell_of_column}
+use Rattle.sql_dump.proofs.ColumnFields.{holds_column}
+use Rattle.sql_dump.proofs.RowPages.{place_is, columns_within}
+use Rattle.sql_dump.proofs.Soundness.{bytes_due, long_spells, external_is_long, values_up_to}
+use Rattle.key_lookup.specs.Record.{HasFoundValue}
+use Rattle.key_lookup.specs.GetFirst.{FoundPartCheck, FoundChainChecks, FoundValueChecks, FoundFieldChecks}
+use Rattle.key_lookup.specs.GetFirst.{FoundRecordChecks}
+
+total_more : (file before : List ℕ) (n : ℕ)
+    → total_on file (before ++ n ∷ []) ≡ total_on file before + part_length (page_of file n)
+unfolding total_on
+total_more file before n =
+    let sums = sum_by-append (λ m. part_length (page_of file m)) before (n ∷ []) in
+    let last = sum_by-cons (λ m. part_length (page_of file m)) n [] in
+    omega (arith, sums, last)
+
+no_total : (file : List ℕ) → total_on file [] ≡ 0
+unfolding total_on
+no_total file = refl
+
+module _ (file : List ℕ) (size : size_of file ≤ page_count file) (holder : ℕ) (reference : Reference) (taken : ℕ → Bool)
+    (checks : AllBefore (chain_pages file reference) (FoundPartCheck file holder reference taken)
+    (length (chain_pages file reference))) where
+  abbrev pages : List ℕ
+  pages = chain_pages file reference
+
+  -- the check of the page behind these ones
+  check_at : (before rest : List ℕ) (n : ℕ) → pages ≡ before ++ n ∷ rest
+      → FoundPartCheck file holder reference taken before n None
+  check_at before rest n split =
+      let within : length before < length pages = omega (arith, ap length split, length-append before (n ∷ rest)) in
+      let check = checks (length before) 0 within in
+      let front : take (length before) pages ≡ before =
+      ap (take (length before)) split ∙ take-append_seam before (n ∷ rest) in
+      let page : get_or pages (length before) 0 ≡ n =
+      ap (λ (t : List ℕ). get_or t (length before) 0) split ∙ get_or-append_seam before n rest 0 in
+      let one = subst (λ (b : List ℕ). FoundPartCheck file holder reference taken b (get_or pages (length before) 0)
+      None) front check in
+      subst (λ (m : ℕ). FoundPartCheck file holder reference taken before m None) page one
+
+  goes_from : (fuel n left : ℕ) (before : List ℕ) → pages ≡ before ++ pages_from file fuel n left
+      → total_on file before + left ≡ reference.length → left ≤ fuel → GoesOn file n left (pages_from file fuel n left)
+  goes_from zero n left before split total enough = omega arith
+  goes_from (suc fuel) n zero before split total enough = refl
+  goes_from (suc fuel) n (suc less) before split total enough =
+      let left : ℕ = suc less in
+      let page = page_of file n in
+      let some = ne_eqb left 0 (λ e. omega arith) in
+      let rest = pages_from file fuel (next_part page) (left - part_length page) in
+      let here : pages_from file (suc fuel) n left ≡ n ∷ rest = rw some refl in
+      let cut : pages ≡ before ++ n ∷ rest = split ∙ ap (λ (t : List ℕ). before ++ t) here in
+      let check = check_at before rest n cut in
+      let part = check.1 in
+      let lacks : reference.length - total_on file before ≡ left = omega arith in
+      let part_here = subst (λ (l : ℕ). IsChainPart page l) lacks part in
+      let more = total_more file before n in
+      let below = check.0.0.below in
+      let tail = goes_from fuel (next_part page) (left - part_length page) (before ++ n ∷ [])
+      (cut ∙ sym (append_assoc before (n ∷ []) rest))
+      (let w = part_here.within in omega arith) (let p = part_here.part.0 in omega arith) in
+      subst (GoesOn file n left) (sym here) (refl, omega arith, part_here, tail)
+
+  pub goes : GoesOn file reference.page reference.length pages
+  unfolding chain_pages
+  goes = goes_from reference.length reference.page reference.length [] refl (omega (arith, no_total file)) (omega arith)
+
+module _ (file : List ℕ) (size : size_of file ≤ page_count file) (leaf : ℕ) (kind : ColumnType) where
+  -- a value that goes on elsewhere and whose checks hold
+  module _ (local : List ℕ) (taken : ℕ → Bool) (long : is_long kind ≡ true)
+      (checks : FoundValueChecks file leaf kind local true taken None) where
+    abbrev reference : Reference
+    reference = reference_of local
+
+    along : GoesOn file reference.page reference.length (chain_pages file reference)
+    unfolding ChainChecksBy
+    along = goes file size leaf reference taken checks.1.1.1.0
+
+    text : IsTextBehind kind local (bytes_on file (chain_pages file reference))
+    unfolding ChainChecksBy
+    text = checks.1.1.1.1
+
+    stated : length (front_of local ++ bytes_on file (chain_pages file reference)) ≡ stated_length local
+    stated =
+        let due = bytes_due file (chain_pages file reference) reference.page reference.length along in
+        let front : length (front_of local) ≡ length local - 20 = length-take-le (length local - 20) local (omega arith)
+        in
+        omega (arith, length-append (front_of local) (bytes_on file (chain_pages file reference)), due, front)
+
+    whole : (value : Value) → Spell kind value (front_of local ++ bytes_on file (chain_pages file reference))
+        → IsWholeLong file kind local value
+    unfolding chain_bytes
+    whole value spelled = record {
+      fits = record { long = long; fits = checks.0 };
+      follow = record { goes_on = along };
+      size = stated;
+      spelled = spelled;
+    }
+
+    spelling : IsSpelling kind (front_of local ++ bytes_on file (chain_pages file reference))
+    spelling = long_spells kind (front_of local ++ bytes_on file (chain_pages file reference)) long
+        (let fits = checks.0 in omega (arith, stated, fits)) text
+
+  -- the value of a place whose checks hold
+  module _ (page : List ℕ) (place : Place) (taken : ℕ → Bool) (long : place.external ≡ true → is_long kind ≡ true)
+      (checks : place.null ≡ false
+      → FoundValueChecks file leaf kind (bytes_at page place) place.external taken None) where
+    away : (e : place.external ≡ true) → place.null ≡ false
+        → FoundValueChecks file leaf kind (bytes_at page place) true taken None
+    away e some = subst (λ (x : Bool). FoundValueChecks file leaf kind (bytes_at page place) x taken None) e (checks some)
+
+    here : (e : place.external ≡ false) → place.null ≡ false → IsSpelling kind (bytes_at page place)
+    here e some = subst (λ (x : Bool). FoundValueChecks file leaf kind (bytes_at page place) x taken None) e (checks some)
+
+    -- what is found there can be read
+    pub reads : (value : Value) → HasFoundValue file kind page place value
+        → ReadsValue file (record { kind = kind; page = page; place = place }) value
+    reads value has = record {
+      null = has.null;
+      local = has.local;
+      long = λ some e. whole (bytes_at page place) taken (long e) (away e some) value (has.external some e);
+    }
+
+    -- and there is a value
+    pub some_value : (value : Value) × HasFoundValue file kind page place value
+    some_value = by_tests place.null place.external refl refl
+      where
+        by_tests : (n e : Bool) → place.null ≡ n → place.external ≡ e
+            → (value : Value) × HasFoundValue file kind page place value
+        by_tests true e null external = (
+          Null,
+          record {
+            null = λ _. refl;
+            local = λ some. absurd (false≢true (sym some ∙ null));
+            external = λ some. absurd (false≢true (sym some ∙ null));
+          },
+        )
+        by_tests false false null external =
+            let s = here external null in (
+              s.0,
+              record {
+                null = λ none. absurd (false≢true (sym null ∙ none));
+                local = λ _ _. s.1;
+                external = λ _ e. absurd (false≢true (sym external ∙ e));
+              },
+            )
+        by_tests false true null external =
+            let s = spelling (bytes_at page place) taken (long external) (away external null) in (
+              s.0,
+              record {
+                null = λ none. absurd (false≢true (sym null ∙ none));
+                local = λ _ e. absurd (false≢true (sym e ∙ external));
+                external = λ _ _. s.1;
+              },
+            )
+
+-- the values that are found of a record, by its place on a page
+pub record AreFound (file : List ℕ) (table : TableDef) (page : List ℕ) (origin : ℕ) (row_values : List Value)
+    : Type 0 where
+  pub count : length row_values ≡ length table.columns
+  pub each : (c : ℕ) → c < length table.columns
+      → HasFoundValue file (column_at table c).kind page (place_of page origin (leaf_fields table 0)
+      (field_of_column table c)) (get_or row_values c Null)
+
+module _ (file : List ℕ) (size : size_of file ≤ page_count file) (table : TableDef) (is : IsTable table) (leaf : ℕ)
+    (page : List ℕ) (origin : ℕ) (taken : ℕ → Bool)
+    (checks : FoundRecordChecks file leaf page origin (leaf_fields table 0) taken None) where
+  abbrev fields : Fields
+  fields = leaf_fields table 0
+
+  abbrev place : ℕ → Place
+  place c = place_of page origin fields (field_of_column table c)
+
+  abbrev before : ℕ → ℕ → Bool
+  before c = seen taken (pages_of_part file page origin fields (field_of_column table c))
+
+  column_checks : (c : ℕ) → c < length table.columns
+      → FoundFieldChecks file leaf (Column (column_at table c).kind) page (place c) (before c) None
+  unfolding FoundRecordChecks
+  column_checks c within =
+      let holds = holds_column table c is within in
+      subst (λ (k : FieldType). FoundFieldChecks file leaf k page (place c) (before c) None) holds.kind
+      (checks (field_of_column table c) holds.inside)
+
+  column_long : (c : ℕ) → c < length table.columns → (place c).external ≡ true
+      → is_long (column_at table c).kind ≡ true
+  column_long c within =
+      external_is_long page origin (field_of_column table c) fields (column_at table c).kind
+      (holds_column table c is within).kind
+
+  -- they can be read
+  pub found_reads : (row_values : List Value) → AreFound file table page origin row_values
+      → ReadsRow file (row_on table page origin) row_values
+  found_reads row_values are = record {
+    count = are.count;
+    each = λ c within.
+        rw (place_is table page origin c is within)
+        (reads file size leaf (column_at table c).kind page (place c) (before c) (column_long c within)
+        (column_checks c within) (get_or row_values c Null) (are.each c within));
+  }
+
+  -- and there are some
+  pub some_found : (row_values : List Value) × AreFound file table page origin row_values
+  some_found =
+      let found = values_up_to (λ c value. HasFoundValue file (column_at table c).kind page (place c) value)
+      (length table.columns)
+      (λ c within. some_value file size leaf (column_at table c).kind page (place c) (before c) (column_long c within)
+      (column_checks c within)) in
+      (found.row, record { count = found.count; each = found.each })
+
+  pub can_read : (left : ℕ) → length (pages_of_record file page origin fields) ≤ left
+      → CanReadRow file (row_on table page origin) left
+  can_read left few = record {
+    row_values = some_found.0;
+    reads = found_reads some_found.0 some_found.1;
+    few = omega (arith, columns_within file table page origin is, few);
+  }

@@ -1,0 +1,143 @@
+-- A record's fields are checked one after another.
+use Rattle.std.proofs.Common.{◌≡◌, ℕ, ◌+◌, ◌<◌, Bool, List, length, get_or, Option, Some, None}
+use Rattle.std.proofs.Common.{IfSome, Result, Ok, Err, refl, sym, ap, ◌∙◌, subst, arith}
+use Rattle.std.proofs.lemmas.List.FromFn.{get_or-map-range_with_len, length-map-range_with_len}
+use Rattle.std.proofs.lemmas.List.{get_or_default}
+use Rattle.std.proofs.Math.Path.{fun_ext}
+use Rattle.page_source.specs.declared.objects.PageSource.{Ghosts as FileOf}
+use Rattle.page_source.specs.declared.rule.Fault.{Fault}
+use Rattle.page_source.specs.declared.checks.Halt.{Halt}
+use Rattle.page_source.specs.declared.checks.Halt.TheVariants.{Broken, Source}
+use Rattle.page_source.specs.Verdict.{AllBelow}
+use Rattle.page_source.specs.Checks.{HaltsAt}
+use Rattle.page_source.specs.Calls.{OfFile}
+use Rattle.page_source.proofs.Told.{told0, told1, told3}
+use Rattle.column_values.specs.declared.field.Field.{Field}
+use Rattle.column_values.specs.Types.{Fields, field_at}
+use Rattle.compact_record.specs.declared.places.Place.{Place}
+use Rattle.compact_record.specs.Reading.{place_of, places_of, field_count}
+use Rattle.space_audit.specs.Marks.{is_set, Marked}
+use Rattle.table_check.specs.Marking.{ChecksPages}
+use Rattle.key_lookup.specs.declared.leaf.Leaf.{Leaf}
+use Rattle.table_check.specs.Values.{pages_of_part}
+use Rattle.key_lookup.specs.GetFirst.{FoundFieldCheck}
+use Rattle.key_lookup.specs.Values.{FieldChecksOn, RecordChecksOn, pages_of_field_on, pages_of_record_on}
+use Rattle.table_check.proofs.Progress.{HasMarked, none_marked, more_marked, all_marked, breaks_off}
+use Rattle.table_check.proofs.RecordSteps.{part_more, below_more}
+use Rattle.key_lookup.proofs.RecordSteps.{record_breaks, whole_record, record_holds}
+
+pub halts_as : (halt : Halt) (A B : Option Fault → Type 0) → ((v : Option Fault) → A v → B v) → HaltsAt halt A
+    → HaltsAt halt B
+halts_as (Broken fault) A B gives at = gives (Some fault) at
+halts_as Source A B gives at = tt
+
+-- the fields before field i hold, and their pages were marked
+pub record FieldsHeld {S : Type 0} (g : FileOf S) (first now : S) (start marks : List Bool) (steps spent count : ℕ)
+    (leaf : Leaf) (origin i : ℕ) : Type 0 where
+  pub has : HasMarked g first now start marks steps spent count
+      (λ file. pages_of_part file leaf.page.now origin leaf.fields.now i)
+  pub held : OfFile g first (λ file. AllBelow (FoundFieldCheck file leaf.number leaf.page.now origin
+      leaf.fields.now (is_set start)) i)
+
+-- none was checked yet
+pub none_held : {S : Type 0} {g : FileOf S} {first : S} {leaf : Leaf} {origin : ℕ} (start : List Bool) (steps : ℕ)
+    → FieldsHeld g first first start start steps steps 0 leaf origin 0
+none_held {g = g} {first = first} start steps = record {
+  has = none_marked g first start steps _ (λ file. refl);
+  held = told0 (g.content first) (λ file. λ i below. absurd (omega (arith, below)));
+}
+
+-- all were checked
+pub all_held : {S : Type 0} {g : FileOf S} {first now : S} {start marks : List Bool} {steps spent count i : ℕ}
+    {leaf : Leaf} {origin : ℕ} → FieldsHeld g first now start marks steps spent count leaf origin i
+    → i ≡ field_count leaf.fields.now
+    → ChecksPages g first now start marks steps spent (Ok count)
+    (λ file. RecordChecksOn file leaf origin (is_set start)) (λ file. pages_of_record_on file leaf origin)
+all_held {g = g} {first = first} {now = now} {start = start} {marks = marks} {steps = steps} {spent = spent}
+    {count = count} {i = i} {leaf = leaf} {origin = origin} have all =
+    let page = leaf.page.now in
+    let fields = leaf.fields.now in
+    all_marked g first now start marks steps spent count (λ file. pages_of_part file page origin fields i)
+    (λ file. pages_of_record_on file leaf origin) (λ file. RecordChecksOn file leaf origin (is_set start))
+    (told0 (g.content first)
+    (λ file. whole_record file leaf.number page origin fields (is_set start)
+    ∙ ap (pages_of_part file page origin fields) (sym all)))
+    (told1 (g.content first)
+    (λ file below. record_holds file leaf.number page origin fields (is_set start)
+    (subst (AllBelow (FoundFieldCheck file leaf.number page origin fields (is_set start))) all below))
+    have.held)
+    have.has
+
+module _ {S : Type 0} {g : FileOf S} {first old : S} {start before : List Bool} {steps mid count i : ℕ} {leaf : Leaf}
+    {origin : ℕ} (have : FieldsHeld g first old start before steps mid count leaf origin i)
+    (within : i < field_count leaf.fields.now) (field : Field) (place : Place)
+    (is_field : field ≡ field_at leaf.fields.now i)
+    (is_place : place ≡ place_of leaf.page.now origin leaf.fields.now i) where
+  -- the leaf's page and fields
+  abbrev page : List ℕ
+  page = leaf.page.now
+
+  abbrev fields : Fields
+  fields = leaf.fields.now
+
+  -- the checks of this field, and its pages
+  abbrev Here : List ℕ → Option Fault → Type 0
+  Here file = FieldChecksOn file leaf (field_at fields i).kind (place_of page origin fields i) (is_set before)
+
+  abbrev pages_here : List ℕ → List ℕ
+  pages_here file = pages_of_field_on file leaf (field_at fields i).kind (place_of page origin fields i)
+
+  here_as : (file : List ℕ) (v : Option Fault) → Marked (is_set start) before (pages_of_part file page origin fields i)
+      → Here file v → FoundFieldCheck file leaf.number page origin fields (is_set start) i v
+  here_as file v marked check =
+      subst (λ (taken : ℕ → Bool). FieldChecksOn file leaf (field_at fields i).kind (place_of page origin fields i)
+      taken v) (fun_ext marked) check
+
+  module _ (new : S) (after : List Bool) (spent : ℕ) where
+    abbrev Checked : Result ℕ Halt → Field → Place → Type 0
+    Checked result f p = ChecksPages g old new before after mid spent result
+        (λ file. FieldChecksOn file leaf f.kind p (is_set before)) (λ file. pages_of_field_on file leaf f.kind p)
+
+    read_here : (result : Result ℕ Halt) → Checked result field place
+        → Checked result (field_at fields i) (place_of page origin fields i)
+    read_here result call =
+        subst (λ (p : Place). Checked result (field_at fields i) p) is_place
+        (subst (λ (f : Field). Checked result f place) is_field call)
+
+    -- they break off
+    pub field_breaks : (halt : Halt) → Checked (Err halt) field place
+        → ChecksPages g first new start after steps spent (Err halt)
+        (λ file. RecordChecksOn file leaf origin (is_set start)) (λ file. pages_of_record_on file leaf origin)
+    field_breaks halt call =
+        let here = read_here (Err halt) call in
+        let exact = subst (λ (o : Option (List ℕ)). IfSome o (λ file. HaltsAt halt (Here file))) have.has.same
+        here.exact in
+        breaks_off g first old new start before after steps mid spent count
+        (λ file. pages_of_part file page origin fields i) pages_here Here have.has halt
+        (λ file. RecordChecksOn file leaf origin (is_set start)) (λ file. pages_of_record_on file leaf origin)
+        (told3 (g.content first)
+        (λ file marked below at. record_breaks file leaf.number page origin fields (is_set start) i halt within
+        below
+        (halts_as halt (Here file) (FoundFieldCheck file leaf.number page origin fields (is_set start) i)
+        (λ v check. here_as file v marked check) at))
+        have.has.grew have.held exact) here
+
+    -- or hold
+    pub field_holds : (n : ℕ) → Checked (Ok n) field place
+        → FieldsHeld g first new start after steps spent (count + n) leaf origin (i + 1)
+    field_holds n call =
+        let here = read_here (Ok n) call in
+        let exact = subst (λ (o : Option (List ℕ)). IfSome o (λ file. Here file None)) have.has.same here.exact in
+        record {
+          has = more_marked g first old new start before after steps mid spent count
+              (λ file. pages_of_part file page origin fields i)
+              pages_here Here have.has n (λ file. pages_of_part file page origin fields (i + 1))
+              (told0 (g.content first)
+              (λ file. part_more file 0 leaf.number page origin fields (is_set start) i)) here;
+          held =
+              told3 (g.content first)
+              (λ file marked below check. below_more
+              (FoundFieldCheck file leaf.number page origin fields (is_set start)) i below
+              (here_as file None marked check))
+              have.has.grew have.held exact;
+        }

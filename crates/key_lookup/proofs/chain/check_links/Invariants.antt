@@ -1,0 +1,26 @@
+use Rattle.std.proofs.Common.{◌≡◌, ◌≤◌, ◌+◌, ◌-◌, length}
+use Rattle.page_source.specs.Lists.{unmarked}
+use Rattle.page_source.specs.Calls.{OfFile}
+use Rattle.column_values.specs.Utf8Reader.{CountsUpTo}
+use Rattle.key_lookup.proofs.Alongs.{IsAlong, walk_of}
+use Rattle.key_lookup.proofs.chain.check_links.Given as goal
+
+-- some pages held, were marked and fed
+abbrev pub invariant-loop-due : goal.invariant-loop-due
+invariant-loop-due g l =
+    let content = g.S.PageSource.content in
+    record {
+      same : content l.source ≡ content l.fn.source;
+      later : g.S.PageSource.faults l.fn.source ≤ g.S.PageSource.faults l.source;
+      members : length l.marks ≡ length l.fn.marks;
+      spent : l.steps + unmarked l.marks ≤ l.fn.steps + unmarked l.fn.marks;
+      taken : l.steps ≤ l.fn.steps + l.count;
+      few : l.count + l.due.left ≤ l.chain.reference.now.length;
+      marked : l.count + unmarked l.marks ≤ unmarked l.fn.marks;
+      counts : CountsUpTo (16384 + (l.chain.reference.now.length - l.due.left)) l.text;
+      told : OfFile g.S.PageSource l.fn.source (λ file.
+          IsAlong (walk_of file l.chain l.fn.marks) l.marks l.fn.text l.text l.due l.count);
+    }
+
+abbrev pub decreases-loop-due : goal.decreases-loop-due
+decreases-loop-due g l = l.due.left

@@ -1,0 +1,56 @@
+use Rattle.std.proofs.Common.{ap, subst, arith}
+use Rattle.std.proofs.lemmas.Result.{err_from_is_err_and}
+use Rattle.page_source.proofs.Told.{told1, told2}
+use Rattle.tree_walk.specs.Index.{Index, index_of, root_level}
+use Rattle.key_lookup.specs.LookUp.{IsFound}
+use Rattle.key_lookup.proofs.Finds.{index_same, in_head, in_look_up, holds}
+use Rattle.key_lookup.proofs.find.find.Goals as goal
+
+pub returns-in_err-header-clause-exact : goal.returns-in_err-header-clause-exact
+returns-in_err-header-clause-exact g c =
+    let r = err_from_is_err_and c.from_residual.result c.from_residual.ensures.1 in
+    rw (r.1, r.2)
+    (told1 (g.S.PageSource.content c.args.source.now)
+    (λ file at. in_head file c.args.schema.now c.args.key.now c.flags.result c.flags.ensures c.in_err-header.field-0.0 at)
+    c.in_err-header.ensures.exact)
+
+pub returns-in_err-look_up-clause-exact : goal.returns-in_err-look_up-clause-exact
+returns-in_err-look_up-clause-exact g c =
+    let r = err_from_is_err_and c.from_residual-in_err-look_up.result c.from_residual-in_err-look_up.ensures.1 in
+    let at = rw c.in_ok-header.ensures.over.same at c.in_err-look_up.ensures.exact in
+    rw (r.1, r.2)
+    (told2 (g.S.PageSource.content c.args.source.now)
+    (λ file head at. in_look_up file c.args.schema.now c.args.key.now c.flags.result c.flags.ensures
+    (index_of file c.root_of.result c.args.leaf.now c.args.node.now)
+    (index_same file c.args.schema.now c.root_of.result c.args.leaf.now c.args.node.now c.root_of.ensures
+    c.requires.leaf c.requires.node) head c.in_err-look_up.field-0.0 at)
+    c.in_ok-header.ensures.exact at)
+
+pub returns-clause-exact : goal.returns-clause-exact
+returns-clause-exact g c =
+    let at = rw c.in_ok-header.ensures.over.same at c.in_ok-look_up.ensures.exact in
+    told2 (g.S.PageSource.content c.args.source.now)
+    (λ file head at. holds file c.args.schema.now c.args.key.now c.flags.result c.flags.ensures
+    (index_of file c.root_of.result c.args.leaf.now c.args.node.now)
+    (index_same file c.args.schema.now c.root_of.result c.args.leaf.now c.args.node.now c.root_of.ensures
+    c.requires.leaf c.requires.node) head at)
+    c.in_ok-header.ensures.exact at
+
+pub returns-clause-found : goal.returns-clause-found
+returns-clause-found g c =
+    let at = rw c.in_ok-header.ensures.over.same at c.in_ok-look_up.ensures.found in
+    told1 (g.S.PageSource.content c.args.source.now)
+    (λ file found. subst (λ (i : Index). IsFound i c.args.key.now c.look_up.new.walk.child c.in_ok-look_up.field-0)
+    (index_same file c.args.schema.now c.root_of.result c.args.leaf.now c.args.node.now c.root_of.ensures
+    c.requires.leaf c.requires.node) found)
+    at
+
+pub returns-clause-told : goal.returns-clause-told
+returns-clause-told g c =
+    let at = rw c.in_ok-header.ensures.over.same at c.in_ok-look_up.ensures.told in
+    told1 (g.S.PageSource.content c.args.source.now)
+    (λ file few.
+    let same = ap root_level (index_same file c.args.schema.now c.root_of.result c.args.leaf.now c.args.node.now
+    c.root_of.ensures c.requires.leaf c.requires.node) in
+    omega (arith, few, same, c.in_ok-header.ensures.cost))
+    at

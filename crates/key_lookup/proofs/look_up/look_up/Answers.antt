@@ -1,0 +1,36 @@
+use Rattle.std.proofs.Common.{refl}
+use Rattle.std.proofs.lemmas.Result.{err_from_is_err_and}
+use Rattle.page_source.proofs.Told.{told4}
+use Rattle.key_lookup.specs.Tree.{index_in}
+use Rattle.key_lookup.proofs.Down.{held_by}
+use Rattle.key_lookup.proofs.LookUps.{look_halts, look_holds}
+use Rattle.key_lookup.proofs.look_up.look_up.Goals as goal
+
+pub returns-in_err-pages-clause-exact : goal.returns-in_err-pages-clause-exact
+returns-in_err-pages-clause-exact g c =
+    let r = err_from_is_err_and c.from_residual-in_err-pages.result c.from_residual-in_err-pages.ensures.1 in
+    let way = c.in_ok-number.ensures in
+    let held = held_by c.find_leaf.new.walk.child c.args.tree.now.leaf.now c.in-Some.origin c.again.new.self
+    c.again.result c.in-Some.ensures.record c.again.ensures.exact.1 c.again.ensures.read in
+    let checks = rw way.over.same at c.in_err-pages.ensures.checks.exact in
+    rw (r.1, r.2) (told4 (g.S.PageSource.content c.args.source.now)
+    (λ file all leaf page x.
+    let index = index_in file c.args.tree.now in
+    look_halts index c.args.key.now c.in_ok-number.number c.in-Some.origin c.again.new.self.origin
+    c.find_leaf.new.walk.child c.args.marks.now all leaf page (c.in-Some.ensures.exact index c.in_ok-number.number page
+    refl) held.stands c.requires.fresh c.in_err-pages.field-0.0 x)
+    way.exact way.leaf way.page checks)
+
+pub returns-clause-exact : goal.returns-clause-exact
+returns-clause-exact g c =
+    let way = c.in_ok-number.ensures in
+    let held = held_by c.find_leaf.new.walk.child c.args.tree.now.leaf.now c.in-Some.origin c.again.new.self
+    c.again.result c.in-Some.ensures.record c.again.ensures.exact.1 c.again.ensures.read in
+    let checks = rw way.over.same at c.in_ok-pages.ensures.checks.exact in
+    told4 (g.S.PageSource.content c.args.source.now)
+    (λ file all leaf page x.
+    let index = index_in file c.args.tree.now in
+    look_holds index c.args.key.now c.in_ok-number.number c.in-Some.origin c.again.new.self.origin
+    c.find_leaf.new.walk.child c.args.marks.now all leaf page (c.in-Some.ensures.exact index c.in_ok-number.number page
+    refl) held.stands c.requires.fresh x)
+    way.exact way.leaf way.page checks

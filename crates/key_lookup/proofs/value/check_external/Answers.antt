@@ -1,0 +1,56 @@
+use Rattle.std.proofs.Common.{◌≡◌, ◌+◌, ◌-◌, List, ℕ, [], ◌++◌, length, ap, sym, ◌∙◌, subst, arith}
+use Rattle.std.specs.Prelude.{IfOk, OnOk}
+use Rattle.page_source.specs.Checks.{Halts}
+use Rattle.page_source.specs.Calls.{OfFile}
+use Rattle.page_source.proofs.Told.{told1}
+use Rattle.column_values.specs.Utf8Reader.{TakesText, WasFed, IsFed}
+use Rattle.space_audit.specs.Marks.{is_set, Marked}
+use Rattle.offpage_chain.specs.declared.reference.Reference.{Reference}
+use Rattle.offpage_chain.specs.Chain.{chain_pages}
+use Rattle.key_lookup.specs.GetFirst.{FoundChainChecks}
+use Rattle.table_check.specs.Values.{FitsKind, front_of}
+use Rattle.table_check.proofs.ValueStages.{counts_most, text_behind}
+use Rattle.key_lookup.proofs.ValueStages.{value_goes_on}
+use Rattle.key_lookup.proofs.value.check_external.Goals as goal
+
+pub check_chain-requires-clause-count : goal.check_chain-requires-clause-count
+check_chain-requires-clause-count g c =
+    counts_most c.feed.new.self (0 + length c.cut.result.0.now) 16384 (omega
+    (arith, c.cut.ensures.size, c.requires.most))
+    (c.feed.ensures.counts 0 c.text_of-text.ensures.count)
+
+pub returns-clause-checks : goal.returns-clause-checks
+returns-clause-checks g c =
+    let leaf = c.args.leaf.now in
+    let local = c.args.local.now in
+    let kind = c.args.kind.now in
+    let size = ap (λ (r : Reference). r.length) c.cut.ensures.reference in
+    let feeds = subst (λ (b : List ℕ). IsFed c.text_of-text.result c.feed.new.self b) c.cut.ensures.front
+    c.feed.ensures.feeds in
+    let front : length (front_of local) ≡ length local - 20 = sym (ap length c.cut.ensures.front)
+    ∙ c.cut.ensures.size in
+    let fits : FitsKind kind local = omega
+    (arith, c.if-front-reference.false, c.greatest_length.ensures.value, c.cut.ensures.size, size) in
+    let was : WasFed c.feed.new.self (front_of local) = feeds.fed [] c.text_of-text.ensures.fresh in
+    record {
+      exact =
+          told1 (g.S.PageSource.content c.args.source.now)
+          (λ file chain. value_goes_on file leaf.number kind local (is_set c.args.marks.now)
+          (λ bytes. TakesText c.feed.new.self (front_of local ++ bytes)) fits
+          (text_behind kind local c.text_of-text.result c.feed.new.self c.text_of-text.ensures.takes feeds)
+          c.check_chain.result
+          (subst (λ (r : Reference). Halts c.check_chain.result (FoundChainChecks file leaf.number r
+          (is_set c.args.marks.now) (λ bytes. TakesText c.feed.new.self (front_of local ++ bytes))))
+          c.cut.ensures.reference (chain (front_of local) was)))
+          c.check_chain.ensures.exact;
+      count = subst (λ (r : Reference). IfOk c.check_chain.result (λ count. OfFile g.S.PageSource c.args.source.now
+          (λ file. count ≡ length (chain_pages file r)))) c.cut.ensures.reference c.check_chain.ensures.count;
+      grew = subst (λ (r : Reference). OnOk c.check_chain.result (OfFile g.S.PageSource c.args.source.now
+          (λ file. Marked (is_set c.args.marks.now) c.check_chain.new.marks
+          (chain_pages file r)))) c.cut.ensures.reference c.check_chain.ensures.grew;
+      members = c.check_chain.ensures.members;
+      fewer = c.check_chain.ensures.fewer;
+      cost = c.check_chain.ensures.cost;
+      at_ok = c.check_chain.ensures.spent;
+      over = c.check_chain.ensures.over;
+    }

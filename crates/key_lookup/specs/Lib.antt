@@ -1,0 +1,14 @@
+pub mod Path
+pub mod Record
+pub mod GetFirst
+pub mod Laws
+pub mod Sought
+pub mod Tree
+pub mod Choice
+pub mod Leaf
+pub mod Way
+pub mod ChainSteps
+pub mod Values
+pub mod Get
+pub mod Stops
+pub mod LookUp

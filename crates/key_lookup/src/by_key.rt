@@ -1,0 +1,98 @@
+//! The line of the row with a key.
+
+ghost use Rattle.std.specs.Prelude.{◌≡◌, ◌+◌, ◌≤◌, List, length, None, OnOk, Ok};
+ghost use Rattle.page_source.specs.Calls.{OfFile};
+ghost use Rattle.column_values.specs.declared.value.Value.{Value};
+ghost use Rattle.schema_text.specs.IndexFields.{leaf_fields};
+ghost use Rattle.row_text.specs.Line.{line_of};
+ghost use Rattle.tree_walk.specs.Records.{IsRecord};
+ghost use Rattle.table_check.specs.First.{TakesSteps};
+ghost use Rattle.sql_dump.specs.Stops.{Writes, WritesOver};
+ghost use Rattle.sql_dump.specs.Cells.{ReadsRow, CanReadRow, row_on};
+ghost use Rattle.key_lookup.specs.Get.{GetsByKey, GetsOver, IsAnswered, get_steps, steps_for};
+
+use crate::find::find;
+use crate::key::SearchKey;
+use crate::look_up::Found;
+use crate::room::Room;
+use crate::stop::GetStop;
+use page_source::{ByteSink, Page, PageSource, Steps};
+use schema_text::Schema;
+use sql_dump::{ChainRoom, RowReader, WriteStop, put_row};
+use std::alloc::Global;
+use std::sync::ledger::Ledger;
+
+/// Writes the line of the row that was found on its leaf.
+fn write_row<S: PageSource, O: ByteSink, L: Ledger>(
+    source: &mut S,
+    sink: &mut O,
+    reader: &mut RowReader,
+    leaf: &Page,
+    found: Found,
+    room: &mut ChainRoom,
+    steps: &mut Steps<L>,
+) -> Result<(), WriteStop>
+    requires record { IsRecord leaf.now (leaf_fields reader.old.table 0) found.origin }
+    requires told { OfFile S.PageSource source.old (λ file.
+        CanReadRow file (row_on reader.old.table leaf.now found.origin) room.old.left) }
+    ensures puts { OfFile S.PageSource source.old (λ file. (row_values : List Value)
+        → ReadsRow file (row_on reader.old.table leaf.now found.origin) row_values
+        → Writes result (O.written sink.old) (O.written sink.new) (line_of reader.old.table row_values)) }
+    ensures cost { steps.new + room.new.left ≡ steps.old + room.old.left }
+    ensures over { WritesOver S.PageSource O.ByteSink source.old source.new sink.old sink.new result }
+{
+    reader.read(leaf, found.number, found.origin)?;
+    let row = reader.row(leaf, found.number);
+    put_row(source, sink, &row, room, steps)
+}
+
+/// Finds the row with a key, and writes its line.
+pub fn get_by_key<S: PageSource, O: ByteSink, L: Ledger>(
+    alloc: Global,
+    source: &mut S,
+    schema: &Schema,
+    key: &SearchKey,
+    sink: &mut O,
+    steps: &mut Steps<L>,
+) -> Result<(), GetStop>
+    requires same { length key.now ≡ (leaf_fields schema.now 0).keys }
+    ensures told { OfFile S.PageSource source.old (λ file.
+        GetsByKey file schema.now key.now result (O.written sink.old) (O.written sink.new)) }
+    ensures over { GetsOver S.PageSource O.ByteSink source.old source.new sink.old sink.new result }
+    ensures few { OfFile S.PageSource source.old (λ file. IsAnswered result
+        → steps.new ≤ steps.old + steps_for file schema.now key.now) }
+    ensures steps { TakesSteps S.PageSource source.old get_steps steps.old steps.new }
+{
+    let Room {
+        leaf,
+        node,
+        mut walk,
+        mut reader,
+        mut chains,
+    } = Room::new(alloc, schema)?;
+    let found = find(
+        alloc,
+        source,
+        schema,
+        &mut walk,
+        &leaf,
+        &node,
+        key,
+        &mut chains.page,
+        steps,
+    )?;
+    let Some(found) = found else {
+        return Err(GetStop::Absent);
+    };
+    chains.left = found.pages;
+    write_row(
+        source,
+        sink,
+        &mut reader,
+        &walk.child,
+        found,
+        &mut chains,
+        steps,
+    )?;
+    Ok(())
+}

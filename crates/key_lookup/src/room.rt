@@ -1,0 +1,58 @@
+//! The memory of a look-up.
+
+ghost use Rattle.std.specs.Prelude.{◌≡◌, IfOk};
+ghost use Rattle.column_values.specs.Types.{AreFields};
+ghost use Rattle.schema_text.specs.Grammar.{IsTable};
+ghost use Rattle.schema_text.specs.IndexFields.{leaf_fields, node_fields};
+ghost use Rattle.tree_walk.specs.Room.{CanWalk};
+
+use column_values::FieldList;
+use page_source::{NoMemory, Page};
+use schema_text::Schema;
+use schema_text::laws::lists_are_of_one_index;
+use sql_dump::{Buffer, ChainRoom, RowReader};
+use std::alloc::Global;
+use tree_walk::Walk;
+
+/// The most fields of a record: 64 columns, a row id, a transaction id and a roll pointer are fewer.
+const MOST_FIELDS: u32 = 128;
+
+/// What a look-up works in: the fields of the clustered index, the room for the way, that for the row, and that for the
+/// chains of its values.
+#[derive(Drop)]
+pub(crate) struct Room<'a> {
+    pub leaf: FieldList,
+    pub node: FieldList,
+    pub walk: Walk,
+    pub reader: RowReader<'a>,
+    pub chains: ChainRoom,
+}
+
+impl<'a> Room<'a> {
+    /// The room for a table.
+    pub fn new(alloc: Global, schema: &'a Schema) -> Result<Room<'a>, NoMemory>
+        ensures leaf { IfOk result (λ room. room.leaf ≡ leaf_fields schema.now 0) }
+        ensures node { IfOk result (λ room. room.node ≡ node_fields schema.now 0) }
+        ensures fields { IfOk result (λ room. AreFields room.leaf) }
+        ensures walk { IfOk result (λ room. CanWalk room.walk room.leaf room.node) }
+        ensures reader { IfOk result (λ room. room.reader.table ≡ schema.now) }
+        ensures table { IsTable schema.now }
+    {
+        lists_are_of_one_index();
+        let indexes = schema.indexes().len();
+        let leaf = schema.fields(alloc, 0, true)?;
+        let node = schema.fields(alloc, 0, false)?;
+        let _few = (leaf.fields().len(), node.fields().len(), indexes);
+        Ok(Room {
+            leaf,
+            node,
+            walk: Walk::new(alloc, MOST_FIELDS)?,
+            reader: RowReader::new(alloc, schema)?,
+            chains: ChainRoom {
+                page: Page::zeroed(alloc)?,
+                left: 0,
+                text: Buffer::new(alloc)?,
+            },
+        })
+    }
+}

@@ -1,0 +1,91 @@
+//! The values of a record's columns.
+
+ghost use Rattle.std.specs.Prelude.{◌≡◌, ◌+◌, ◌-◌, ◌≤◌, ◌↔◌, IsTrue, ℕ, List, [], length, IfOk, OnOk, true};
+ghost use Rattle.page_source.specs.Lists.{unmarked};
+ghost use Rattle.page_source.specs.Checks.{Halts};
+ghost use Rattle.page_source.specs.Calls.{OfFile, HaltsOver};
+ghost use Rattle.column_values.specs.Types.{IsColumnType};
+ghost use Rattle.column_values.specs.Characters.{IsTextOfKind};
+ghost use Rattle.column_values.specs.Utf8Reader.{CountsUpTo, WasFed, TakesText};
+ghost use Rattle.compact_record.specs.Keys.{LiesBelow};
+ghost use Rattle.space_audit.specs.Marks.{is_set, Marked};
+ghost use Rattle.table_check.specs.Marking.{ChecksPages};
+ghost use Rattle.table_check.specs.Values.{pages_of_value};
+ghost use Rattle.key_lookup.specs.GetFirst.{FoundValueChecks};
+ghost use Rattle.key_lookup.specs.Values.{CanMark, ValueChecksOn, pages_of_value_on};
+ghost use Rattle.offpage_chain.specs.Reference.{reference_of};
+
+use crate::chain::check_chain;
+use crate::leaf::Leaf;
+use column_values::{ColumnType, greatest_length, is_value};
+use compact_record::Place;
+use page_source::{Halt, Page, PageSource, Rule, Steps};
+use space_audit::Marks;
+use std::sync::ledger::Ledger;
+use table_check::value::{cut, text_of};
+
+/// Checks a value that goes on in pages of its own, by the rules 25, 47, 48, 49 and 51: these are its local
+/// bytes on the leaf. Its pages are marked. Answers how many there are.
+fn check_external<S: PageSource, L: Ledger>(
+    source: &mut S,
+    leaf: &Leaf,
+    kind: &ColumnType,
+    local: &[u8],
+    marks: &mut Marks,
+    page: &mut Page,
+    steps: &mut Steps<L>,
+) -> Result<u32, Halt>
+    requires least { 20 ≤ length local.now }
+    requires most { length local.now ≤ 16384 }
+    requires ready { CanMark S.PageSource source.old leaf.now.header.now marks.old }
+    ensures checks { ChecksPages S.PageSource source.old source.new marks.old marks.new steps.old steps.new result
+        (λ file. FoundValueChecks file leaf.now.number kind.now local.now true (is_set marks.old))
+        (λ file. pages_of_value file local.now true) }
+    ensures few { IfOk result (λ count. steps.new ≤ steps.old + count) }
+{
+    let (front, reference) = cut(local);
+    if front.len() + reference.length as usize > greatest_length(*kind) {
+        return Err(Halt::Broken(Rule::Value.at(leaf.number)));
+    }
+    let mut text = text_of(kind);
+    text.feed(front);
+    check_chain(
+        source,
+        leaf.header,
+        leaf.number,
+        &reference,
+        &mut text,
+        marks,
+        page,
+        steps,
+    )
+}
+
+/// Checks the value of a column that isn't null, by the rules 25, 47, 48, 49 and 51. Its local bytes lie here on the leaf.
+/// Marks the pages that it goes on in, and answers how many there are.
+pub(crate) fn check_value<S: PageSource, L: Ledger>(
+    source: &mut S,
+    leaf: &Leaf,
+    kind: &ColumnType,
+    place: Place,
+    marks: &mut Marks,
+    page: &mut Page,
+    steps: &mut Steps<L>,
+) -> Result<u32, Halt>
+    requires known { IsColumnType kind.now }
+    requires lies { LiesBelow 16384 place }
+    requires ready { CanMark S.PageSource source.old leaf.now.header.now marks.old }
+    ensures checks { ChecksPages S.PageSource source.old source.new marks.old marks.new steps.old steps.new result
+        (λ file. ValueChecksOn file leaf.now kind.now place (is_set marks.old))
+        (λ file. pages_of_value_on file leaf.now place) }
+    ensures few { IfOk result (λ count. steps.new ≤ steps.old + count) }
+{
+    let local = &leaf.page.bytes()[place.from..place.until];
+    if place.external {
+        return check_external(source, leaf, kind, local, marks, page, steps);
+    }
+    if !is_value(kind, local) {
+        return Err(Halt::Broken(Rule::Value.at(leaf.number)));
+    }
+    Ok(0)
+}
