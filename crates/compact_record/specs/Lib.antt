@@ -1,3 +1,5 @@
 pub mod Header
 pub mod Reading
 pub mod Keys
+pub mod Writing
+pub mod Laws

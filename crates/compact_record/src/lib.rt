@@ -5,12 +5,17 @@ mod errors;
 mod field;
 mod header;
 mod keys;
+pub mod laws;
 mod located;
+mod parts;
 mod places;
 #[cfg(test)]
 mod tests;
+mod writing;
 
 pub use errors::LocateError;
 pub use header::{deleted, heap_number, minimum, next_field, next_origin, owned, status};
 pub use located::{Located, locate};
+pub use parts::{Part, Parts};
 pub use places::Place;
+pub use writing::{place, record_size};

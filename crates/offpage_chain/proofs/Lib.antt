@@ -5,3 +5,7 @@ mod Feeds
 mod Stages
 mod Links
 mod Whole
+mod Writes
+mod PartPages
+mod ValueChains
+mod HeldParts

@@ -8,7 +8,9 @@ mod reader;
 mod reference;
 #[cfg(test)]
 mod tests;
+mod write;
 
 pub use check::check_chain;
 pub use reader::ChainReader;
 pub use reference::{Reference, read_reference, write_reference};
+pub use write::write_chain;

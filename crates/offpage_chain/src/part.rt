@@ -7,16 +7,16 @@ ghost use Rattle.offpage_chain.specs.ChainChecks.{IsChainPart};
 use page_source::{FIL_NULL, Page, read_be};
 
 /// FIL_PAGE_DATA, where the header of the part begins: BTR_BLOB_HDR_PART_LEN, 4 bytes.
-const PART_LENGTH: usize = 38;
+pub(crate) const PART_LENGTH: usize = 38;
 
 /// BTR_BLOB_HDR_NEXT_PAGE_NO, 4 bytes.
-const NEXT_PAGE: usize = 42;
+pub(crate) const NEXT_PAGE: usize = 42;
 
 /// The first byte of the part, behind its header.
-const PART: usize = 46;
+pub(crate) const PART: usize = 46;
 
 /// The most bytes of a part: up to the trailer of the page.
-const MOST: u32 = 16330;
+pub(crate) const MOST: u32 = 16330;
 
 /// The number of bytes that the page has of the value.
 pub(crate) fn part_length(page: &Page) -> u32

@@ -13,10 +13,10 @@ pub escaped_append : (a b : List ℕ) → escaped_text (a ++ b) ≡ escaped_text
 unfolding escaped_text
 escaped_append a b = flat_map-append escaped a b
 
-itself : (byte : ℕ) → escape_letter byte ≡ 0 → escaped byte ≡ byte ∷ []
+pub itself : (byte : ℕ) → escape_letter byte ≡ 0 → escaped byte ≡ byte ∷ []
 itself byte plain = cond-true (eqb (escape_letter byte) 0) (byte ∷ []) (92 ∷ escape_letter byte ∷ []) (eq-eqb _ _ plain)
 
-behind_backslash : (byte : ℕ) → escape_letter byte ≢ 0 → escaped byte ≡ 92 ∷ escape_letter byte ∷ []
+pub behind_backslash : (byte : ℕ) → escape_letter byte ≢ 0 → escaped byte ≡ 92 ∷ escape_letter byte ∷ []
 behind_backslash byte some = cond-false (eqb (escape_letter byte) 0) (byte ∷ []) (92 ∷ escape_letter byte ∷ [])
     (ne_eqb _ _ some)
 
@@ -43,12 +43,12 @@ escaped_plain (x ∷ text) plain =
     ap (λ (t : List ℕ). t ++ flat_map escaped text) (itself x (All-head (λ byte. escape_letter byte ≡ 0) x text plain))
     ∙ ap (λ (t : List ℕ). x ∷ t) (escaped_plain text (All-tail (λ byte. escape_letter byte ≡ 0) x text plain))
 
-alone : (byte : ℕ) → escaped_text (byte ∷ []) ≡ escaped byte
+pub alone : (byte : ℕ) → escaped_text (byte ∷ []) ≡ escaped byte
 unfolding escaped_text
 alone byte = append-nil (escaped byte)
 
 -- a front of bytes of which each stands for itself
-escaped_front : (text : List ℕ) (at : ℕ) → ((k : ℕ) → k < at → is_escaped (get_or text k 0) ≡ false)
+pub escaped_front : (text : List ℕ) (at : ℕ) → ((k : ℕ) → k < at → is_escaped (get_or text k 0) ≡ false)
     → escaped_text (take at text) ≡ take at text
 unfolding escaped_text
 escaped_front text zero plain = refl

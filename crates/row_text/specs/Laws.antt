@@ -1,4 +1,5 @@
--- What a writer adds, piece by piece, is the line of the row, in whatever parts a long value comes.
+-- What a writer adds, piece by piece, is the line of the row, in whatever parts a long value comes; a row has one line,
+-- and a line is that of one row, and the same of keys.
 use Rattle.std.specs.Prelude.{◌≡◌, ℕ, ◌+◌, ◌<◌, true, List, [], ◌++◌, length, take, flat_map, slice_index_or}
 use Rattle.std.specs.List.{join_with_byte}
 use Rattle.column_values.specs.declared.kind.ColumnType.{ColumnType}
@@ -7,7 +8,9 @@ use Rattle.column_values.specs.declared.value.Value.TheVariants.{Null}
 use Rattle.column_values.specs.Spell.{Spell}
 use Rattle.schema_text.specs.TableDef.{TableDef, column_at}
 use Rattle.row_text.specs.Values.{value_text}
-use Rattle.row_text.specs.Line.{IsTableRow, comma, texts_of, line_of}
+use Rattle.schema_text.specs.Grammar.{IsTable}
+use Rattle.row_text.specs.Line.{IsTableRow, comma, texts_of, line_of, IsLineOf}
+use Rattle.row_text.specs.KeyText.{IsKeyTextOf}
 use Rattle.row_text.specs.Writer.{line_open, line_close, before_value, is_long, long_open, long_part, long_close}
 
 -- the line of a row up to its first k values
@@ -62,3 +65,31 @@ abbrev pub PartsAreValue : Type 0
 PartsAreValue =
     (kind : ColumnType) (value : Value) (parts : List (List ℕ)) → is_long kind ≡ true
     → Spell kind value (all_bytes parts) → in_parts kind parts ≡ value_text kind value
+
+-- a row has one line
+abbrev pub HasOneLine : Type 0
+HasOneLine = (table : TableDef) (row : List Value) (a b : List ℕ) → IsLineOf table row a → IsLineOf table row b → a ≡ b
+
+-- a line is that of one row at the most
+abbrev pub HasOneRow : Type 0
+HasOneRow =
+    (table : TableDef) (v w : List Value) (line : List ℕ) → IsTable table → IsLineOf table v line
+    → IsLineOf table w line → v ≡ w
+
+-- a line with its LF begins no other one
+abbrev pub BeginsNoOther : Type 0
+BeginsNoOther =
+    (table : TableDef) (v w : List Value) (x y : List ℕ) → IsTable table → IsTableRow table v → IsTableRow table w
+    → line_of table v ++ x ≡ line_of table w ++ y → line_of table v ≡ line_of table w
+
+-- a key has one text
+abbrev pub HasOneKeyText : Type 0
+HasOneKeyText =
+    (table : TableDef) (values : List Value) (a b : List ℕ) → IsKeyTextOf table values a → IsKeyTextOf table values b
+    → a ≡ b
+
+-- and a text is that of one key at the most
+abbrev pub HasOneKey : Type 0
+HasOneKey =
+    (table : TableDef) (v w : List Value) (text : List ℕ) → IsTable table → IsKeyTextOf table v text
+    → IsKeyTextOf table w text → v ≡ w

@@ -34,7 +34,7 @@ fn is_escaped(byte: u8) -> bool
 }
 
 /// Where the first byte lies that doesn't stand for itself.
-fn first_escaped(text: &[u8]) -> Option<usize>
+pub(crate) fn first_escaped(text: &[u8]) -> Option<usize>
     ensures place { result ≡ position is_escaped text.now }
     ensures none { IsNone result → IsPlain text.now }
 {

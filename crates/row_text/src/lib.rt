@@ -5,9 +5,23 @@ mod bytes;
 mod calendar;
 mod digits;
 pub mod laws;
+mod read;
+mod read_decimals;
+mod read_moments;
+mod read_numbers;
+#[cfg(test)]
+mod read_tests;
+mod read_texts;
+mod read_values;
+mod read_words;
+mod row;
 #[cfg(test)]
 mod tests;
 mod values;
+mod write;
 mod writer;
 
+pub use read::{read_key, read_row};
+pub use row::{Row, RowError};
+pub use write::write_row;
 pub use writer::RowWriter;

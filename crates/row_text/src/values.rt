@@ -174,7 +174,11 @@ fn scale(kind: &ColumnType) -> u8
 }
 
 /// Puts a value of the type.
-fn put_value<O: ByteSink>(sink: &mut O, kind: &ColumnType, value: &Value) -> Result<(), Failed>
+pub(crate) fn put_value<O: ByteSink>(
+    sink: &mut O,
+    kind: &ColumnType,
+    value: &Value,
+) -> Result<(), Failed>
     requires known { IsColumnType kind.now }
     requires is_value { IsValueOf kind.now value.now }
     ensures { Puts O.ByteSink sink.old sink.new (value_text kind.now value.now) result }

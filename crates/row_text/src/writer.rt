@@ -152,7 +152,7 @@ impl RowWriter {
 }
 
 /// Puts what stands before the values.
-fn put_open<O: ByteSink>(sink: &mut O, schema: &Schema) -> Result<(), Failed>
+pub(crate) fn put_open<O: ByteSink>(sink: &mut O, schema: &Schema) -> Result<(), Failed>
     ensures { Puts O.ByteSink sink.old sink.new (line_open schema.now) result }
 {
     put_pieces(sink, &[b"INSERT INTO `", schema.table(), b"` VALUES ("])

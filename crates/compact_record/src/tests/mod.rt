@@ -6,6 +6,7 @@ ghost use Rattle.compact_record.specs.Keys.{IsWholeReading};
 ghost use Rattle.compact_record.specs.Reading.{IsHeapOrigin};
 
 mod lists;
+mod placed;
 mod records;
 
 use crate::{

@@ -1,6 +1,7 @@
 //! References, and chains that are read whole, too far, or not at all.
 
 mod checks;
+mod writes;
 
 ghost use Rattle.std.specs.Prelude.{◌≡◌, ◌<◌};
 

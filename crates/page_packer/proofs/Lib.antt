@@ -1,0 +1,11 @@
+pub mod Sizes
+pub mod Packed
+pub mod PagePieces
+pub mod HeaderFacts
+pub mod RecordFacts
+pub mod DirectoryFacts
+pub mod PackedPage
+pub mod NumberFacts
+pub mod Fills
+pub mod FinishSteps
+pub mod Pointers

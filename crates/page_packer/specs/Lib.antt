@@ -1,0 +1,4 @@
+pub mod Packing
+pub mod Filling
+pub mod Entries
+pub mod Laws

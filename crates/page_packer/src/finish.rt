@@ -1,0 +1,168 @@
+//! The page of the pushed records, written part by part.
+
+ghost use Rattle.std.specs.Prelude.{◌≡◌, ◌-◌, ◌*◌, ◌<◌, ◌≤◌, length};
+ghost use Rattle.page_source.specs.Pages.{with_bytes};
+ghost use Rattle.page_packer.specs.Packing.{slots_for, next_of_record, page_header, end_bytes, origin_at, slot_origin};
+ghost use Rattle.page_packer.specs.Packing.{start_of, linked_bytes, heap_bytes, directory_bytes, packed_page};
+
+use crate::packer::{Heads, Packer};
+use crate::parts::{
+    INFIMUM, SUPREMUM, next_between, owned_at, owned_by_supremum, put_heads, put_neighbours,
+    put_numbers, slots_for,
+};
+use page_source::{PAGE_SIZE, Page, write_be};
+
+/// The end of the directory.
+const DIRECTORY_END: usize = 16376;
+
+/// Bit 15 of the heap count.
+const COMPACT: u16 = 0x8000;
+
+impl Packer {
+    /// The origin of record `k`; behind the last one stands the supremum.
+    fn origin_at(&self, k: usize) -> usize
+        ensures value { result ≡ origin_at self.now.records k }
+        ensures within { result ≤ 16384 }
+    {
+        if k < self.count() {
+            self.spot(k).origin
+        } else {
+            SUPREMUM
+        }
+    }
+
+    /// The next field of record `k`.
+    fn next_at(&self, k: usize) -> u64
+        requires { k < length self.now.records }
+        ensures value { result ≡ next_of_record self.now.records k }
+        ensures fits { result < 65536 }
+    {
+        prove!(k < self.count());
+        next_between(self.origin_at(k), self.origin_at(k + 1))
+    }
+
+    /// What a directory slot names.
+    fn slot_origin(&self, slot: usize) -> usize
+        requires { slot < slots_for (length self.now.records) }
+        ensures value { result ≡ slot_origin self.now.records slot }
+        ensures within { result ≤ 16384 }
+    {
+        let slots = slots_for(self.count());
+        if slot == 0 {
+            INFIMUM
+        } else if slot + 1 == slots {
+            SUPREMUM
+        } else {
+            self.origin_at(4 * slot - 1)
+        }
+    }
+
+    /// Writes record `k` with its owner count and its next field.
+    fn put_record(&self, page: &mut Page, k: usize)
+        requires { k < length self.now.records }
+        ensures { page.new ≡ with_bytes page.old (start_of self.now.records k) (linked_bytes self.now.records k) }
+    {
+        prove!(page.bytes().len() == PAGE_SIZE);
+        let spot = self.spot(k);
+        let bytes = self.bytes_of(k);
+        let info = bytes[spot.origin - spot.start - 5] + owned_at(self.count(), k);
+        let next = self.next_at(k);
+        page.put_bytes(spot.start, bytes);
+        page.put_bytes(spot.origin - 5, &[info]);
+        write_be::<2>(page, spot.origin - 2, next);
+    }
+
+    /// Writes all records, one after another.
+    fn put_records(&self, page: &mut Page)
+        ensures { page.new ≡ with_bytes page.old 120 (heap_bytes self.now.records) }
+    {
+        prove!(page.bytes().len() == PAGE_SIZE);
+        prove!(self.top() <= PAGE_SIZE);
+        for k in 0..self.count() {
+            self.put_record(page, k);
+        }
+    }
+
+    /// Writes the directory, its last slot first.
+    fn put_directory(&self, page: &mut Page)
+        ensures { page.new ≡ with_bytes page.old
+            (16376 - 2 * slots_for (length self.now.records))
+            (directory_bytes self.now.records) }
+    {
+        prove!(page.bytes().len() == PAGE_SIZE);
+        let slots = slots_for(self.count());
+        let start = DIRECTORY_END - 2 * slots;
+        for j in 0..slots {
+            let origin = self.slot_origin(slots - 1 - j);
+            write_be::<2>(page, start + 2 * j, origin as u64);
+        }
+    }
+
+    /// Writes the page header.
+    fn put_header(&self, page: &mut Page, index_id: u64, heads: Option<Heads>)
+        ensures { page.new ≡ with_bytes page.old 38 (page_header self.now index_id heads) }
+    {
+        prove!(page.bytes().len() == PAGE_SIZE);
+        let slots = slots_for(self.count()) as u16;
+        let count = self.count() as u16;
+        let top = self.top() as u16;
+        put_numbers(
+            page,
+            38,
+            &[
+                slots,
+                top,
+                COMPACT + (count + 2),
+                0,
+                0,
+                0,
+                5,
+                0,
+                count,
+                0,
+                0,
+                0,
+                0,
+                self.level(),
+            ],
+        );
+        write_be::<8>(page, 66, index_id);
+        put_heads(page, heads);
+    }
+
+    /// Writes infimum and supremum.
+    fn put_ends(&self, page: &mut Page)
+        ensures { page.new ≡ with_bytes page.old 94 (end_bytes self.now.records) }
+    {
+        prove!(page.bytes().len() == PAGE_SIZE);
+        let next = next_between(INFIMUM, self.origin_at(0));
+        let owned = owned_by_supremum(self.count());
+        page.put_bytes(94, &[1, 0, 2]);
+        write_be::<2>(page, 97, next);
+        page.put_bytes(99, b"infimum\0");
+        page.put_bytes(107, &[owned, 0, 11, 0, 0]);
+        page.put_bytes(112, b"supremum");
+    }
+
+    /// Makes `page` the page of the pushed records, with these neighbours, this index id and these segment headers. Its
+    /// frame isn't made yet.
+    pub fn finish(
+        &mut self,
+        prev: u32,
+        next: u32,
+        index_id: u64,
+        heads: Option<Heads>,
+        page: &mut Page,
+    )
+        ensures page { page.new ≡ packed_page self.old prev next index_id heads }
+        ensures same { self.new ≡ self.old }
+    {
+        prove!(self.top() <= PAGE_SIZE);
+        prove!(self.count() <= PAGE_SIZE);
+        put_neighbours(page, prev, next);
+        self.put_header(page, index_id, heads);
+        self.put_ends(page);
+        self.put_records(page);
+        self.put_directory(page);
+    }
+}

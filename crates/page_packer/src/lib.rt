@@ -1,0 +1,11 @@
+//! Fills an index page with records (page0page).
+#![tactic(auto)]
+
+mod finish;
+pub mod laws;
+mod packer;
+mod parts;
+#[cfg(test)]
+mod tests;
+
+pub use packer::{Heads, Packer};

@@ -1,0 +1,5 @@
+pub mod space
+pub mod trees
+pub mod values
+pub mod layout
+pub mod build

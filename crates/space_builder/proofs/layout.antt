@@ -1,0 +1,10 @@
+pub mod TreePages
+pub mod ValuePages
+pub mod Divides
+pub mod Sizes
+pub mod Laid
+pub mod Pages
+pub mod File
+pub mod Trees
+pub mod Values
+pub mod Chains

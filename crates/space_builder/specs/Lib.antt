@@ -1,0 +1,6 @@
+pub mod Entries
+pub mod space
+pub mod trees
+pub mod values
+pub mod layout
+pub mod build

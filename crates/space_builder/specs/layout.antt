@@ -1,0 +1,5 @@
+pub mod TreePage
+pub mod TreeSpot
+pub mod ValuePage
+pub mod Layout
+pub mod Laws

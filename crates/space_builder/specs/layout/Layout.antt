@@ -1,0 +1,131 @@
+-- The whole tablespace of some rows of a table.
+use Rattle.std.specs.Prelude.{ℕ, ◌+◌, ◌≤◌, ◌==◌, if◌then◌else◌, List, [], ◌++◌, length, map, flat_map}
+use Rattle.std.specs.Prelude.{slice_index, slice_index_or, unwrap_or}
+use Rattle.std.specs.List.{range_with_len}
+use Rattle.page_source.specs.Objects.{PageMap, file_of}
+use Rattle.column_values.specs.declared.value.Value.{Value}
+use Rattle.schema_text.specs.Formats.{flags_of}
+use Rattle.schema_text.specs.TableDef.{TableDef}
+use Rattle.schema_text.specs.IndexFields.{leaf_fields, node_fields}
+use Rattle.space_builder.specs.Entries.{Entry}
+use Rattle.space_builder.specs.space.Numbers.{sizes_of, extents_needed, space_pages, segment_page}
+use Rattle.space_builder.specs.space.Layout.{Numbered}
+use Rattle.space_builder.specs.space.Layout as space
+use Rattle.space_builder.specs.space.ValuePlaces.{value_page, row_at}
+use Rattle.space_builder.specs.space.ValuePlaces as places
+use Rattle.space_builder.specs.trees.Division.{Level, tree_levels, level_counts}
+use Rattle.space_builder.specs.trees.Levels.{width_at}
+use Rattle.space_builder.specs.trees.Places.{top_size, leaf_size, tree_number}
+use Rattle.space_builder.specs.values.StoredRow.{Stored, stored_at, fitted_row, off_bytes}
+use Rattle.space_builder.specs.values.HoldsValues.{stored_in, clustered_entries, pages_of_stored}
+use Rattle.space_builder.specs.values.SecondaryEntries.{secondary_entries}
+use Rattle.space_builder.specs.layout.TreePage.{tree_page}
+use Rattle.space_builder.specs.layout.ValuePage.{value_page_bytes}
+
+-- the rows of a table, each by its values
+abbrev pub Rows : Type 0
+Rows = List (List Value)
+
+-- the rows as they are stored; a row that is too big is left empty
+unfoldable pub stored_rows : TableDef → Rows → List (List Stored)
+stored_rows table rows =
+    map (λ r. unwrap_or (fitted_row table r (slice_index_or rows r [])) []) (range_with_len 0 (length rows))
+
+-- the leaf entries of index j, where part k of field i of row r has the page `number r i k`
+unfoldable pub leaf_entries : TableDef → Rows → (ℕ → ℕ → ℕ → ℕ) → ℕ → List Entry
+leaf_entries table rows number j =
+    if j == 0 then clustered_entries table.format number (stored_rows table rows) else secondary_entries table j rows
+
+-- how many pages each level of index j has, which no number changes
+unfoldable pub tree_counts : TableDef → Rows → ℕ → List ℕ
+tree_counts table rows j =
+    level_counts
+    (tree_levels (leaf_fields table j) (node_fields table j) (λ l k. 0) (leaf_entries table rows (λ r i k. 0) j))
+
+-- how many pages each field of each row goes on in, and how many they are
+unfoldable pub value_counts : TableDef → Rows → List (List ℕ)
+value_counts table rows = map (λ row. map (pages_of_stored table.format) row) (stored_rows table rows)
+
+abbrev pub value_total : TableDef → Rows → ℕ
+value_total table rows = places.value_pages (value_counts table rows)
+
+-- how many pages the two segments of index j have, and all segments
+abbrev pub index_sizes : TableDef → Rows → ℕ → ℕ × ℕ
+index_sizes table rows j = (
+  top_size (tree_counts table rows j),
+  leaf_size (tree_counts table rows j) + (if j == 0 then value_total table rows else 0),
+)
+
+unfoldable pub segment_sizes : TableDef → Rows → List ℕ
+segment_sizes table rows = sizes_of (map (index_sizes table rows) (range_with_len 0 (length table.indexes)))
+
+-- the number of part k of field i of row r, and of page k of level l of index j
+unfoldable pub value_number : TableDef → Rows → ℕ → ℕ → ℕ → ℕ
+value_number table rows r i k =
+    value_page (segment_sizes table rows) (leaf_size (tree_counts table rows 0)) (value_counts table rows) r i k
+
+unfoldable pub page_number : TableDef → Rows → ℕ → ℕ → ℕ → ℕ
+page_number table rows j l k =
+    tree_number (segment_page (segment_sizes table rows)) (tree_counts table rows j) j l k
+
+-- the entries and the levels of index j with these numbers
+unfoldable pub index_entries : TableDef → Rows → ℕ → List Entry
+index_entries table rows j = leaf_entries table rows (value_number table rows) j
+
+unfoldable pub index_levels : TableDef → Rows → ℕ → List Level
+index_levels table rows j =
+    tree_levels (leaf_fields table j) (node_fields table j) (page_number table rows j) (index_entries table rows j)
+
+-- page k of level l of index j, the pages of that level, and of that index
+abbrev pub layout_tree_page : TableDef → Rows → ℕ → ℕ → ℕ → List ℕ
+layout_tree_page table rows j l k =
+    tree_page (leaf_fields table j) (node_fields table j) (page_number table rows j) (index_levels table rows j) j l k
+
+abbrev pub level_pages : TableDef → Rows → ℕ → ℕ → List Numbered
+level_pages table rows j l =
+    map (λ k. (page_number table rows j l k, layout_tree_page table rows j l k))
+    (range_with_len 0 (width_at (index_levels table rows j) l))
+
+abbrev pub index_pages : TableDef → Rows → ℕ → List Numbered
+index_pages table rows j = flat_map (level_pages table rows j) (range_with_len 0 (length (index_levels table rows j)))
+
+-- the page of part k of field i of row r, the pages of that field, and of that row
+abbrev pub field_bytes : TableDef → Rows → ℕ → ℕ → List ℕ
+field_bytes table rows r i = off_bytes table.format (stored_at (stored_in (stored_rows table rows) r) i)
+
+abbrev pub layout_value_page : TableDef → Rows → ℕ → ℕ → ℕ → List ℕ
+layout_value_page table rows r i k = value_page_bytes (value_number table rows r i) (field_bytes table rows r i) k
+
+abbrev pub field_pages : TableDef → Rows → ℕ → ℕ → List Numbered
+field_pages table rows r i =
+    map (λ k. (value_number table rows r i k, layout_value_page table rows r i k))
+    (range_with_len 0 (slice_index (row_at (value_counts table rows) r) i))
+
+abbrev pub row_pages : TableDef → Rows → ℕ → List Numbered
+row_pages table rows r =
+    flat_map (field_pages table rows r) (range_with_len 0 (length (row_at (value_counts table rows) r)))
+
+-- the pages of all segments
+unfoldable pub segment_pages : TableDef → Rows → List Numbered
+segment_pages table rows =
+    flat_map (index_pages table rows) (range_with_len 0 (length table.indexes))
+    ++ flat_map (row_pages table rows) (range_with_len 0 (length (value_counts table rows)))
+
+-- how many extents the tablespace needs, its size in pages, and its pages by number
+abbrev pub layout_extents : TableDef → Rows → ℕ
+layout_extents table rows = extents_needed (segment_sizes table rows)
+
+abbrev pub layout_size : TableDef → Rows → ℕ
+layout_size table rows = space_pages (segment_sizes table rows)
+
+unfoldable pub layout_map : TableDef → Rows → PageMap
+layout_map table rows =
+    space.layout_map (segment_sizes table rows) (flags_of table.format) (segment_pages table rows)
+
+-- the bytes of the file
+unfoldable pub layout_file : TableDef → Rows → List ℕ
+layout_file table rows = file_of (layout_size table rows) (layout_map table rows)
+
+-- it fits the greatest tablespace that is built
+abbrev pub FitsSpace : TableDef → Rows → Type 0
+FitsSpace table rows = layout_extents table rows ≤ 256

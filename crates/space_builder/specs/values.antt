@@ -1,0 +1,9 @@
+pub mod StoredRow
+pub mod Fitting
+pub mod HoldsValues
+pub mod SecondaryEntries
+pub mod Laws
+pub mod EntryLaws
+pub mod BuiltTable
+pub mod BuiltFile
+pub mod BlobPages

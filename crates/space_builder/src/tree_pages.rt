@@ -1,0 +1,56 @@
+//! The pages of trees, once their records are packed.
+
+ghost use Rattle.std.specs.Prelude.{◌≡◌, ◌<◌};
+ghost use Rattle.space_builder.specs.layout.TreePage.{heads_of};
+ghost use Rattle.space_builder.specs.layout.TreeSpot.{heads_if, page_at_spot};
+
+use fil_frame::kinds::FIL_PAGE_INDEX;
+use fil_frame::seal;
+use page_packer::{Heads, Packer};
+use page_source::Page;
+
+/// Where a page of a tree stands.
+#[derive(Clone, Copy, Debug, PartialEq, Eq)]
+pub struct TreeSpot {
+    /// Its number.
+    pub number: u32,
+    /// The page before it on its level.
+    pub prev: u32,
+    /// The page after it.
+    pub next: u32,
+    /// Its index, counted from 0.
+    pub index: u16,
+    /// Whether it is the root.
+    pub root: bool,
+}
+
+/// The segment headers of the root of an index.
+fn heads_of(index: u16) -> Heads
+    requires { index < 16 }
+    ensures { result ≡ heads_of index }
+{
+    Heads {
+        space: 1,
+        page: 2,
+        leaf: 50 + 192 * (2 * index + 1),
+        top: 50 + 192 * (2 * index),
+    }
+}
+
+fn heads_if(root: bool, index: u16) -> Option<Heads>
+    requires { index < 16 }
+    ensures { result ≡ heads_if root index }
+{
+    if root { Some(heads_of(index)) } else { None }
+}
+
+/// Makes `page` the page of the records that were pushed, at its spot.
+pub fn put_tree_page(packer: &mut Packer, page: &mut Page, spot: TreeSpot)
+    requires { spot.index < 16 }
+    ensures page { page.new ≡ page_at_spot packer.old spot }
+    ensures same { packer.new ≡ packer.old }
+{
+    let heads = heads_if(spot.root, spot.index);
+    packer.finish(spot.prev, spot.next, u64::from(spot.index) + 1, heads, page);
+    seal(page, spot.number, 1, 1, FIL_PAGE_INDEX);
+}
