@@ -1,5 +1,5 @@
 -- What stands on a page of a part.
-use Rattle.std.proofs.Common.{◌≡◌, ℕ, ◌+◌, ◌-◌, ◌^◌, ◌<◌, ◌≤◌, List, ◌++◌, length, get_or, slice_range, replicate}
+use Rattle.std.proofs.Common.{◌≡◌, ℕ, ◌+◌, ◌^◌, ◌<◌, ◌≤◌, List, ◌++◌, length, get_or, slice_range, replicate}
 use Rattle.std.proofs.Common.{refl, sym, ap, ◌∙◌, subst, arith, lit<, length-append}
 use Rattle.std.proofs.lemmas.List.{same_lists, get_or-append-add, get_or_default, length-replicate, get_or-replicate}
 use Rattle.std.proofs.lemmas.List.Edits.{get_or-between, length-between}

@@ -1,6 +1,6 @@
 //! Writes a value to pages of its own, part by part (btr0cur).
 
-ghost use Rattle.std.specs.Prelude.{◌≡◌, ◌+◌, ◌*◌, ◌<◌, ◌≤◌, length, replicate};
+ghost use Rattle.std.specs.Prelude.{◌≡◌, ◌*◌, ◌<◌, ◌≤◌, length, replicate};
 ghost use Rattle.page_source.specs.Pages.{fil_null, with_bytes};
 ghost use Rattle.page_source.specs.Lists.{AreDistinct, after_place};
 ghost use Rattle.offpage_chain.specs.ValuePage.{pages_for, blob_part, part_body, value_page};

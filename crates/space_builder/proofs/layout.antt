@@ -7,3 +7,4 @@ pub mod Pages
 pub mod File
 pub mod Trees
 pub mod Values
+pub mod Chains

@@ -4,6 +4,7 @@
 ghost use Rattle.space_builder.specs.layout.Laws.{BuildsSpace, BuildsTrees, BuildsRows, BuildsValues};
 ghost use Rattle.space_builder.specs.layout.Laws.{BuildsNoLeftOvers, BuildsValid};
 ghost use Rattle.space_builder.specs.layout.TreeSpot.{PagesArePacked};
+ghost use Rattle.space_builder.specs.layout.ValuePage.{PagesAreOfChains};
 ghost use Rattle.space_builder.specs.build.Laws.{GoodTextsCanBuild, GoodTextsBuildValid, GoodTextsAreOfRows};
 
 use crate::tree_laws::divided_tables_are_held;
@@ -106,4 +107,9 @@ pub fn good_texts_are_of_rows()
 /// The packed entries of a page of a tree, at its spot, are that page of the layout.
 pub fn pages_are_packed()
     ensures { PagesArePacked }
+{}
+
+/// The pages of a chain that is written are those of the layout.
+pub fn pages_are_of_chains()
+    ensures { PagesAreOfChains }
 {}

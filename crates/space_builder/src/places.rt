@@ -43,7 +43,11 @@ fn place_for(counts: &[u32], l: usize, k: u32) -> u32
     ensures { result ≡ place_for counts.now l k }
 {
     let leaves = is_leaf_row(counts, l);
-    if leaves { k } else { pages_above(counts, l) + k }
+    if leaves {
+        k
+    } else {
+        pages_above(counts, l) + k
+    }
 }
 
 /// The number of page `k` of level `l` of index `j`, whose levels have so many pages each, from the leaves up.

@@ -10,9 +10,10 @@ use Rattle.column_values.proofs.Bytes.{num-be_bytes}
 use Rattle.fil_frame.specs.Kinds.{blob_kind}
 use Rattle.fil_frame.specs.Frame.{IsFramed, kind_of, Seals}
 use Rattle.offpage_chain.specs.Chain.{part_length, next_part, part_bytes}
+use Rattle.offpage_chain.specs.ValuePage.{part_body, part_page}
 use Rattle.space_builder.specs.space.HeadPages.{zeros}
 use Rattle.space_builder.specs.values.HoldsValues.{pages_for, blob_part, next_number}
-use Rattle.space_builder.specs.layout.ValuePage.{part_body, value_page_bytes}
+use Rattle.space_builder.specs.layout.ValuePage.{value_page_bytes}
 use Rattle.space_builder.proofs.space.HeadBytes.{sealed_seals, sealed_length, zeros_length}
 use Rattle.space_builder.proofs.space.SameBytes.{seal_same}
 
@@ -113,7 +114,7 @@ pub value_page_read : (number : ℕ → ℕ) (bytes : List ℕ) (k : ℕ) → nu
     → next_number number (pages_for (length bytes)) k < 2 ^ 32
     → HasPart (value_page_bytes number bytes k) (number k) (next_number number (pages_for (length bytes)) k)
     (blob_part bytes k)
-unfolding value_page_bytes
+unfolding value_page_bytes part_page zeros
 value_page_read number bytes k small next_small =
     let part = blob_part bytes k in
     let next = next_number number (pages_for (length bytes)) k in

@@ -38,7 +38,8 @@ in_row : (counts : List (List ℕ)) (r i k : ℕ) → IsPart counts r i k
 in_row counts r i k p =
     let row = row_at counts r in
     let all = fields_all row in
-    let before = piece_before (pages_before_field row) (field_total row) (length row) (fields_follow row) i (length row) k
+    let before = piece_before (pages_before_field row) (field_total row) (length row) (fields_follow row) i
+    (length row) k
     p.field (omega arith) p.part in
     omega arith
 
@@ -64,13 +65,15 @@ have_places counts = record {
       (rows.0, fields.0, fields.1);
   every = λ n l.
       let none = rows_none counts in
-      let row = some_place (pages_before_row counts) (row_total counts) (length counts) (rows_follow counts) n (omega arith)
+      let row = some_place (pages_before_row counts) (row_total counts) (length counts) (rows_follow counts) n
+      (omega arith)
       l in
       let fields = row_at counts row.piece in
       let start = fields_none fields in
       let all = fields_all fields in
       let inside = row.inside in
-      let field = some_place (pages_before_field fields) (field_total fields) (length fields) (fields_follow fields) row.at
+      let field = some_place (pages_before_field fields) (field_total fields) (length fields)
+      (fields_follow fields) row.at
       (omega arith) (omega arith) in
       record {
         r = row.piece;

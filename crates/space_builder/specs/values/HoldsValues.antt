@@ -1,12 +1,13 @@
 -- A file that holds the rows of a table: their records, and the pages of their long values.
-use Rattle.std.specs.Prelude.{◌≡◌, ℕ, ◌+◌, ◌*◌, ◌/◌, ◌<◌, ◌≤◌, ◌==◌, ◌⊎◌, if◌then◌else◌, true, List, length, map}
-use Rattle.std.specs.Prelude.{flat_map, slice_range, slice_index_or, Contains, Some, []}
+use Rattle.std.specs.Prelude.{◌≡◌, ℕ, ◌+◌, ◌<◌, ◌≤◌, ◌==◌, ◌⊎◌, if◌then◌else◌, true, List, length, map}
+use Rattle.std.specs.Prelude.{flat_map, slice_index_or, Contains, Some, []}
 use Rattle.std.specs.List.{AllZip, range_with_len}
 use Rattle.page_source.specs.Pages.{page_of, fil_null}
 use Rattle.fil_frame.specs.Frame.{space_of}
 use Rattle.column_values.specs.declared.value.Value.{Value}
 use Rattle.space_header.specs.Header.{size_of}
 use Rattle.space_audit.specs.Owners.{IsUsedBy}
+pub use Rattle.offpage_chain.specs.ValuePage.{pages_for, blob_part}
 use Rattle.offpage_chain.specs.Chain.{part_length, next_part, part_bytes, IsBlobPage}
 use Rattle.schema_text.specs.TableDef.{TableDef}
 use Rattle.schema_text.specs.Grammar.{IsTable}
@@ -21,13 +22,6 @@ use Rattle.schema_text.specs.declared.table.Format.{Format}
 use Rattle.space_builder.specs.Entries.{Entry}
 use Rattle.space_builder.specs.Entries.{IsRowOf}
 use Rattle.space_builder.specs.values.StoredRow.{Stored, stored_at, off_bytes, parts_of_row, fitted_row}
-
--- how many pages hold so many bytes, and part k of the bytes
-abbrev pub pages_for : ℕ → ℕ
-pages_for length = (length + 16329) / 16330
-
-abbrev pub blob_part : List ℕ → ℕ → List ℕ
-blob_part bytes k = slice_range bytes (16330 * k) (16330 * k + 16330)
 
 -- a BLOB page that the segment uses has these bytes, and that one is next
 pub record HoldsPart (file : List ℕ) (segment n next : ℕ) (bytes : List ℕ) : Type 0 where

@@ -1,5 +1,4 @@
-use Rattle.std.proofs.Common.{◌≡◌, ◌+◌, ◌-◌, ◌<◌, ◌≤◌, ℕ, sym, ap, ◌∙◌, arith}
-use Rattle.space_builder.specs.trees.Places.{pages_above}
+use Rattle.std.proofs.Common.{◌≡◌, ◌+◌, ◌-◌, arith}
 use Rattle.space_builder.proofs.trees.Numbers.{above_none, above_step}
 use Rattle.space_builder.proofs.places.pages_above.Goals as goal
 

@@ -1,4 +1,4 @@
-use Rattle.std.proofs.Common.{◌≡◌, ◌+◌, ◌*◌, ◌<◌, ◌≤◌, ℕ, List, length, slice_index, ap, arith}
+use Rattle.std.proofs.Common.{◌+◌, ◌*◌, ◌<◌, ℕ, List, length, slice_index, ap, arith}
 use Rattle.space_builder.specs.space.Numbers.{IsShape, size_at, segment_page}
 use Rattle.space_builder.specs.trees.Places.{pages_above, FitsSegments}
 use Rattle.space_builder.proofs.space.PageNumbers.{are_numbers}
