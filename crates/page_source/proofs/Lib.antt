@@ -9,3 +9,5 @@ pub mod Times
 pub mod Told
 pub mod SparseFiles
 pub mod Texts
+pub mod Decided
+pub mod Answered

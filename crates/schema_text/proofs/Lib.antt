@@ -21,3 +21,5 @@ pub mod OneSchema
 pub mod NextLines
 pub mod GoodTexts
 pub mod OneAnswer
+pub mod Decisions
+pub mod SomeAnswer

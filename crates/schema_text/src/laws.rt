@@ -1,7 +1,8 @@
 //! Laws of the texts of schemas.
 
 ghost use Rattle.schema_text.specs.Laws.{ChecksHaveOneAnswer, GoodLinesSpell, HasOneSchema, HasOneText};
-ghost use Rattle.schema_text.specs.Laws.{LinesHaveOneTable, ListsAreOfOneIndex, TextsPass, TextsReadBack};
+ghost use Rattle.schema_text.specs.Laws.{LinesHaveOneTable, ListsAreOfOneIndex, TextsHaveAnAnswer, TextsPass};
+ghost use Rattle.schema_text.specs.Laws.{TextsReadBack};
 
 /// A schema has one text.
 pub fn has_one_text()
@@ -23,6 +24,11 @@ pub fn good_lines_spell()
 pub fn texts_pass()
     ensures pass { TextsPass }
     ensures one_answer { ChecksHaveOneAnswer }
+{}
+
+/// For each text the checks find nothing, or a first bad line and why it is refused.
+pub fn texts_have_an_answer()
+    ensures { TextsHaveAnAnswer }
 {}
 
 /// What is read of a schema's text is this schema, unless memory runs out.

@@ -12,3 +12,4 @@ pub mod RowPages
 pub mod TableLines
 pub mod Soundness
 pub mod Dumps
+pub mod OneDump

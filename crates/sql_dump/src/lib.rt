@@ -4,7 +4,7 @@
 mod buffer;
 mod cell;
 mod columns;
-mod laws;
+pub mod laws;
 mod line;
 mod long;
 mod reader;

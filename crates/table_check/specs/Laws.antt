@@ -11,6 +11,7 @@ use Rattle.schema_text.specs.TableDef.{TableDef}
 use Rattle.tree_walk.specs.Descent.{tree_rows}
 use Rattle.tree_walk.specs.Laws.{Rises}
 use Rattle.table_check.specs.Trees.{index_in, index_count}
+use Rattle.table_check.specs.Values.{live_rows}
 use Rattle.table_check.specs.First.{TableTreeChecks, TableValueChecks, First}
 use Rattle.table_check.specs.Valid.{HasTrees, HasValues, HasOnlyLeftOvers, IsValid}
 
@@ -18,6 +19,10 @@ use Rattle.table_check.specs.Valid.{HasTrees, HasValues, HasOnlyLeftOvers, IsVal
 abbrev pub FirstHasOneAnswer : Type 0
 FirstHasOneAnswer =
     (file : List ℕ) (table : TableDef) (a b : Option Fault) → First file table a → First file table b → a ≡ b
+
+-- and there is one for each
+abbrev pub FirstHasAnAnswer : Type 0
+FirstHasAnAnswer = (file : List ℕ) (table : TableDef) → (answer : Option Fault) × First file table answer
 
 -- the checks of trees and segments find nothing exactly where the trees are sound
 abbrev pub TreeChecksAreTrees : Type 0
@@ -38,6 +43,12 @@ abbrev pub RowsRise : Type 0
 RowsRise =
     (file : List ℕ) (table : TableDef) → IsValid file table → (j : ℕ) → j < index_count table
     → Rises (index_in file table j) (tree_rows (index_in file table j))
+
+-- and so do those without the delete mark
+abbrev pub LiveRowsRise : Type 0
+LiveRowsRise =
+    (file : List ℕ) (table : TableDef) → IsValid file table → (j : ℕ) → j < index_count table
+    → Rises (index_in file table j) (live_rows (index_in file table j))
 
 -- and each used page has one owner: it stands in one claim, once
 abbrev pub UsedPagesHaveOneOwner : Type 0

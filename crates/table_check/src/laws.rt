@@ -1,16 +1,23 @@
 //! Laws of the definitions, each the contract of a function that does nothing.
 
-ghost use Rattle.table_check.specs.Laws.{FirstHasOneAnswer, TreeChecksAreTrees, ValueChecksAreValues};
-ghost use Rattle.table_check.specs.Laws.{ChecksAreValidity, RowsRise, UsedPagesHaveOneOwner};
+ghost use Rattle.table_check.specs.Laws.{FirstHasAnAnswer, FirstHasOneAnswer, TreeChecksAreTrees, ValueChecksAreValues};
+ghost use Rattle.table_check.specs.Laws.{ChecksAreValidity, LiveRowsRise, RowsRise, UsedPagesHaveOneOwner};
 
 use offpage_chain::laws::{checks_are_whole, has_one_chain};
 use schema_text::laws::lists_are_of_one_index;
 use space_audit::laws::audit_is_soundness;
-use tree_walk::laws::{checks_are_wholeness, keys_rise_over_leaves, levels_have_the_pages};
+use tree_walk::laws::{
+    checks_are_wholeness, keys_rise_over_leaves, levels_have_the_pages, rows_by_leaves,
+};
 
 /// The checks of a file against a schema have one answer: the first broken one, or none.
 pub fn first_has_one_answer()
     ensures { FirstHasOneAnswer }
+{}
+
+/// And there is one for each file and schema.
+pub fn first_has_an_answer()
+    ensures { FirstHasAnAnswer }
 {}
 
 /// The checks of trees and segments find nothing exactly where each index has a whole tree, no page is in two of them,
@@ -49,6 +56,14 @@ pub fn rows_rise()
     audit_is_soundness();
     tree_checks_are_trees();
     keys_rise_over_leaves();
+}
+
+/// And so do those without the delete mark.
+pub fn live_rows_rise()
+    ensures { LiveRowsRise }
+{
+    rows_rise();
+    rows_by_leaves();
 }
 
 /// And each used page below the stated size has one owner.

@@ -40,6 +40,10 @@ pub record LinksEqualDescent (index : Index) : Type 0 where
 abbrev pub LinksAreDescent : Type 0
 LinksAreDescent = (index : Index) → IsWalked index → LinksEqualDescent index
 
+-- the rows by leaves are those of the descent, whatever the file
+abbrev pub RowsByLeaves : Type 0
+RowsByLeaves = (index : Index) → leaf_rows index ≡ tree_rows index
+
 -- each page comes as often on the levels of a tree as in the descent
 abbrev pub LevelsHaveThePages : Type 0
 LevelsHaveThePages =

@@ -1,7 +1,7 @@
 //! What the definitions of a tree say together, each the contract of a function that does nothing.
 
 ghost use Rattle.tree_walk.specs.Laws.{LinksAreDescent, KeysRiseOverLeaves, RowsCanBeRead, ChecksGiveTree};
-ghost use Rattle.tree_walk.specs.Laws.{ChecksAreWholeness, LevelsHaveThePages};
+ghost use Rattle.tree_walk.specs.Laws.{ChecksAreWholeness, LevelsHaveThePages, RowsByLeaves};
 
 use index_page::laws::{checks_are_an_index_page, page_has_one_chain};
 
@@ -9,6 +9,11 @@ use index_page::laws::{checks_are_an_index_page, page_has_one_chain};
 /// page comes twice in it.
 pub fn links_are_the_descent()
     ensures { LinksAreDescent }
+{}
+
+/// The rows by leaves are those of the descent, whatever the file.
+pub fn rows_by_leaves()
+    ensures { RowsByLeaves }
 {}
 
 /// Each page comes as often on the levels of a tree as in the descent.
