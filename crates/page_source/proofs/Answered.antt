@@ -26,6 +26,7 @@ Then-answered {F} first second answer more = by_first answer.0 answer.1
     by_second : first None → (a : Option F) → second a → HasAnswer (Then first second)
     by_second h None s = (None, (h, s))
     by_second h (Some fault) s = (Some fault, inr (h, s))
+
     by_first : (a : Option F) → first a → HasAnswer (Then first second)
     by_first None h = by_second h (more h).0 (more h).1
     by_first (Some fault) h = (Some fault, inl h)
@@ -45,13 +46,16 @@ pub each_more : {F : Type 0} (count : ℕ) (check : ℕ → Option F → Type 0)
 each_more {F} count check before last = by_before before.0 before.1
   where
     by_last : AllBelow check count → (a : Option F) → check count a → HasAnswer (Each (suc count) check)
-    by_last all None h =
-        (None, λ j below.
-            elim (cases_lt j count) [
-              | inl less ↦ all j less
-              | inr more ↦ subst (λ (k : ℕ). check k None) (omega (arith, below, more)) h
-            ])
+    by_last all None h = (
+      None,
+      λ j below.
+          elim (cases_lt j count) [
+            | inl less ↦ all j less
+            | inr more ↦ subst (λ (k : ℕ). check k None) (omega (arith, below, more)) h
+          ],
+    )
     by_last all (Some fault) h = (Some fault, (count, omega arith, all, h))
+
     by_before : (a : Option F) → Each count check a → HasAnswer (Each (suc count) check)
     by_before None all = let answer = last all in by_last all answer.0 answer.1
     by_before (Some fault) h = (Some fault, (h.0, omega (arith, h.1), h.2, h.3))
@@ -75,11 +79,10 @@ At {X = X} places check k answer = (d : X) → check (take k places) (get_or pla
 
 pub at_answered : {F X : Type 0} (places : List X) (check : List X → X → Option F → Type 0) (k : ℕ) (d : X)
     → k < length places → HasAnswer (check (take k places) (get_or places k d)) → HasAnswer (At places check k)
-at_answered {X = X} places check k d within answer =
-    (
-      answer.0,
-      λ e. subst (λ (y : X). check (take k places) y answer.0) (get_or_default places k d e within) answer.1,
-    )
+at_answered {X = X} places check k d within answer = (
+  answer.0,
+  λ e. subst (λ (y : X). check (take k places) y answer.0) (get_or_default places k d e within) answer.1,
+)
 
 pub eachof_answer : {F X : Type 0} (places : List X) (check : List X → X → Option F → Type 0)
     → HasAnswer (Each (length places) (At places check)) → HasAnswer (EachOf places check)
@@ -120,10 +123,10 @@ along_more {F} ends check last k reached fails answer = by_answer answer.0 answe
     by_answer : (a : Option F) → check k a → Reaches ends check (suc k) ⊎ HasAnswer (Along ends check last)
     by_answer None h =
         inl (λ j below.
-            elim (cases_lt j k) [
-              | inl less ↦ reached j less
-              | inr more ↦ subst (λ (i : ℕ). (¬ (ends i)) × check i None) (omega (arith, below, more)) (fails, h)
-            ])
+        elim (cases_lt j k) [
+          | inl less ↦ reached j less
+          | inr more ↦ subst (λ (i : ℕ). (¬ (ends i)) × check i None) (omega (arith, below, more)) (fails, h)
+        ])
     by_answer (Some fault) h = inr (Some fault, (k, reached, inl (fails, h)))
 
 -- checks along places that can't all go on have one, where it is decided which place ends the list

@@ -11,4 +11,3 @@ pub mod SparseFiles
 pub mod Texts
 pub mod Decided
 pub mod Answered
-pub mod MustAnswer

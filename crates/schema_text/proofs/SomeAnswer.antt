@@ -121,8 +121,7 @@ begun : (line : Line) (format : Format) → FirstChecks line None → word line 
 unfolding FirstChecks
 begun line format h e =
     let words = three_words line h.0.0
-    ∙ ap₂ (λ (a b : List ℕ). a ∷ word line 1 ∷ b ∷ []) h.0.1 e in
-    (
+    ∙ ap₂ (λ (a b : List ℕ). a ∷ word line 1 ∷ b ∷ []) h.0.1 e in (
       record { table = word line 1; format = format; columns = []; indexes = [] },
       record {
         part = part_begun (word line 1) format h.1;

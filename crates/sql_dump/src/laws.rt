@@ -1,5 +1,5 @@
-//! A sound file has one dump of its table; and laws by which the rows of a checked table can be read. Each is the contract
-//! of a function that does nothing.
+//! A sound file has one dump of its table; and laws by which the rows of a checked table can be read.
+//! Each is the contract of a function that does nothing.
 
 ghost use Rattle.schema_text.specs.Grammar.{IsTable};
 ghost use Rattle.sql_dump.specs.Laws.{CheckedCanBeRead, SoundFilesHaveOneDump};

@@ -14,4 +14,10 @@ mod NewPages
 mod TreesLaw
 mod ValuesLaw
 mod ValidLaw
-mod SomeAnswer
+mod Checks
+mod AuditDecisions
+mod AuditAnswer
+mod PageDecisions
+mod TreeAnswer
+mod ValueDecisions
+mod ValueAnswer

@@ -21,10 +21,9 @@ abbrev pub FirstHasOneAnswer : Type 0
 FirstHasOneAnswer =
     (file : List ℕ) (table : TableDef) (a b : Option Fault) → First file table a → First file table b → a ≡ b
 
--- and it can't be that there is none: neither that no check is broken, nor some first one
+-- and there is one for each
 abbrev pub FirstHasAnAnswer : Type 0
-FirstHasAnAnswer =
-    (file : List ℕ) (table : TableDef) → ¬ ((answer : Option Fault) → ¬ (First file table answer))
+FirstHasAnAnswer = (file : List ℕ) (table : TableDef) → (answer : Option Fault) × First file table answer
 
 -- the checks of trees and segments find nothing exactly where the trees are sound
 abbrev pub TreeChecksAreTrees : Type 0

@@ -7,14 +7,16 @@ ghost use Rattle.table_check.specs.Laws.{UsedPagesHaveOneOwner};
 use offpage_chain::laws::{checks_are_whole, has_one_chain};
 use schema_text::laws::lists_are_of_one_index;
 use space_audit::laws::audit_is_soundness;
-use tree_walk::laws::{checks_are_wholeness, keys_rise_over_leaves, levels_have_the_pages, rows_by_leaves};
+use tree_walk::laws::{
+    checks_are_wholeness, keys_rise_over_leaves, levels_have_the_pages, rows_by_leaves,
+};
 
 /// The checks of a file against a schema have one answer: the first broken one, or none.
 pub fn first_has_one_answer()
     ensures { FirstHasOneAnswer }
 {}
 
-/// And it can't be that they have none.
+/// And there is one for each file and schema.
 pub fn first_has_an_answer()
     ensures { FirstHasAnAnswer }
 {}

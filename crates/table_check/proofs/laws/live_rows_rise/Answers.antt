@@ -14,9 +14,10 @@ behind_first index x (y ∷ rows) rises = rises.1
 
 without_second : (index : Index) (x y : Row) (rows : List Row) → Rises index (x ∷ y ∷ rows) → Rises index (x ∷ rows)
 without_second index x y [] rises = tt
-without_second index x y (z ∷ rows) rises =
-    (is_transitive (key_kinds index.leaf) (row_key index x) (row_key index y) (row_key index z) rises.0 rises.1.0,
-    rises.1.1)
+without_second index x y (z ∷ rows) rises = (
+  is_transitive (key_kinds index.leaf) (row_key index x) (row_key index y) (row_key index z) rises.0 rises.1.0,
+  rises.1.1,
+)
 
 -- so do some of them
 some_behind : (index : Index) (keep : Row → Bool) (x : Row) (rows : List Row) → Rises index (x ∷ rows)
