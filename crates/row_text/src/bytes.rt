@@ -82,8 +82,26 @@ fn is_plain(run: &[u8]) -> bool
     found == 0
 }
 
-/// Where the first byte lies that doesn't stand for itself.
-pub(crate) fn first_escaped(text: &[u8]) -> Option<usize>
+/// How many bytes at the front of a text were found to stand for themselves, by whole runs.
+fn plain_front(text: &[u8]) -> usize
+    ensures within { result ≤ length text.now }
+    ensures plain { IsPlain (take result text.now) }
+{
+    let mut rest = text;
+    let mut front = 0;
+    while rest.len() >= RUN {
+        let (run, more) = rest.split_at(RUN);
+        if !is_plain(run) {
+            return front;
+        }
+        front += RUN;
+        rest = more;
+    }
+    front
+}
+
+/// Where the first byte lies that doesn't stand for itself, one after another.
+fn first_by_bytes(text: &[u8]) -> Option<usize>
     ensures place { result ≡ position is_escaped text.now }
     ensures inside { IfSome result (λ at. at < length text.now) }
 {
