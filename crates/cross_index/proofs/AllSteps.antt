@@ -1,13 +1,11 @@
 -- All secondary indexes, one after another, and then the whole answer.
-use Rattle.std.proofs.Common.{◌≡◌, ℕ, ◌+◌, ◌*◌, ◌^◌, ◌<◌, ◌≤◌, min, List, [], ◌∷◌, ◌++◌, length, get_or, drop, Option, Some, None, Ok, Err}
+use Rattle.std.proofs.Common.{◌≡◌, ℕ, ◌+◌, ◌*◌, ◌^◌, ◌<◌, ◌≤◌, min, List, [], ◌∷◌, ◌++◌, length, get_or, drop}
+use Rattle.std.proofs.Common.{Some, None, Ok, Err}
 use Rattle.std.proofs.Common.{refl, sym, ap, ◌∙◌, subst, inl, inr, arith}
 use Rattle.std.specs.Prelude.{◌-◌, sum_by}
 use Rattle.std.specs.List.{range_with_len}
 use Rattle.std.proofs.lemmas.Bool.{cases_lt}
 use Rattle.std.proofs.lemmas.List.Sums.{sum_by-append, sum_by-drop_more}
-use Rattle.page_source.specs.declared.checks.Stop.{Stop}
-use Rattle.page_source.specs.declared.checks.Stop.TheVariants as checks
-use Rattle.page_source.specs.Checks.{Stops}
 use Rattle.page_source.specs.Verdict.{AllBelow, Each}
 use Rattle.schema_text.specs.TableDef.{TableDef}
 use Rattle.page_source.specs.declared.objects.PageSource.{Ghosts as FileOf}
@@ -18,16 +16,12 @@ use Rattle.tree_walk.specs.declared.ends.TreeEnds.{TreeEnds}
 use Rattle.table_check.specs.First.{TakesSteps, dump_steps}
 use Rattle.table_check.specs.Taken.{leaves_of}
 use Rattle.schema_text.proofs.FieldLemmas.{range_more}
-use Rattle.table_check.specs.First.{First}
 use Rattle.table_check.specs.Trees.{index_count}
-use Rattle.table_check.specs.Valid.{IsValid}
-use Rattle.cross_index.specs.declared.crossed.Crossed.{Crossed}
 use Rattle.cross_index.specs.declared.crossed.CrossStop.{CrossStop}
 use Rattle.cross_index.specs.declared.crossed.CrossStop.TheVariants as stops
-use Rattle.cross_index.specs.Stops.{cross_stop_of_checks, OnlyReads}
 use Rattle.cross_index.specs.Entries.{entries_in}
 use Rattle.cross_index.specs.Differ.{Difference, Missing, Extra, IndexDiffers, SecondaryDiffers, Differ}
-use Rattle.cross_index.specs.Cross.{entries_of, entry_count, Crosses}
+use Rattle.cross_index.specs.Cross.{entries_of}
 use Rattle.cross_index.specs.calls.Compare.{Compares}
 use Rattle.cross_index.specs.calls.Indexes.{ComparesAll}
 

@@ -1,11 +1,13 @@
 -- Values among bytes, and the order of keys cell by cell.
-use Rattle.std.proofs.Common.{◌≡◌, ℕ, zero, suc, ◌+◌, ◌<◌, ◌≤◌, true, false, List, [], ◌∷◌, ◌++◌, length, get_or, map, drop, take, slice_range, cond}
+use Rattle.std.proofs.Common.{◌≡◌, ℕ, zero, suc, ◌+◌, ◌<◌, ◌≤◌, true, false, List, [], ◌∷◌, ◌++◌, length, get_or, map}
+use Rattle.std.proofs.Common.{drop, take, slice_range, cond}
 use Rattle.std.proofs.Common.{All, None, Some, refl, sym, ap, ◌∙◌, subst, inl, inr, arith, add-one, min, ◌^◌, ◌-◌, ◌*◌}
 use Rattle.std.specs.declared.cmp.Ordering.{Ordering}
 use Rattle.std.specs.declared.cmp.Ordering.TheVariants.{Equal}
 use Rattle.std.specs.Ordering.{ordering_then}
 use Rattle.std.proofs.Math.Seq.{drop-cons}
-use Rattle.std.proofs.lemmas.List.{drop_all, drop_at, drop-append-le, take_all, take-append-le, length-map, length-take-le, get_or-map, get_or-take, get_or_past, map-append}
+use Rattle.std.proofs.lemmas.List.{drop_all, drop_at, drop-append-le, take_all, take-append-le, length-map}
+use Rattle.std.proofs.lemmas.List.{length-take-le, get_or-map, get_or-take, get_or_past, map-append}
 use Rattle.std.proofs.Common.{length-append, length-drop}
 use Rattle.std.proofs.lemmas.List.Elements.{All-head, All-tail}
 use Rattle.std.proofs.lemmas.Bool.{cases_lt}
@@ -93,7 +95,8 @@ kept_at cells width slots row i d number short below is =
     ∙ cell_saturated cells (row * width + get_or slots i d) short
     ∙ sym (get_or-map (λ slot. get_or cells (row * width + slot) None) slots i d None below)
 
-slice_range_append : (xs ys : List ℕ) (a b : ℕ) → a ≤ b → b ≤ length xs → slice_range (xs ++ ys) a b ≡ slice_range xs a b
+slice_range_append : (xs ys : List ℕ) (a b : ℕ) → a ≤ b → b ≤ length xs
+    → slice_range (xs ++ ys) a b ≡ slice_range xs a b
 slice_range_append xs ys a b rising inside =
     ap (take (b - a)) (drop-append-le a xs ys (omega (arith, rising, inside)))
     ∙ take-append-le (b - a) (drop a xs) ys (omega (arith, rising, inside, length-drop a xs))

@@ -1,5 +1,6 @@
 -- The bytes of a chain, read part by part.
-use Rattle.std.proofs.Common.{◌≡◌, ℕ, ◌+◌, ◌<◌, ◌≤◌, List, [], ◌∷◌, ◌++◌, length, slice_range, Option, Some, None, Result, Ok, Err}
+use Rattle.std.proofs.Common.{◌≡◌, ℕ, ◌+◌, ◌≤◌, List, [], ◌∷◌, ◌++◌, length, slice_range, Some, None}
+use Rattle.std.proofs.Common.{Err}
 use Rattle.std.proofs.Common.{refl, sym, ap, ◌∙◌, subst, arith, append_assoc, length-append}
 use Rattle.std.proofs.lemmas.List.{append-nil}
 use Rattle.std.proofs.lemmas.List.Concat.{flat_map-append}
@@ -11,7 +12,6 @@ use Rattle.offpage_chain.specs.declared.reference.Reference.{Reference}
 use Rattle.offpage_chain.specs.Chain.{part_length, part_bytes, chain_pages, bytes_on}
 use Rattle.offpage_chain.specs.Reader.{ChainRest, GoesOnAlong, GivesNext}
 use Rattle.sql_dump.specs.Long.{CanFollowIn, chain_bytes}
-use Rattle.cross_index.specs.declared.crossed.CrossStop.{CrossStop}
 use Rattle.cross_index.specs.Stops.{cross_stop_of, OnlyReads}
 
 -- the bytes of the first pages of a chain were added, each for one fetch

@@ -1,5 +1,6 @@
 -- The answers of an index, and of all.
-use Rattle.std.proofs.Common.{◌≡◌, ℕ, zero, suc, ◌+◌, ◌-◌, ◌<◌, ◌≤◌, ◌⊎◌, Option, Some, None, List, length, refl, sym, ap, ◌∙◌}
+use Rattle.std.proofs.Common.{◌≡◌, ℕ, zero, suc, ◌+◌, ◌-◌, ◌<◌, ◌≤◌, ◌⊎◌, Option, Some, None, List, length, refl, sym}
+use Rattle.std.proofs.Common.{ap, ◌∙◌}
 use Rattle.std.proofs.Common.{inl, inr, arith, subst}
 use Rattle.std.proofs.lemmas.Bool.{cases_lt, cases_order}
 use Rattle.page_source.specs.Verdict.{AllBelow, Each}
@@ -10,8 +11,7 @@ use Rattle.tree_walk.specs.Index.{row_at}
 use Rattle.table_check.specs.Trees.{index_count}
 use Rattle.table_check.specs.Valid.{IsValid}
 use Rattle.cross_index.specs.Entries.{entries_in, entry_kinds, row_keys, entry_keys}
-use Rattle.cross_index.specs.Sides.{IsLeastLone, HaveSameKeys}
-use Rattle.cross_index.specs.Differ.{Difference, Missing, Extra, LacksEntry, HasExtra, IndexDiffers, SecondaryDiffers}
+use Rattle.cross_index.specs.Differ.{Difference, Missing, Extra, IndexDiffers, SecondaryDiffers}
 use Rattle.cross_index.specs.Differ.{Differ}
 use Rattle.cross_index.specs.Laws.{HasOneAnswer, HasOneDifference}
 use Rattle.cross_index.specs.Sides.{AreApart}

@@ -1,16 +1,16 @@
 -- The fields of an entry: as many as its key has, and each is kept of the rows.
-use Rattle.std.proofs.Common.{◌≡◌, ℕ, ◌+◌, ◌<◌, ◌≤◌, Bool, true, false, cond, List, [], ◌∷◌, ◌++◌, length, get_or, map, take}
-use Rattle.std.proofs.Common.{All, Contains, flat_map, filter, refl, sym, ap, ◌∙◌, arith, length-append}
+use Rattle.std.proofs.Common.{◌≡◌, ℕ, ◌<◌, ◌≤◌, Bool, true, false, cond, List, [], ◌∷◌, ◌++◌, length, get_or, map}
+use Rattle.std.proofs.Common.{take}
+use Rattle.std.proofs.Common.{All, Contains, flat_map, sym, ◌∙◌, arith, length-append}
 use Rattle.std.specs.Prelude.{◌==◌, ◌-◌}
-use Rattle.std.specs.List.{range_with_len, list_any, Any}
+use Rattle.std.specs.List.{range_with_len, list_any}
 use Rattle.std.proofs.lemmas.Bool.Decides.{nat_tests}
 use Rattle.std.proofs.lemmas.List.{get_or_default, length-map, length-take-le}
 use Rattle.std.proofs.lemmas.List.Elements.{All-nil, All-append, All-map, All-push}
 use Rattle.std.proofs.lemmas.List.Folds.{list_any-from_Any}
 use Rattle.page_source.proofs.Members.{contains_filter, contains_range, range_has, flat_map_contains}
 use Rattle.column_values.specs.declared.field.Field.{Field}
-use Rattle.column_values.specs.declared.field.FieldType.{FieldType}
-use Rattle.compact_record.specs.Reading.{key_kinds, field_count}
+use Rattle.compact_record.specs.Reading.{field_count}
 use Rattle.schema_text.specs.TableDef.{TableDef, index_at}
 use Rattle.schema_text.specs.Grammar.{IsTable}
 use Rattle.schema_text.specs.IndexFields.{leaf_fields, key_fields, rest_fields, clustered_positions, clustered_key}
@@ -79,7 +79,8 @@ module _ (table : TableDef) (i : ℕ) (is : IsTable table) (within : i < length 
       let others = range_with_len 1 (index_count table - 1) in
       let all = flat_map (entry_fields table) others in
       let (n, below, at) = flat_map_contains (entry_fields table) others i k
-      (range_has 1 (index_count table - 1) i second (omega (arith, within))) (j, inside, get_or_default fields j k 0 inside) in
+      (range_has 1 (index_count table - 1) i second (omega (arith, within)))
+      (j, inside, get_or_default fields j k 0 inside) in
       contains_filter (λ m. list_any (λ n. n == m) all) (range_with_len 0 (field_count (leaf_fields table 0))) k
       (contains_range (field_count (leaf_fields table 0)) k (entry_inside j 0 inside))
       (list_any-from_Any (λ n. n == k) all (n, k, below, at, same k))

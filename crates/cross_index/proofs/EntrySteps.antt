@@ -1,10 +1,10 @@
 -- The entries of an index beside the rows in the order of their keys, one by one.
-use Rattle.std.proofs.Common.{◌≡◌, ℕ, ◌+◌, ◌*◌, ◌<◌, ◌≤◌, List, [], length, get_or, map, All, Contains, refl, sym, ap, ◌∙◌}
-use Rattle.std.proofs.Common.{subst, inl, inr, arith, Option, Some, None, Result, Ok, Err}
+use Rattle.std.proofs.Common.{◌≡◌, ℕ, ◌+◌, ◌<◌, ◌≤◌, List, [], length, get_or, All, Contains, sym, ap}
+use Rattle.std.proofs.Common.{◌∙◌}
+use Rattle.std.proofs.Common.{subst, arith, Option, Some, None, Result, Ok, Err}
 use Rattle.std.specs.Ordering.{ordering_reverse}
 use Rattle.std.specs.declared.cmp.Ordering.{Ordering}
 use Rattle.std.specs.declared.cmp.Ordering.TheVariants.{Less, Equal, Greater}
-use Rattle.std.specs.List.{range_with_len}
 use Rattle.std.proofs.lemmas.List.{get_or_default, get_or-map, length-map}
 use Rattle.std.proofs.lemmas.List.Elements.{All-contains}
 use Rattle.std.proofs.lemmas.List.FromFn.{get_or-map-range_with_len, length-map-range_with_len}
@@ -32,15 +32,16 @@ use Rattle.table_check.specs.Values.{live_rows}
 use Rattle.table_check.specs.Live.{LiveView, HasGivenLive, CanGiveLive, IsRowInHand, FindsLive}
 use Rattle.cross_index.specs.declared.crossed.CrossStop.{CrossStop}
 use Rattle.cross_index.specs.declared.crossed.CrossStop.TheVariants as stops
-use Rattle.cross_index.specs.Entries.{entries_in, entry_kinds, row_keys, entry_keys}
+use Rattle.cross_index.specs.Entries.{entries_in, entry_kinds, entry_keys}
 use Rattle.cross_index.specs.Sides.{IsLeastLone, HaveSameKeys, AreMatched, Rise, AreApart}
 use Rattle.cross_index.specs.Differ.{Missing, Extra, IndexDiffers}
 use Rattle.cross_index.specs.calls.Order.{IsOrder, in_order}
-use Rattle.cross_index.specs.calls.Kept.{LiesIn, kept_key, kept_keys}
+use Rattle.cross_index.specs.calls.Kept.{kept_key, kept_keys}
 use Rattle.cross_index.specs.Stops.{cross_stop_of}
 use Rattle.cross_index.specs.calls.Compare.{IsReadKey, Meets, EndsAt, CanCompare, Compares}
 use Rattle.cross_index.proofs.Sides.{parts_least, matched_same, matched_back, matched_more}
-use Rattle.cross_index.proofs.Merge.{in_order_size, in_order_at, place_within, order_rises, least_in_order, least_beside}
+use Rattle.cross_index.proofs.Merge.{in_order_size, in_order_at, place_within, order_rises, least_in_order}
+use Rattle.cross_index.proofs.Merge.{least_beside}
 use Rattle.cross_index.proofs.Merge.{same_in_order}
 
 -- the key of a record that was read and ends on its page

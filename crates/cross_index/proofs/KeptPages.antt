@@ -1,51 +1,33 @@
 -- The kept fields of a record: where they lie, that they can be read whole, and in how many pages they go on.
-use Rattle.std.proofs.Common.{◌≡◌, ℕ, ◌+◌, ◌<◌, ◌≤◌, Bool, true, false, not, List, [], ◌∷◌, ◌++◌, length, get_or, map, take, All}
-use Rattle.std.proofs.Common.{Contains, filter, flat_map, refl, sym, ap, ◌∙◌, subst, arith, cond}
+use Rattle.std.proofs.Common.{◌≡◌, ℕ, ◌+◌, ◌<◌, ◌≤◌, Bool, true, false, not, List, [], ◌∷◌, length, get_or, map}
+use Rattle.std.proofs.Common.{All}
+use Rattle.std.proofs.Common.{filter, refl, ap, ◌∙◌, subst, arith, cond}
 use Rattle.std.specs.Prelude.{sum_by, ◌&&◌, ◌==◌}
 use Rattle.std.specs.List.{range_with_len, list_any}
 use Rattle.std.proofs.lemmas.Bool.{false≢true}
-use Rattle.std.proofs.lemmas.List.{append-nil, take_more, take_all, get_or_default, length-append}
-use Rattle.std.proofs.lemmas.List.Concat.{flat_map-append, length-flat_map}
-use Rattle.std.proofs.lemmas.List.Sums.{length-filter, sum_by-append}
-use Rattle.std.proofs.lemmas.List.Folds.{length-flat_map-take}
-use Rattle.std.proofs.lemmas.List.Elements.{All-head, All-tail, All-filter, All-contains}
+use Rattle.std.proofs.lemmas.List.Concat.{length-flat_map}
+use Rattle.std.proofs.lemmas.List.Sums.{sum_by-append}
+use Rattle.std.proofs.lemmas.List.Elements.{All-head, All-tail, All-filter}
 use Rattle.std.proofs.lemmas.List.FromFn.{length-range_with_len, get_or-range_with_len, get_or-map-range_with_len}
 use Rattle.page_source.specs.Pages.{page_count}
-use Rattle.page_source.proofs.Members.{filter_contains}
 use Rattle.column_values.specs.declared.kind.ColumnType.{ColumnType}
 use Rattle.column_values.specs.declared.field.FieldType.{FieldType}
 use Rattle.column_values.specs.declared.field.FieldType.TheVariants as kinds
 use Rattle.column_values.specs.Types.{Fields, AreFields, field_at, is_big}
-use Rattle.column_values.specs.Order.{Key}
 use Rattle.compact_record.specs.declared.places.Place.{Place}
-use Rattle.compact_record.specs.Reading.{place_of, places_of, field_count, is_external}
+use Rattle.compact_record.specs.Reading.{place_of, places_of, field_count}
 use Rattle.space_header.specs.Header.{size_of}
 use Rattle.offpage_chain.specs.Reference.{reference_of}
 use Rattle.offpage_chain.specs.Reader.{GoesOn}
 use Rattle.offpage_chain.specs.Laws.{HasOneChain, ChainGoesOn}
 use Rattle.schema_text.specs.TableDef.{TableDef}
 use Rattle.schema_text.specs.IndexFields.{leaf_fields}
-use Rattle.tree_walk.specs.declared.leaves.leaf.Leaf.{Leaf}
-use Rattle.std.specs.Prelude.{Option, Some, None, Result, Ok, Err}
-use Rattle.page_source.specs.declared.checks.Halt.{Halt}
-use Rattle.page_source.specs.declared.checks.Halt.TheVariants as halts
-use Rattle.tree_walk.specs.Leaf.{IsWalked}
-use Rattle.tree_walk.specs.Laws.{RowsCanBeRead}
-use Rattle.tree_walk.specs.Index.{Index, Row, no_row, row_at, page_in, index_of, leaf_rows, is_live_row}
-use Rattle.tree_walk.specs.Segments.{leaf_segment}
 use Rattle.tree_walk.specs.Records.{IsRecord}
-use Rattle.table_check.specs.Trees.{clustered_tree, index_in}
-use Rattle.table_check.specs.Values.{bytes_at, live_rows, pages_of_field, pages_of_record, pages_of_row, pages_of_rows}
+use Rattle.table_check.specs.Values.{bytes_at, pages_of_field, pages_of_record}
 use Rattle.table_check.specs.Values.{pages_of_value}
-use Rattle.table_check.specs.Values.{all_chain_pages}
-use Rattle.table_check.specs.Valid.{IsSoundValue, IsSoundField, IsSoundRow, IsValid}
-use Rattle.table_check.specs.Live.{LiveView, HasGivenLive, CanGiveLive, FindsLive, IsRowInHand}
-use Rattle.cross_index.specs.declared.crossed.CrossStop.{CrossStop}
-use Rattle.cross_index.specs.declared.crossed.CrossStop.TheVariants as stops
-use Rattle.cross_index.specs.Stops.{cross_stop_of, OnlyReads}
-use Rattle.cross_index.specs.Entries.{field_of_row, whole_cell}
-use Rattle.cross_index.specs.calls.Gather.{CanFollowPlace, CanGather, pages_of_place, place_in, pages_of_fields, cells_of}
-use Rattle.cross_index.specs.calls.Gather.{kept_fields, all_entry_fields, kept_cells, CanGatherAll, IsGathered}
+use Rattle.table_check.specs.Valid.{IsSoundValue, IsSoundField}
+use Rattle.cross_index.specs.calls.Gather.{CanFollowPlace, pages_of_place, place_in, pages_of_fields}
+use Rattle.cross_index.specs.calls.Gather.{kept_fields, all_entry_fields}
 
 sum_cons : (f : ℕ → ℕ) (x : ℕ) (xs : List ℕ) → sum_by f (x ∷ xs) ≡ f x + sum_by f xs
 sum_cons f x xs = omega (arith, sum_by-append f (x ∷ []) xs)

@@ -1,9 +1,10 @@
 -- The fields of the columns of an entry, one by one.
-use Rattle.std.proofs.Common.{◌≡◌, ℕ, ◌+◌, ◌<◌, Bool, true, false, not, cond, List, [], ◌∷◌, ◌++◌, length, get_or, map, take}
-use Rattle.std.proofs.Common.{filter, refl, sym, ap, ◌∙◌, subst, arith, append_assoc}
+use Rattle.std.proofs.Common.{◌≡◌, ℕ, ◌+◌, ◌<◌, Bool, true, false, not, cond, List, [], ◌∷◌, ◌++◌, length, get_or, map}
+use Rattle.std.proofs.Common.{take}
+use Rattle.std.proofs.Common.{filter, refl, sym, ap, ◌∙◌, arith, append_assoc}
 use Rattle.std.specs.Prelude.{◌==◌}
 use Rattle.std.specs.List.{list_any}
-use Rattle.std.proofs.lemmas.List.{append-nil, map-append, get_or_default}
+use Rattle.std.proofs.lemmas.List.{append-nil, map-append}
 use Rattle.std.proofs.lemmas.List.Elements.{filter_more}
 use Rattle.std.proofs.Common.{All, flat_map, ◌-◌, ◌≤◌}
 use Rattle.std.specs.List.{range_with_len}
@@ -79,13 +80,15 @@ module _ (table : TableDef) (i : ℕ) (at own key old one two : List ℕ) (are :
   columns_added : two ≡ old ++ map (field_of_column table) (own ++ positions_without key own)
   columns_added =
       let rest = positions_without key own in
-      let rest_known = All-filter (λ i. not (list_any (λ j. j == i) own)) (λ c. c < length table.columns) key key_known in
+      let rest_known = All-filter (λ i. not (list_any (λ j. j == i) own)) (λ c. c < length table.columns) key
+      key_known in
       second
       ∙ ap (λ (list : List ℕ). list ++ map (λ c. get_or at c 0) rest) (first
       ∙ ap (λ (list : List ℕ). old ++ map (λ c. get_or at c 0) list) (without_none own))
       ∙ append_assoc old (map (λ c. get_or at c 0) own) (map (λ c. get_or at c 0) rest)
       ∙ ap (λ (list : List ℕ). old ++ (list ++ map (λ c. get_or at c 0) rest)) (fields_same table at own are own_known)
-      ∙ ap (λ (list : List ℕ). old ++ (map (field_of_column table) own ++ list)) (fields_same table at rest are rest_known)
+      ∙ ap (λ (list : List ℕ). old ++ (map (field_of_column table) own ++ list))
+      (fields_same table at rest are rest_known)
       ∙ ap (λ (list : List ℕ). old ++ list) (sym (map-append (field_of_column table) own rest))
 
   pub entry_with_key : (length key == 0) ≡ false → two ≡ old ++ entry_fields table i
@@ -121,14 +124,15 @@ pub all_more : (table : TableDef) (list next : List ℕ) (index : ℕ) → 1 ≤
     → list ≡ flat_map (entry_fields table) (range_with_len 1 (index - 1)) → next ≡ list ++ entry_fields table index
     → next ≡ flat_map (entry_fields table) (range_with_len 1 (index + 1 - 1))
 all_more table list next index some so grown =
+    let front = flat_map (entry_fields table) (range_with_len 1 (index - 1)) in
     let e : index + 1 - 1 ≡ (index - 1) + 1 = omega arith in
     let last : 1 + (index - 1) ≡ index = omega arith in
     grown ∙ ap (λ (xs : List ℕ). xs ++ entry_fields table index) so
     ∙ sym (ap (λ (n : ℕ). flat_map (entry_fields table) (range_with_len 1 n)) e
     ∙ ap (flat_map (entry_fields table)) (range_more 1 (index - 1))
     ∙ flat_map-append (entry_fields table) (range_with_len 1 (index - 1)) ((1 + (index - 1)) ∷ [])
-    ∙ ap (λ (n : ℕ). flat_map (entry_fields table) (range_with_len 1 (index - 1)) ++ flat_map (entry_fields table) (n ∷ [])) last
-    ∙ ap (λ (xs : List ℕ). flat_map (entry_fields table) (range_with_len 1 (index - 1)) ++ xs) (append-nil (entry_fields table index)))
+    ∙ ap (λ (n : ℕ). front ++ flat_map (entry_fields table) (n ∷ [])) last
+    ∙ ap (λ (xs : List ℕ). front ++ xs) (append-nil (entry_fields table index)))
 
 -- one field more is kept or not
 pub kept_more : (all list next : List ℕ) (n : ℕ) (b : Bool) → list_any (λ j. j == n) all ≡ b

@@ -1,19 +1,16 @@
 -- The keys among the kept values are those that the rows ask for.
-use Rattle.std.proofs.Common.{◌≡◌, ℕ, zero, suc, ◌+◌, ◌*◌, ◌<◌, ◌≤◌, Bool, true, false, cond, List, [], ◌∷◌, ◌++◌, length, get_or}
-use Rattle.std.proofs.Common.{map, take, All, Contains, filter, flat_map, Option, None, refl, sym, ap, ◌∙◌, subst, inl, inr, arith}
-use Rattle.std.specs.Prelude.{◌==◌, ◌-◌}
-use Rattle.std.specs.List.{range_with_len, list_any}
-use Rattle.std.proofs.lemmas.Bool.Decides.{nat_tests}
-use Rattle.std.proofs.lemmas.List.{get_or-map, get_or_default, length-map, length-append, length-take-le}
+use Rattle.std.proofs.Common.{◌≡◌, ℕ, zero, suc, ◌+◌, ◌*◌, ◌<◌, List, [], ◌∷◌}
+use Rattle.std.proofs.Common.{length, get_or}
+use Rattle.std.proofs.Common.{map, take, flat_map, Option, None, refl, sym, ap, ◌∙◌}
+use Rattle.std.proofs.Common.{arith}
+use Rattle.std.specs.List.{range_with_len}
+use Rattle.std.proofs.lemmas.List.{get_or-map, length-map, length-append, length-take-le}
 use Rattle.std.proofs.lemmas.List.Concat.{get_or-flat_map}
-use Rattle.std.proofs.lemmas.List.Elements.{All-contains, Contains-append_left, Contains-append_right}
-use Rattle.std.proofs.lemmas.List.Folds.{list_any-from_Any}
 use Rattle.std.proofs.lemmas.List.FromFn.{length-map-range_with_len, get_or-map-range_with_len}
 use Rattle.column_values.specs.Order.{Key}
 use Rattle.schema_text.specs.TableDef.{TableDef}
 use Rattle.tree_walk.specs.Index.{Index, Row, no_row}
 use Rattle.table_check.specs.Trees.{clustered_tree}
-use Rattle.table_check.specs.Values.{live_rows}
 use Rattle.cross_index.specs.Entries.{entry_fields, field_of_row, projection, rows_in, row_keys}
 use Rattle.cross_index.specs.calls.Kept.{kept_key, kept_keys}
 use Rattle.cross_index.specs.calls.Gather.{kept_fields, kept_cells, IsGathered, StandsAt}

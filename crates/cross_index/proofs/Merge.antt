@@ -1,24 +1,23 @@
 -- Keys in their order, by the places that a sort gives, beside rising keys: they have the same members, and so the same
 -- least lone key.
-use Rattle.std.proofs.Common.{◌≡◌, ◌⊎◌, ℕ, ◌+◌, ◌<◌, ◌≤◌, Bool, true, false, eqb, List, [], length, get_or, map, All}
+use Rattle.std.proofs.Common.{◌≡◌, ℕ, ◌+◌, ◌<◌, true, false, eqb, List, [], length, get_or}
 use Rattle.std.proofs.Common.{Contains, refl, sym, ap, ◌∙◌, subst, inl, inr, arith}
-use Rattle.std.specs.List.{Any, AllPairs, range_with_len, IsDistinct}
-use Rattle.std.specs.List.Sorted.{IsPermutation, IsSortedBy}
+use Rattle.std.specs.List.{range_with_len, IsDistinct}
 use Rattle.std.specs.Ordering.{is_lt, ordering_reverse}
 use Rattle.std.specs.declared.cmp.Ordering.{Ordering}
 use Rattle.std.specs.declared.cmp.Ordering.TheVariants.{Less, Equal, Greater}
-use Rattle.std.proofs.lemmas.Bool.{cases_lt, true≢false}
+use Rattle.std.proofs.lemmas.Bool.{true≢false}
 use Rattle.std.proofs.lemmas.List.{get_or_default, get_or-map, length-map}
 use Rattle.std.proofs.lemmas.List.FromFn.{get_or-range_with_len, length-range_with_len}
 use Rattle.std.proofs.lemmas.List.Sorted.{sorted_far, ranks_by, length_permutation, Contains-permutation}
 use Rattle.std.proofs.lemmas.List.Sorted.{IsPermutation-sym}
 use Rattle.column_values.specs.declared.field.FieldType.{FieldType}
-use Rattle.column_values.specs.Order.{Key, key_cmp, IsBelow, AreEqualKeys}
-use Rattle.column_values.proofs.KeyOrder.{key_total, is_total}
+use Rattle.column_values.specs.Order.{Key, key_cmp, IsBelow}
+use Rattle.column_values.proofs.KeyOrder.{key_total}
 use Rattle.std.proofs.lemmas.Bool.Decides.{nat_tests}
 use Rattle.std.proofs.lemmas.Map.Keys.{IsDistinct-from_apart, IsDistinct-IsPermutation, apart_from_distinct}
 use Rattle.std.proofs.lemmas.List.Elements.{All-contains}
-use Rattle.cross_index.specs.Sides.{HoldsKey, IsLone, IsLeast, IsLeastLone, HaveSameKeys}
+use Rattle.cross_index.specs.Sides.{HoldsKey, IsLone, IsLeastLone, HaveSameKeys}
 use Rattle.cross_index.specs.calls.Order.{key_less, IsOrder, in_order}
 use Rattle.cross_index.specs.Sides.{Rise, AreApart}
 
@@ -97,7 +96,8 @@ module _ (kinds : List FieldType) (keys : List Key) (order : List ℕ) (is : IsO
       let before : i < length keys = omega (arith, less, inside) in
       let a = get_or order i 0 in
       let b = get_or order j 0 in
-      let no_fall = sorted_far (key_less kinds keys) (ranks_by (key_total kinds) (λ k. get_or keys k [])) order is.sorted
+      let no_fall = sorted_far (key_less kinds keys) (ranks_by (key_total kinds) (λ k. get_or keys k [])) order
+      is.sorted
       i j 0 (omega (arith, less)) (omega (arith, inside, size)) in
       rw (
         get_or_default sorted i d [] (omega (arith, less, within)),

@@ -1,5 +1,6 @@
 -- The values of the kept fields of a record, one by one.
-use Rattle.std.proofs.Common.{◌≡◌, ℕ, ◌+◌, ◌<◌, ◌≤◌, List, [], ◌∷◌, ◌++◌, length, get_or, map, take, drop, true, false, All, refl, sym, ap, ◌∙◌}
+use Rattle.std.proofs.Common.{◌≡◌, ℕ, ◌+◌, ◌<◌, ◌≤◌, List, [], ◌∷◌, ◌++◌, length, get_or, map, take, drop, true, false}
+use Rattle.std.proofs.Common.{sym, ap, ◌∙◌}
 use Rattle.std.proofs.Common.{subst, arith, append_assoc}
 use Rattle.std.specs.Prelude.{sum_by}
 use Rattle.std.proofs.lemmas.List.{append-nil, map_more, take_more, take_all, take-append-drop, get_or_default}
@@ -7,7 +8,8 @@ use Rattle.std.proofs.lemmas.List.Sums.{sum_by-append}
 use Rattle.column_values.specs.Order.{Key}
 use Rattle.compact_record.specs.declared.places.Place.{Place}
 use Rattle.cross_index.specs.Entries.{whole_cell}
-use Rattle.cross_index.specs.calls.Gather.{CanFollowPlace, CanGather, pages_of_place, place_in, pages_of_fields, cells_of}
+use Rattle.cross_index.specs.calls.Gather.{CanFollowPlace, CanGather, pages_of_place, place_in, pages_of_fields}
+use Rattle.cross_index.specs.calls.Gather.{cells_of}
 
 -- the values of the first n fields were added
 pub record RowSoFar (file page : List ℕ) (places : List Place) (kept : List ℕ) (old now : Key) (most left n : ℕ)

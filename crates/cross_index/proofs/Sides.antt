@@ -1,8 +1,8 @@
 -- Two lists of rising keys: where they first part stands the least key that only one of them has. Of any two lists
 -- one has such a key, or both have the same keys.
-use Rattle.std.proofs.Common.{◌≡◌, ◌⊎◌, ℕ, zero, suc, ◌+◌, ◌<◌, ◌≤◌, Bool, true, false, List, [], length, get_or, All}
+use Rattle.std.proofs.Common.{◌≡◌, ◌⊎◌, ℕ, zero, suc, ◌+◌, ◌<◌, ◌≤◌, Bool, true, false, List, [], length, get_or}
 use Rattle.std.proofs.Common.{Contains, refl, sym, ap, ◌∙◌, subst, inl, inr, arith}
-use Rattle.std.specs.List.{Any, AllPairs, list_any}
+use Rattle.std.specs.List.{list_any}
 use Rattle.std.specs.Ordering.{is_eq}
 use Rattle.std.specs.declared.cmp.Ordering.{Ordering}
 use Rattle.std.specs.declared.cmp.Ordering.TheVariants.{Less, Equal, Greater}
@@ -11,8 +11,8 @@ use Rattle.std.proofs.lemmas.List.{get_or_default}
 use Rattle.std.proofs.lemmas.List.Folds.{Any-from_list_any, list_any-from_Any}
 use Rattle.column_values.specs.declared.field.FieldType.{FieldType}
 use Rattle.column_values.specs.Order.{Key, key_cmp, IsBelow, AreEqualKeys}
-use Rattle.column_values.proofs.KeyOrder.{is_strict, is_transitive, is_reflexive, symmetric, agrees, is_total}
-use Rattle.cross_index.specs.Sides.{HoldsKey, IsLone, IsLeast, IsLeastLone, HaveSameKeys, AreMatched, Rise, AreApart}
+use Rattle.column_values.proofs.KeyOrder.{is_strict, is_transitive, symmetric, agrees, is_total}
+use Rattle.cross_index.specs.Sides.{HoldsKey, IsLone, IsLeastLone, HaveSameKeys, AreMatched, Rise, AreApart}
 
 module _ (kinds : List FieldType) where
   -- a key that is below another isn't equal to it

@@ -19,10 +19,9 @@ use table_check::laws::checks_are_validity;
 
 /// Checks a tablespace by the rules 1 to 51, and then compares the entries of each secondary index that have no delete
 /// mark with the rows of its table. `Broken` names the first broken rule and its page. `Missing` and `Extra` speak of
-/// the first index that differs, and of the least key that only one side has: `index` is its place in the schema, `row`
-/// the place of the row that has no entry, both counted with the clustered index as 0 and the first row as 1, `page` the
-/// leaf page of the entry that is of no row. `Source` comes where the file's count of faults rose, `Memory` where memory
-/// ran out.
+/// the first index that differs, by its place in the schema (the clustered one is 0), and of the least key that only
+/// one side has: `row` is the place of the row that has no entry, from 1 on, `page` the leaf page of the entry that is
+/// of no row. `Source` comes where the file's count of faults rose, `Memory` where memory ran out.
 pub fn cross<S: PageSource, L: Ledger>(
     alloc: Global,
     source: &mut S,

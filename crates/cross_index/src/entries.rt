@@ -123,7 +123,8 @@ pub(crate) fn compare_entries<S: PageSource, L: Ledger>(
     requires goes_on { entries.old.ended ≡ false }
     requires told { OfFile S.PageSource source.old (λ file.
         CanCompare file schema.now asked.now.index entries.old
-        (kept_keys asked.now.keys.cells.now asked.now.keys.width asked.now.keys.slots.now (length asked.now.order.now))) }
+        (kept_keys asked.now.keys.cells.now asked.now.keys.width asked.now.keys.slots.now
+        (length asked.now.order.now))) }
     ensures exact { OfFile S.PageSource source.old (λ file. Compares file schema.now asked.now.index result) }
     ensures cost { steps.new ≤ steps.old + entries.old.leaf.may_fetch }
     ensures over { CrossesOver S.PageSource source.old source.new result }

@@ -1,6 +1,7 @@
 //! One pass over the rows: the values of the fields that the secondary indexes take.
 
-ghost use Rattle.std.specs.Prelude.{◌≡◌, ℕ, ◌+◌, ◌<◌, ◌≤◌, ◌++◌, ◌∷◌, ◌^◌, [], All, IfOk, IsTrue, OnOk, length, slice_index_or, false};
+ghost use Rattle.std.specs.Prelude.{◌≡◌, ℕ, ◌+◌, ◌<◌, ◌≤◌, ◌++◌, ◌∷◌, ◌^◌, [], All, IfOk, IsTrue, OnOk, length};
+ghost use Rattle.std.specs.Prelude.{slice_index_or, false};
 ghost use Rattle.page_source.specs.Calls.{OfFile};
 ghost use Rattle.column_values.specs.Types.{AreFields};
 ghost use Rattle.compact_record.specs.Keys.{LiesBelow};

@@ -1,5 +1,6 @@
 -- The entries of an index beside the rows in the order of their keys.
-use Rattle.std.specs.Prelude.{◌≡◌, ℕ, ◌+◌, ◌<◌, ◌≤◌, ⊤, All, List, [], length, slice_index_or, Option, Some, None, Result, Ok, Err}
+use Rattle.std.specs.Prelude.{◌≡◌, ℕ, ◌+◌, ◌<◌, ◌≤◌, ⊤, All, List, [], length, slice_index_or, Some, None}
+use Rattle.std.specs.Prelude.{Result, Ok, Err}
 use Rattle.column_values.specs.declared.field.FieldType.{FieldType}
 use Rattle.column_values.specs.Types.{Fields}
 use Rattle.column_values.specs.Order.{Key, IsBelow, AreEqualKeys}

@@ -1,6 +1,7 @@
 -- The values that are kept of the rows: of each row those of the fields that some index takes.
-use Rattle.std.specs.Prelude.{◌≡◌, ℕ, ◌+◌, ◌-◌, ◌<◌, ◌≤◌, ◌==◌, ⊤, Bool, true, false, not, ◌&&◌, List, [], ◌++◌, length, map, take}
-use Rattle.std.specs.Prelude.{filter, flat_map, sum_by, All, slice_index_or, Result, Ok, Err}
+use Rattle.std.specs.Prelude.{◌≡◌, ℕ, ◌-◌, ◌<◌, ◌≤◌, ◌==◌, true, false, not, ◌&&◌, List, length}
+use Rattle.std.specs.Prelude.{map}
+use Rattle.std.specs.Prelude.{filter, flat_map, sum_by, All, slice_index_or}
 use Rattle.std.specs.List.{range_with_len, list_any}
 use Rattle.column_values.specs.Order.{Key}
 use Rattle.compact_record.specs.declared.places.Place.{Place}
@@ -54,7 +55,8 @@ kept_fields table =
 
 -- what is kept of the rows
 unfoldable pub kept_cells : List ℕ → TableDef → List Row → Key
-kept_cells file table rows = flat_map (λ row. map (field_of_row (clustered_tree file table) row) (kept_fields table)) rows
+kept_cells file table rows =
+    flat_map (λ row. map (field_of_row (clustered_tree file table) row) (kept_fields table)) rows
 
 -- the rows of a sound file are still to come
 pub record CanGatherAll (file : List ℕ) (table : TableDef) (rows : LiveView) : Type 0 where

@@ -1,5 +1,5 @@
 -- All secondary indexes beside the kept values of the rows, one after another.
-use Rattle.std.specs.Prelude.{◌≡◌, ℕ, ⊤, List, length, Option, Some, None, Result, Ok, Err}
+use Rattle.std.specs.Prelude.{◌≡◌, ℕ, ⊤, List, length, Some, None, Result, Ok, Err}
 use Rattle.schema_text.specs.TableDef.{TableDef}
 use Rattle.tree_walk.specs.declared.ends.TreeEnds.{TreeEnds}
 use Rattle.tree_walk.specs.Walk.{IsEndsOf}

@@ -1,7 +1,5 @@
-use Rattle.std.proofs.Common.{◌≡◌, ◌+◌, ◌≤◌, List, length, ap, arith}
+use Rattle.std.proofs.Common.{arith}
 use Rattle.page_source.proofs.Told.{told1}
-use Rattle.table_check.specs.First.{dump_steps}
-use Rattle.tree_walk.specs.declared.ends.TreeEnds.{TreeEnds}
 use Rattle.cross_index.proofs.AllSteps.{all_cost, takes_steps}
 use Rattle.cross_index.proofs.cross_check.cross.Goals as goal
 

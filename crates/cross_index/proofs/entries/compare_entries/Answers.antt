@@ -1,16 +1,14 @@
-use Rattle.std.proofs.Common.{List, ℕ, Result, Ok, Err, Option, Some, None, ◌≡◌, ◌∙◌, ap, sym, refl, subst, length, arith}
+use Rattle.std.proofs.Common.{List, ℕ, Ok, Err, Some, None, ◌∙◌, sym, subst, length}
+use Rattle.std.proofs.Common.{arith}
 use Rattle.std.proofs.lemmas.Result.{err_from_is_err_and}
 use Rattle.std.proofs.lemmas.Bool.{true≢false}
-use Rattle.page_source.proofs.Told.{told1, told2, told3}
-use Rattle.page_source.specs.declared.checks.Halt.{Halt}
+use Rattle.page_source.proofs.Told.{told2, told3}
 use Rattle.column_values.specs.Types.{Fields}
-use Rattle.compact_record.specs.Reading.{IsSpelled, record_end, key_kinds}
+use Rattle.compact_record.specs.Reading.{key_kinds}
 use Rattle.schema_text.specs.IndexFields.{leaf_fields}
 use Rattle.tree_walk.specs.Records.{IsRecord}
-use Rattle.table_check.specs.Trees.{index_in}
-use Rattle.table_check.specs.Live.{FindsLive}
-use Rattle.cross_index.specs.calls.Kept.{kept_keys}
-use Rattle.cross_index.proofs.EntrySteps.{can_give, finds, halts_so, ends_so, meets_on, meets_so, kept_size, order_below}
+use Rattle.cross_index.proofs.EntrySteps.{can_give, finds, halts_so, ends_so, meets_on, meets_so, kept_size}
+use Rattle.cross_index.proofs.EntrySteps.{order_below}
 use Rattle.cross_index.proofs.EntrySteps.{entry_readable}
 use Rattle.cross_index.proofs.entries.compare_entries.Goals as goal
 

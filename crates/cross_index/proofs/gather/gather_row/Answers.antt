@@ -1,6 +1,6 @@
 use Rattle.std.proofs.Common.{◌∙◌, refl, arith}
 use Rattle.page_source.proofs.Told.{told0, told1, told2, told3}
-use Rattle.cross_index.proofs.RowSteps.{row_start, row_follow, row_few, row_more, row_all}
+use Rattle.cross_index.proofs.RowSteps.{row_start, row_follow, row_few, row_more}
 use Rattle.cross_index.proofs.gather.gather_row.Goals as goal
 
 pub loop-k-init : goal.loop-k-init

@@ -1,4 +1,5 @@
-use Rattle.std.proofs.Common.{List, ℕ, Result, Ok, Err, Option, Some, None, ◌≡◌, ◌∙◌, ap, sym, refl, subst, length, All, ◌<◌, arith}
+use Rattle.std.proofs.Common.{List, Ok, Err, Some, None, ◌≡◌, ◌∙◌, ap, sym, refl, subst, length}
+use Rattle.std.proofs.Common.{arith}
 use Rattle.std.proofs.lemmas.Result.{err_from_is_err_and}
 use Rattle.std.proofs.lemmas.Bool.{true≢false}
 use Rattle.page_source.proofs.Told.{told1, told2, told3, told4, told5}
@@ -8,7 +9,6 @@ use Rattle.compact_record.specs.Reading.{places_of, field_count}
 use Rattle.compact_record.proofs.KeySteps.{count_of_places}
 use Rattle.schema_text.specs.IndexFields.{leaf_fields}
 use Rattle.tree_walk.specs.Records.{IsRecord}
-use Rattle.cross_index.specs.calls.Gather.{kept_fields}
 use Rattle.cross_index.proofs.GatherSteps.{gather_start, can_give, finds, halts_so, row_readable, can_gather}
 use Rattle.cross_index.proofs.GatherSteps.{gather_more, gather_all}
 use Rattle.cross_index.proofs.KeptPages.{kept_below}

@@ -1,8 +1,6 @@
 use Rattle.std.proofs.Common.{◌≡◌, ◌<◌, length, ap, ◌∙◌, arith}
-use Rattle.std.proofs.lemmas.List.Sums.{sum_by-drop_more}
 use Rattle.std.proofs.lemmas.Result.{err_from_is_err_and}
 use Rattle.page_source.proofs.Told.{told1, told2, told3}
-use Rattle.tree_walk.specs.declared.ends.TreeEnds.{TreeEnds}
 use Rattle.table_check.specs.Trees.{index_count}
 use Rattle.cross_index.proofs.AllSteps.{cost_more, matched_more, ends_here, all_matched}
 use Rattle.cross_index.proofs.indexes.compare_indexes.Goals as goal

@@ -1,4 +1,4 @@
-use Rattle.std.proofs.Common.{◌≡◌, ◌<◌, length, sym, ap, ◌∙◌, arith}
+use Rattle.std.proofs.Common.{arith}
 use Rattle.sql_dump.proofs.Cells.{length_fields}
 use Rattle.cross_index.proofs.KeptSteps.{entry_with_key, entry_with_id, is_none, is_some}
 use Rattle.cross_index.proofs.kept.push_entry_fields.Goals as goal

@@ -1,4 +1,4 @@
-use Rattle.std.proofs.Common.{◌+◌, ap, ◌∙◌, arith, refl, sym, subst, slice_range, List, ℕ, ◌++◌}
+use Rattle.std.proofs.Common.{◌+◌, ap, ◌∙◌, arith, refl, slice_range, List, ℕ, ◌++◌}
 use Rattle.std.proofs.lemmas.Result.{err_from_is_err_and}
 use Rattle.page_source.proofs.Told.{told1, told2, told3}
 use Rattle.cross_index.proofs.ChainSteps.{chain_start, chain_reads, chain_ends, chain_more}

@@ -1,6 +1,5 @@
-use Rattle.std.proofs.Common.{arith, Some, List, ◌++◌, ◌∷◌, [], Option, ℕ, map, ap, sym, ◌∙◌}
+use Rattle.std.proofs.Common.{arith, Some, ◌++◌, ◌∷◌, [], map, ap, ◌∙◌}
 use Rattle.column_values.specs.Order.{Key}
-use Rattle.compact_record.specs.declared.places.Place.{Place}
 use Rattle.compact_record.specs.Reading.{cell_at}
 use Rattle.cross_index.proofs.CellSteps.{cells_more}
 use Rattle.cross_index.proofs.cells.Cells.push.Goals as goal
