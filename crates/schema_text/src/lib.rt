@@ -2,21 +2,15 @@
 #![tactic(auto)]
 
 mod checks;
-#[cfg(test)]
-mod counts;
 mod errors;
 mod fields;
 mod keys;
 pub mod laws;
 mod line;
 mod names;
-#[cfg(test)]
-mod orders;
 mod part;
 mod print;
 mod read;
-#[cfg(test)]
-mod refusals;
 mod table;
 #[cfg(test)]
 mod tests;

@@ -1,4 +1,6 @@
-//! A schema's parts, texts that are cut off, and texts that were printed.
+//! A schema's parts, texts that are refused, and texts that were printed. Other texts are lines of the crate `cases`.
+
+mod fields;
 
 ghost use Rattle.schema_text.specs.Laws.{IsReadBack};
 
@@ -7,8 +9,6 @@ use crate::{Schema, SchemaError, SchemaWhy};
 use page_source::NoMemory;
 use std::alloc::{AllocError, Global};
 use std::test::Fail;
-
-const ONE_COLUMN: [u8; 58] = *b"table t dynamic\ncolumn id int notnull\nclustered root 3 id\n";
 
 const TWO_COLUMNS: [u8; 90] =
     *b"table t dynamic\ncolumn a int notnull\ncolumn b bigint unsigned notnull\nclustered root 30 b\n";
@@ -38,18 +38,25 @@ fn reads_each_part(rt: HostRuntime) -> Result<(), Fail> {
 }
 
 #[test]
-fn refuses_each_front_of_a_text(rt: HostRuntime) -> Result<(), Fail> {
-    for end in 0..ONE_COLUMN.len() {
-        let answer = Schema::read(rt.alloc(), &ONE_COLUMN[..end]);
+fn names_the_bad_line(rt: HostRuntime) -> Result<(), Fail> {
+    let table: [(&[u8], u32, SchemaWhy); 3] = [
+        (b"table t dynamic", 1, SchemaWhy::End),
+        (
+            b"table t dynamic\ncolumn id integer notnull\n",
+            2,
+            SchemaWhy::Form,
+        ),
+        (
+            b"table t dynamic\ncolumn id int notnull\nclustered root 3 id\nindex i root 3 id\n",
+            4,
+            SchemaWhy::Root,
+        ),
+    ];
+    for (text, wanted, reason) in table {
+        let answer = Schema::read(rt.alloc(), text);
         assert!(rt;
-            matches!(
-                answer,
-                Err(SchemaError::Refused {
-                    why: SchemaWhy::End,
-                    ..
-                })
-            ),
-            "{end} bytes"
+            matches!(answer, Err(SchemaError::Refused { line, why }) if line == wanted && why == reason),
+            "{text:?}"
         );
     }
     Ok(())
