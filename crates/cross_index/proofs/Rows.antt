@@ -42,7 +42,7 @@ use Rattle.table_check.specs.Trees.{index_in, clustered_tree, index_count}
 use Rattle.table_check.specs.Values.{live_rows}
 use Rattle.table_check.specs.Valid.{IsValid}
 use Rattle.table_check.specs.Laws.{RowsRise, TreesAreWalked}
-use Rattle.sql_dump.proofs.ColumnFields.{holds_column, length_known}
+use Rattle.schema_text.proofs.ColumnFields.{holds_column, length_known}
 use Rattle.cross_index.specs.Entries.{entry_columns, hidden_fields, entry_fields, field_of_row, whole_cell, projection}
 use Rattle.cross_index.specs.Entries.{rows_in, entries_in, entry_kinds, row_keys, entry_keys}
 use Rattle.cross_index.specs.Sides.{Rise, AreApart}

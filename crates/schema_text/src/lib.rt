@@ -2,6 +2,7 @@
 #![tactic(auto)]
 
 mod checks;
+mod columns;
 mod errors;
 mod fields;
 mod keys;
@@ -17,6 +18,7 @@ mod tests;
 mod types;
 mod words;
 
+pub use columns::column_fields;
 pub use errors::{SchemaError, SchemaWhy};
 pub use table::{Column, ColumnList, Format, IndexDef, Schema};
 pub use words::decimal_number;

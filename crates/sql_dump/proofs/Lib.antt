@@ -1,4 +1,3 @@
-pub mod ColumnFields
 pub mod Written
 pub mod Chains
 pub mod Longs

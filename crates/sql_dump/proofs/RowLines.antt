@@ -19,7 +19,7 @@ use Rattle.page_source.proofs.Texts.{grows_on, grows_part}
 use Rattle.sql_dump.specs.declared.stop.WriteStop.{WriteStop}
 use Rattle.sql_dump.specs.Stops.{Writes}
 use Rattle.column_values.specs.declared.kind.ColumnType.{ColumnType}
-use Rattle.sql_dump.proofs.ColumnFields.{range_at}
+use Rattle.schema_text.proofs.ColumnFields.{range_at}
 use Rattle.sql_dump.proofs.Written.{part_more, ends_in_piece}
 
 before_suc : (n : ℕ) → before_value (suc n) ≡ comma ∷ []

@@ -6,13 +6,12 @@ ghost use Rattle.compact_record.specs.Reading.{IsHeapOrigin, IsReading, IsSpelle
 ghost use Rattle.schema_text.specs.IndexFields.{leaf_fields};
 ghost use Rattle.sql_dump.specs.Cells.{HavePlaces};
 
-use crate::columns::column_fields;
 use crate::row::Row;
 use crate::stop::WriteStop;
 use column_values::FieldList;
 use compact_record::Located;
 use page_source::{NoMemory, PAGE_SIZE, Page, Rule};
-use schema_text::Schema;
+use schema_text::{Schema, column_fields};
 use std::alloc::Global;
 use std::marker::Model;
 

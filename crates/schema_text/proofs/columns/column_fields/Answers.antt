@@ -1,7 +1,7 @@
 use Rattle.std.proofs.Common.{refl, ◌<◌, length, ap, ◌∙◌, sym, arith}
-use Rattle.sql_dump.proofs.ColumnFields.{first_none, first_in_key, first_behind, same_key}
-use Rattle.sql_dump.proofs.columns.column_fields.Goals as goal
-use Rattle.sql_dump.proofs.columns.column_fields.Goals.{in-Some+in_ok-push-in-Some, in-None+in_ok-push-in-None}
+use Rattle.schema_text.proofs.ColumnFields.{first_none, first_in_key, first_behind, same_key}
+use Rattle.schema_text.proofs.columns.column_fields.Goals as goal
+use Rattle.schema_text.proofs.columns.column_fields.Goals.{in-Some+in_ok-push-in-Some, in-None+in_ok-push-in-None}
 
 pub loop-column-init : goal.loop-column-init
 loop-column-init c =

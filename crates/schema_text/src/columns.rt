@@ -4,10 +4,10 @@
 
 ghost use Rattle.std.specs.Prelude.{◌≡◌, ◌<◌, ◌==◌, if◌then◌else◌, length, position, IfOk, IfSome};
 ghost use Rattle.schema_text.specs.Grammar.{IsTable};
-ghost use Rattle.sql_dump.specs.Cells.{fields_of_columns};
+ghost use Rattle.schema_text.specs.IndexFields.{fields_of_columns};
 
+use crate::table::Schema;
 use page_source::NoMemory;
-use schema_text::Schema;
 use std::alloc::Global;
 
 /// Transaction id and roll pointer.
