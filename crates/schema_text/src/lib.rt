@@ -3,21 +3,15 @@
 
 mod checks;
 mod columns;
-#[cfg(test)]
-mod counts;
 mod errors;
 mod fields;
 mod keys;
 pub mod laws;
 mod line;
 mod names;
-#[cfg(test)]
-mod orders;
 mod part;
 mod print;
 mod read;
-#[cfg(test)]
-mod refusals;
 mod table;
 #[cfg(test)]
 mod tests;
