@@ -9,8 +9,7 @@ GEOMETRIES = ('geometry', 'point', 'linestring', 'polygon', 'multipoint', 'multi
               'geometrycollection', 'geomcollection')
 
 # The bytes of a value, without those of a fraction of a second; and the bytes of one to nine digits.
-LENGTHS = {'tinyint': 1, 'smallint': 2, 'mediumint': 3, 'int': 4, 'bigint': 8, 'float': 4, 'double': 8, 'date': 3,
-           'year': 1, 'time': 3, 'datetime': 5, 'timestamp': 4}
+LENGTHS = {'float': 4, 'double': 8, 'date': 3, 'year': 1, 'time': 3, 'datetime': 5, 'timestamp': 4}
 DIGITS = (0, 1, 1, 2, 2, 3, 3, 4, 4, 4)
 
 # The most bytes that a character takes.
@@ -135,7 +134,7 @@ class Column:
             return '%s %d' % (kind, (numbers or [1])[0])
         length = self.length()
         if length is None:
-            raise NotServed('%s: %s, whose length is not known' % (self.what, kind))
+            raise NotServed('%s: %s, which is not declared as its bytes' % (self.what, kind))
         return 'binary %d' % length
 
     def length(self):
