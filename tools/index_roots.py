@@ -10,7 +10,6 @@ import collections
 import functools
 import struct
 
-from create_table import NotServed
 from tablespace_file import FIL_NULL, INDEX, LEVEL, PAGE_SIZE, NotTold, type_of
 
 INFIMUM, SUPREMUM, HEAP_START = 99, 112, 120
@@ -254,34 +253,36 @@ def candidates(trees):
     return lines
 
 
+class RootsOpen(NotTold):
+    """Why it is open which root is that of which index, and a line for each root."""
+
+    def __init__(self, why, trees):
+        super().__init__(why)
+        self.lines = candidates(trees)
+
+
 def pages_of(table, schema, file):
-    """The root page of each index of the table, in order, as the file has them; none, and what is refused, where it
-    doesn't tell them."""
+    """The root page of each index of the table, in order, as the file has them; raises RootsOpen."""
     indexes = table.ordered_indexes()
     trees = Trees(file, shapes_of(schema), file.roots())
     names = ', '.join(index.what for index in indexes)
     if len(trees.roots) != len(indexes):
-        return None, ['the file has %s, and the table %s (%s)' % (
-            counted(len(trees.roots), 'root'), counted(len(indexes), 'index', 'indexes'), names)] + candidates(trees)
+        raise RootsOpen('the file has %s, and the table %s (%s)' % (
+            counted(len(trees.roots), 'root'), counted(len(indexes), 'index', 'indexes'), names), trees)
     order = order_of_roots(trees, [table.group_of(index) for index in indexes])
     if order is None:
-        return None, ['the file leaves open which root is that of which index (%s); choose by --roots' % names
-                      ] + candidates(trees)
-    return [trees.roots[order.index(index)].page for index in range(len(indexes))], []
+        raise RootsOpen('the file leaves open which root is that of which index (%s); choose by --roots' % names, trees)
+    return [trees.roots[order.index(index)].page for index in range(len(indexes))]
 
 
 def schema_of(table, roots, default_format, file=None):
-    """The schema text of a table, with the roots and the row format of a file where one is given, and what is refused;
-    one of the two is empty."""
+    """The schema text of a table, with the roots and the row format of a file where one is given. Raises NotTold where
+    the file doesn't tell them; what else isn't served is on the table's list of what is refused then."""
+    if file is not None:
+        table.format = file.row_format()
     if not table.is_read:
-        return '', table.refused
-    try:
-        if file is not None:
-            table.format = file.row_format()
-        schema = table.schema_text(roots, default_format)
-        if file is not None and roots is None and not table.refused:
-            roots, table.refused = pages_of(table, schema, file)
-            schema = table.schema_text(roots, default_format)
-    except (NotServed, NotTold) as why:
-        table.refused.append(str(why))
-    return ('', table.refused) if table.refused else (schema, [])
+        return ''
+    schema = table.schema_text(roots, default_format)
+    if file is not None and roots is None and not table.refused:
+        schema = table.schema_text(pages_of(table, schema, file), default_format)
+    return schema
