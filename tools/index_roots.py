@@ -61,8 +61,8 @@ def shapes_of(schema):
             clustered = words[3:]
             key = [columns[name] for name in clustered] or [SYSTEM[6]]
             rest = [field for name, field in columns.items() if name not in clustered]
-            shapes.append(Shape('the clustered index', key + [SYSTEM[6], SYSTEM[7]] + rest, len(key),
-                                clustered + [None] * (2 + (not clustered)) + [n for n in columns if n not in clustered]))
+            names = clustered + [None] * (2 + (not clustered)) + [name for name in columns if name not in clustered]
+            shapes.append(Shape('the clustered index', key + [SYSTEM[6], SYSTEM[7]] + rest, len(key), names))
         elif words[0] == 'index':
             names = words[4:] + [name for name in clustered if name not in words[4:]]
             fields = [columns[name] for name in names] + [SYSTEM[6]] * (not clustered)
@@ -194,8 +194,8 @@ class Trees:
 
 
 def orders(groups, count, may_be):
-    """Up to two ways to give the roots, by rising index id, to the indexes, so that those of each group rise. A group is
-    a list of indexes; a way has the index of each root."""
+    """Up to two ways to give the roots, by rising index id, to the indexes, so that those of each group rise. A group
+    is a list of indexes; a way has the index of each root."""
     @functools.lru_cache(maxsize=None)
     def ways(taken):
         root = sum(taken)
