@@ -15,7 +15,7 @@ FIL_NULL = 0xFFFFFFFF
 LEAST_PAGES = 4
 
 # Types of pages (fil0fil.h).
-SPACE_HEADER, INODES, INDEX, RTREE, DICTIONARY = 8, 3, 17855, 17854, 17853
+SPACE_HEADER, INODES, INDEX, RTREE, DICTIONARY, INSTANT = 8, 3, 17855, 17854, 17853, 18
 COMPRESSED_PAGES = {14: 'MySQL', 34354: 'MariaDB'}
 CIPHERED_PAGES = (15, 16, 17, 37401)
 
@@ -102,11 +102,13 @@ class TablespaceFile:
             page = self.page(number)
             kind = type_of(page)
             if kind in COMPRESSED_PAGES:
-                return "page compression of %s (page %d)" % (COMPRESSED_PAGES[kind], number)
+                return 'page compression of %s (page %d)' % (COMPRESSED_PAGES[kind], number)
             if kind in CIPHERED_PAGES or kind == INDEX and page[26:30] != bytes(4):
                 return 'encrypted (page %d)' % number
             if kind == DICTIONARY:
                 return 'a file of MySQL 8.0 (page %d)' % number
+            if kind == INSTANT:
+                return 'a column that was added or dropped instantly (page %d)' % number
             if kind == RTREE:
                 return 'a spatial index (page %d)' % number
             if kind == INDEX and page[HEAP_COUNT] < 128 and self.is_used(number):
