@@ -12,7 +12,7 @@ use Rattle.jiff_core.specs.Calendar.{IsCivilDate, IsDate, days_from_civil}
 use Rattle.jiff_core.specs.Date.{epoch_day, IsYmd}
 use Rattle.jiff_core.specs.declared.civil.date.Date.{Date}
 use Rattle.jiff_core.proofs.DateLemmas.{civil}
-use Rattle.row_text.specs.Reads.{IsDateOf}
+use Rattle.row_text.specs.calls.Moments.{IsDateOf}
 use Rattle.row_text.proofs.Seconds.{civil_of, date_is}
 
 pub same_year : (y : ℕ) → y < 10000 → to_z w16 y ≡ pos y

@@ -9,7 +9,7 @@ use Rattle.schema_text.specs.declared.table.Column.{Column}
 use Rattle.row_text.specs.declared.row.RowError.{RowError}
 use Rattle.row_text.specs.declared.row.RowError.TheVariants.{Refused, Memory}
 use Rattle.row_text.specs.Values.{value_text}
-use Rattle.row_text.specs.Reads.{EndsValue, BeginsColumn, FindsValue, FindsColumn}
+use Rattle.row_text.specs.calls.Values.{EndsValue, BeginsColumn, FindsValue, FindsColumn}
 use Rattle.row_text.proofs.Columns.{fits_cases, value_fits, no_null_text}
 
 pub null_found : (column : Column) (text rest : List ℕ) → column.nullable ≡ true → text ≡ codes "NULL" ++ rest

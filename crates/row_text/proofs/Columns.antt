@@ -16,7 +16,7 @@ use Rattle.schema_text.specs.declared.table.Column.{Column}
 use Rattle.row_text.specs.Digits.{four_digits, behind_point, whole_text, decimal_text}
 use Rattle.row_text.specs.Values.{quoted, hex_text, hex_or_empty, value_text, date_text, moment_text}
 use Rattle.row_text.specs.Line.{FitsColumn}
-use Rattle.row_text.specs.Reads.{EndsValue}
+use Rattle.row_text.specs.calls.Values.{EndsValue}
 use Rattle.row_text.proofs.OneNumber.{first_digit, whole_plus, whole_minus, hex_of_some}
 use Rattle.row_text.proofs.OneText.{one_text, units_low, signed_is}
 use Rattle.row_text.proofs.Shapes.{HasShape, shape, shapes_apart, all_from, unsigned_low}

@@ -16,7 +16,7 @@ use Rattle.column_values.specs.Decimals.{decimal_bytes, signed_groups}
 use Rattle.column_values.proofs.DecimalValues.{are_top, are_signed}
 use Rattle.column_values.proofs.Groups.{some_power}
 use Rattle.row_text.specs.Digits.{last_digits, behind_point, decimal_text}
-use Rattle.row_text.specs.Reads.{IsWordOf, unsigned_text}
+use Rattle.row_text.specs.calls.Words.{IsWordOf, unsigned_text}
 use Rattle.row_text.proofs.FixedDigits.{ten_step, same_parts, behind_size, behind_mod}
 use Rattle.row_text.proofs.OneNumber.{decimal_one, first_digit, whole_plus, whole_minus, back}
 use Rattle.row_text.proofs.Shapes.{decimal_low}

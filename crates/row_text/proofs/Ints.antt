@@ -10,7 +10,7 @@ use Rattle.column_values.specs.Types.{IsWidth}
 use Rattle.column_values.specs.Spell.{IsInRange, int_bytes}
 use Rattle.column_values.proofs.IntegerValues.{integer_in_range, integer_spelled, signed_written, unsigned_written}
 use Rattle.column_values.proofs.Numbers.{half_is_most, pow256_most}
-use Rattle.row_text.specs.Reads.{FitsLong, IsWordOf}
+use Rattle.row_text.specs.calls.Words.{FitsLong, IsWordOf}
 
 pub signed_word : (w : ℕ) (z : ℤ) (word : List ℕ) → IsWidth w → word ≡ signed_decimal z → IsInRange true w z
     → IsWordOf (types.Int w true) (values.Signed z) word

@@ -12,7 +12,8 @@ use Rattle.page_source.specs.Pages.{be_bytes}
 use Rattle.row_text.specs.declared.read_moments.MomentParts.{MomentParts}
 use Rattle.row_text.specs.Digits.{two_digits, four_digits, behind_point}
 use Rattle.row_text.specs.Values.{quoted, date_text, clock_text, time_text, moment_text}
-use Rattle.row_text.specs.Reads.{IsWordOf, IsMomentWord}
+use Rattle.row_text.specs.calls.Words.{IsWordOf}
+use Rattle.row_text.specs.calls.Moments.{IsMomentWord}
 use Rattle.row_text.proofs.FixedDigits.{two_injective, four_injective, behind_injective}
 use Rattle.row_text.proofs.OneMoment.{fraction_low, fraction_back}
 use Rattle.row_text.proofs.OneNumber.{inside_one}

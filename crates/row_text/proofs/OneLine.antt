@@ -19,7 +19,7 @@ use Rattle.row_text.specs.Values.{value_text}
 use Rattle.row_text.specs.Line.{FitsColumn, IsTableRow, comma, joined_values, values_of, line_of}
 use Rattle.row_text.specs.KeyText.{key_columns, IsRowIdText, IsColumnsText}
 use Rattle.row_text.specs.Writer.{line_open, line_close}
-use Rattle.row_text.specs.Reads.{EndsValue}
+use Rattle.row_text.specs.calls.Values.{EndsValue}
 use Rattle.row_text.specs.Laws.{HasOneLine, HasOneRow, BeginsNoOther, HasOneKeyText, HasOneKey}
 use Rattle.row_text.proofs.OneNumber.{decimal_one}
 use Rattle.row_text.proofs.Columns.{one_column}

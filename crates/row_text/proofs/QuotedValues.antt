@@ -10,7 +10,8 @@ use Rattle.column_values.specs.declared.value.Value.TheVariants as values
 use Rattle.column_values.specs.Spell.{Spell, IsValueOf, IsSpelling, IsTrimmed}
 use Rattle.column_values.proofs.TextValues.{char_spelled}
 use Rattle.row_text.specs.Values.{quoted, escaped_text, value_text}
-use Rattle.row_text.specs.Reads.{EndsValue, BeginsWith, is_quoted}
+use Rattle.row_text.specs.calls.Values.{EndsValue, BeginsWith}
+use Rattle.row_text.specs.calls.Texts.{is_quoted}
 use Rattle.row_text.specs.Writer.{is_text}
 use Rattle.row_text.proofs.Quotes.{quoted_apart}
 

@@ -15,7 +15,8 @@ use Rattle.column_values.specs.declared.value.Value.TheVariants as values
 use Rattle.column_values.specs.Types.{IsColumnType, IsRaw}
 use Rattle.column_values.specs.Spell.{IsValueOf, IsSpelling}
 use Rattle.row_text.specs.Values.{quoted, hex_text, hex_or_empty, value_text}
-use Rattle.row_text.specs.Reads.{IsWordOf, is_binary}
+use Rattle.row_text.specs.calls.Words.{IsWordOf}
+use Rattle.row_text.specs.calls.Bytes.{is_binary}
 use Rattle.row_text.proofs.Hex.{encode_append}
 use Rattle.row_text.proofs.OneNumber.{hex_of_some, hex_one}
 

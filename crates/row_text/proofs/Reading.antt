@@ -14,7 +14,8 @@ use Rattle.row_text.specs.Values.{value_text}
 use Rattle.row_text.specs.Line.{FitsColumn, comma, joined_values}
 use Rattle.row_text.specs.KeyText.{IsColumnsText}
 use Rattle.row_text.specs.Writer.{before_value}
-use Rattle.row_text.specs.Reads.{EndsValue, BeginsColumn, HasRead, IsNoText}
+use Rattle.row_text.specs.calls.Values.{EndsValue, BeginsColumn}
+use Rattle.row_text.specs.calls.Rows.{HasRead, IsNoText}
 use Rattle.row_text.proofs.Columns.{one_column}
 use Rattle.row_text.proofs.OneLine.{led_values, joined_led, ends_led}
 

@@ -14,7 +14,8 @@ use Rattle.column_values.proofs.MomentValues.{timestamp_spelled}
 use Rattle.row_text.specs.declared.read_moments.MomentParts.{MomentParts}
 use Rattle.row_text.specs.Calendar.{year_of_day, month_of_day, day_of_day}
 use Rattle.row_text.specs.Values.{quoted, date_text, time_text, moment_text, day_text, timestamp_text}
-use Rattle.row_text.specs.Reads.{IsWordOf, IsMomentWord, IsDateOf, IsSecondOf, IsNoSecond}
+use Rattle.row_text.specs.calls.Words.{IsWordOf}
+use Rattle.row_text.specs.calls.Moments.{IsMomentWord, IsDateOf, IsSecondOf, IsNoSecond}
 use Rattle.row_text.proofs.Dates.{is_day, year_is, month_is, day_is}
 use Rattle.row_text.proofs.Days.{date_of, parts_of}
 use Rattle.row_text.proofs.MomentWords.{one_moment, one_date}

@@ -23,7 +23,7 @@ use Rattle.column_values.proofs.Numbers.{half_is_most, pow256_most}
 use Rattle.row_text.specs.Digits.{last_digits, two_digits, four_digits, behind_point, sign_text, whole_text, decimal_text}
 use Rattle.row_text.specs.Values.{escaped_text, quoted, hex_text, hex_or_empty, date_text, clock_text, time_text, moment_text}
 use Rattle.row_text.specs.Values.{day_text, timestamp_text, value_text}
-use Rattle.row_text.specs.Reads.{EndsValue}
+use Rattle.row_text.specs.calls.Values.{EndsValue}
 use Rattle.row_text.proofs.Quotes.{IsSafe, safe_escaped, quoted_apart}
 
 abbrev is_safe : ℕ → Bool

@@ -10,7 +10,8 @@ use Rattle.row_text.specs.declared.row.RowError.TheVariants.{Refused, Memory}
 use Rattle.row_text.specs.Line.{values_of, line_of, IsLineOf}
 use Rattle.row_text.specs.KeyText.{IsColumnsText}
 use Rattle.row_text.specs.Writer.{line_open, line_close}
-use Rattle.row_text.specs.Reads.{FindsValues, FindsRow}
+use Rattle.row_text.specs.calls.Rows.{FindsValues}
+use Rattle.row_text.specs.Reads.{FindsRow}
 
 abbrev front : List ℕ
 front = codes "INSERT INTO `"

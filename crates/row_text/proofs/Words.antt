@@ -16,7 +16,9 @@ use Rattle.column_values.specs.declared.value.Value.TheVariants as values
 use Rattle.column_values.specs.Types.{IsColumnType}
 use Rattle.column_values.specs.Spell.{IsValueOf}
 use Rattle.row_text.specs.Values.{quoted, value_text, date_text, moment_text, timestamp_text, hex_text, hex_or_empty}
-use Rattle.row_text.specs.Reads.{EndsValue, HasNoEnd, BeginsWith, IsWordOf, is_end, is_quoted}
+use Rattle.row_text.specs.calls.Values.{EndsValue, BeginsWith}
+use Rattle.row_text.specs.calls.Words.{HasNoEnd, IsWordOf, is_end}
+use Rattle.row_text.specs.calls.Texts.{is_quoted}
 use Rattle.row_text.proofs.Quotes.{IsSafe}
 use Rattle.row_text.proofs.Shapes.{date_safe, moment_safe, timestamp_safe, four_safe, decimal_safe, decimal_text_safe}
 use Rattle.row_text.proofs.Shapes.{signed_safe, signed_low, unsigned_low, decimal_low, hex_text_safe}

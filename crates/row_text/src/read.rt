@@ -7,7 +7,8 @@ ghost use Rattle.column_values.specs.Types.{IsColumnType};
 ghost use Rattle.schema_text.specs.IndexFields.{clustered_positions};
 ghost use Rattle.row_text.specs.KeyText.{key_columns};
 ghost use Rattle.row_text.specs.Writer.{before_value, line_open};
-ghost use Rattle.row_text.specs.Reads.{HasRead, ReadsNext, FindsValues, FindsRow, FindsRowId, FindsKey};
+ghost use Rattle.row_text.specs.calls.Rows.{HasRead, ReadsNext, FindsValues, FindsRowId};
+ghost use Rattle.row_text.specs.Reads.{FindsRow, FindsKey};
 
 use crate::read_numbers::unsigned;
 use crate::read_values::read_column;

@@ -4,7 +4,7 @@ ghost use Rattle.std.specs.Prelude.{◌≡◌, ◌≢◌, ℕ, ◌+◌, ◌^◌,
 ghost use Rattle.column_values.specs.declared.kind.ColumnType.{ColumnType};
 ghost use Rattle.column_values.specs.Types.{IsColumnType};
 ghost use Rattle.row_text.specs.Digits.{last_digits, two_digits, four_digits, behind_point};
-ghost use Rattle.row_text.specs.Reads.{FindsNumber, unsigned_text};
+ghost use Rattle.row_text.specs.calls.Words.{FindsNumber, unsigned_text};
 
 use crate::read::behind;
 use crate::read_numbers::wide;

@@ -2,7 +2,8 @@
 
 ghost use Rattle.std.specs.Prelude.{◌≡◌, ◌≢◌, ℕ, ◌+◌, ◌^◌, ◌<◌, ◌≤◌, ◌∷◌, ◌++◌, [], List, length, MatchOption, IfSome, IsNone, IsTrue, ◌↔◌, ◌-◌, ◌/◌};
 ghost use Rattle.column_values.specs.declared.kind.ColumnType.{ColumnType};
-ghost use Rattle.row_text.specs.Reads.{FindsNumber, IsMomentWord, IsLowMoment, IsNoSecond, IsSecondOf};
+ghost use Rattle.row_text.specs.calls.Words.{FindsNumber};
+ghost use Rattle.row_text.specs.calls.Moments.{IsMomentWord, IsLowMoment, IsNoSecond, IsSecondOf};
 ghost use Rattle.column_values.specs.Moments.{IsYear, IsFraction};
 ghost use Rattle.row_text.specs.Digits.{behind_point};
 ghost use Rattle.row_text.specs.Values.{quoted, date_text, clock_text, moment_text};

@@ -6,7 +6,8 @@ ghost use Rattle.column_values.specs.Types.{IsColumnType};
 ghost use Rattle.column_values.specs.Spell.{IsTrimmed, IsValueOf};
 ghost use Rattle.page_source.specs.Pages.{AreBytes};
 ghost use Rattle.row_text.specs.Values.{escape_letter, is_escaped};
-ghost use Rattle.row_text.specs.Reads.{EndsValue, FindsText, FindsValue, IsStop, is_quoted};
+ghost use Rattle.row_text.specs.calls.Values.{EndsValue, FindsValue};
+ghost use Rattle.row_text.specs.calls.Texts.{FindsText, IsStop, is_quoted};
 
 use crate::bytes::first_escaped;
 use crate::read::behind;

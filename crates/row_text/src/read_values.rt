@@ -2,7 +2,8 @@
 
 ghost use Rattle.std.specs.Prelude.{◌≡◌, ◌↔◌, ◌++◌, ◌≤◌, ℕ, List, codes, length, IfOk, IsTrue};
 ghost use Rattle.column_values.specs.Types.{IsColumnType};
-ghost use Rattle.row_text.specs.Reads.{EndsValue, FindsValue, FindsColumn, is_quoted};
+ghost use Rattle.row_text.specs.calls.Values.{EndsValue, FindsValue, FindsColumn};
+ghost use Rattle.row_text.specs.calls.Texts.{is_quoted};
 
 use crate::read::behind;
 use crate::read_texts::{ends_value, read_text};

@@ -7,8 +7,10 @@ ghost use Rattle.column_values.specs.declared.kind.ColumnType.{ColumnType};
 ghost use Rattle.column_values.specs.declared.value.Value.{Value};
 ghost use Rattle.column_values.specs.Types.{IsColumnType, IsWidth, IsRaw, HoldsText};
 ghost use Rattle.column_values.specs.Spell.{IsInRange, IsValueOf, IsSpelling};
-ghost use Rattle.row_text.specs.Reads.{EndsValue, HasNoEnd, FindsValue, FindsNumber, FindsWord, FindsBytes, is_end, is_binary};
-ghost use Rattle.row_text.specs.Reads.{is_quoted};
+ghost use Rattle.row_text.specs.calls.Values.{EndsValue, FindsValue};
+ghost use Rattle.row_text.specs.calls.Words.{HasNoEnd, FindsNumber, FindsWord, is_end};
+ghost use Rattle.row_text.specs.calls.Bytes.{FindsBytes, is_binary};
+ghost use Rattle.row_text.specs.calls.Texts.{is_quoted};
 ghost use Rattle.row_text.specs.Values.{quoted};
 
 use crate::read::{are_same, behind};

@@ -6,7 +6,8 @@ use Rattle.hex.specs.Hex.{encode_lower}
 use Rattle.column_values.specs.Spell.{IsSpelling}
 use Rattle.row_text.specs.declared.row.RowError.{RowError}
 use Rattle.column_values.specs.declared.value.Value.TheVariants as values
-use Rattle.row_text.specs.Reads.{FindsBytes, IsWordOf}
+use Rattle.row_text.specs.calls.Bytes.{FindsBytes}
+use Rattle.row_text.specs.calls.Words.{IsWordOf}
 use Rattle.row_text.proofs.Errors.{word_failed}
 use Rattle.row_text.proofs.RawWords.{no_raw, empty_word, digits_word, same_digits}
 use Rattle.row_text.proofs.read_words.raw_value.Goals as goal

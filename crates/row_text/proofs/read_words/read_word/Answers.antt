@@ -1,6 +1,6 @@
 use Rattle.std.proofs.Common.{Err, subst}
 use Rattle.row_text.specs.declared.row.RowError.{RowError}
-use Rattle.row_text.specs.Reads.{FindsWord}
+use Rattle.row_text.specs.calls.Words.{FindsWord}
 use Rattle.row_text.proofs.Errors.{value_failed}
 use Rattle.row_text.proofs.Words.{word_begins}
 use Rattle.row_text.proofs.read_words.read_word.Goals as goal
