@@ -120,7 +120,7 @@ timestamp_safe f seconds micro =
     (time_safe f (seconds / 3600 % 24) (seconds / 60 % 60) (seconds % 60) micro))
 
 -- hexadecimal digits
-hex_safe : (k : ℕ) → k < 16 → IsSafe (slice_index lower_digits k)
+pub hex_safe : (k : ℕ) → k < 16 → IsSafe (slice_index lower_digits k)
 hex_safe k lt = All-get_or IsSafe lower_digits k 0 lt (all_from lower_digits refl)
 
 pub encode_safe : (bytes : List ℕ) → AreBytes bytes → All IsSafe (encode_lower bytes)

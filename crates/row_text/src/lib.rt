@@ -6,6 +6,7 @@ mod calendar;
 mod digits;
 pub mod laws;
 mod read;
+mod read_bytes;
 mod read_decimals;
 mod read_moments;
 mod read_numbers;

@@ -1,11 +1,9 @@
--- Values whose texts hold neither a comma nor a parenthesis: words.
+-- Words, which are the texts of numbers and moments: they hold neither a comma nor a parenthesis.
 use Rattle.std.specs.Prelude.{◌≡◌, ◌≢◌, ℕ, Bool, ◌==◌, ◌||◌, ◌^◌, ◌/◌, List, ◌++◌, All, Option, Some, None, decimal}
-use Rattle.std.specs.Prelude.{ℤ, pos, ◌+ℤ◌, ◌≤ℤ◌, ◌<ℤ◌, ⊤, Result, Ok, Err}
+use Rattle.std.specs.Prelude.{ℤ, pos, ◌+ℤ◌, ◌≤ℤ◌, ◌<ℤ◌}
 use Rattle.column_values.specs.declared.kind.ColumnType.{ColumnType}
 use Rattle.column_values.specs.declared.value.Value.{Value}
 use Rattle.column_values.specs.Spell.{IsValueOf}
-use Rattle.row_text.specs.declared.row.RowError.{RowError}
-use Rattle.row_text.specs.declared.row.RowError.TheVariants.{Refused, Memory}
 use Rattle.row_text.specs.Digits.{behind_point}
 use Rattle.row_text.specs.Values.{value_text}
 
@@ -23,14 +21,9 @@ pub record IsWordOf (kind : ColumnType) (value : Value) (word : List ℕ) : Type
   pub spelled : word ≡ value_text kind value
 
 -- the value of a word; none where it is that of no value
-abbrev pub FindsNumber : ColumnType → List ℕ → Option Value → Type 0
-FindsNumber kind word (Some value) = IsWordOf kind value word
-FindsNumber kind word None = (value : Value) → ¬ (IsWordOf kind value word)
-
-abbrev pub FindsWord : ColumnType → List ℕ → Result Value RowError → Type 0
-FindsWord kind word (Ok value) = IsWordOf kind value word
-FindsWord kind word (Err Refused) = (value : Value) → ¬ (IsWordOf kind value word)
-FindsWord kind word (Err Memory) = ⊤
+abbrev pub FindsWord : ColumnType → List ℕ → Option Value → Type 0
+FindsWord kind word (Some value) = IsWordOf kind value word
+FindsWord kind word None = (value : Value) → ¬ (IsWordOf kind value word)
 
 -- the number fits 64 bits
 abbrev pub FitsLong : ℤ → Type 0
