@@ -20,10 +20,3 @@ pub values_failed : (columns : List Column) (text : List ℕ) (r : Result (List 
 values_failed columns text (Ok n) e is none = absurd is
 values_failed columns text (Err Refused) e is none = none (sym is)
 values_failed columns text (Err Memory) e is none = tt
-
-pub value_failed : (kind : ColumnType) (text : List ℕ) (r : Result (Value × ℕ) RowError) (e : RowError)
-    → IsErrAnd r (λ d. d ≡ e) → (e ≡ Refused → (v : Value) (rest : List ℕ) → ¬ (BeginsWith kind v text rest))
-    → FindsValue kind text r
-value_failed kind text (Ok v) e is none = absurd is
-value_failed kind text (Err Refused) e is none = none (sym is)
-value_failed kind text (Err Memory) e is none = tt

@@ -72,7 +72,7 @@ takes_more old new newer text rest digits more piece is cut are same grown = rec
       ∙ ap (λ (t : List ℕ). t ++ more) (sym (encode_append lower_digits is.bytes piece));
 }
 
-pub two_more : (rest : List ℕ) → 2 ≤ length rest → rest ≡ get_or rest 0 0 ∷ get_or rest 1 0 ∷ drop 2 rest
+two_more : (rest : List ℕ) → 2 ≤ length rest → rest ≡ get_or rest 0 0 ∷ get_or rest 1 0 ∷ drop 2 rest
 two_more [] some = absurd (omega (arith, some))
 two_more (a ∷ []) some = absurd (omega (arith, some))
 two_more (a ∷ b ∷ rest) some = refl
@@ -111,11 +111,6 @@ read_in_two old one two text middle rest none first second =
     second.are refl second.grown in
     let same : two ≡ all.bytes = all.grown ∙ ap (λ (t : List ℕ). t ++ all.bytes) none in
     (subst AreBytes (sym same) all.are, all.spelled ∙ ap (λ (t : List ℕ). encode_lower t ++ rest) (sym same))
-
-pub left_shorter : (old new text rest : List ℕ) → TakesBytes old new text rest → length rest ≤ length text
-left_shorter old new text rest is =
-    let size : length text ≡ length (encode_lower is.bytes) + length rest =
-    ap length is.spelled ∙ length-append (encode_lower is.bytes) rest in omega (arith, size)
 
 pub leads : (list text rest : List ℕ) (n : ℕ) → AreBytes list → text ≡ encode_lower list ++ rest → BeginsNoByte rest
     → n ≡ length text - length rest → AreLeadingBytes list text (drop n text)

@@ -8,7 +8,7 @@ use Rattle.row_text.specs.Values.{escape_letter, escaped_text, is_escaped, quote
 use Rattle.row_text.proofs.Escapes.{escaped_append, escaped_front, alone, behind_backslash}
 use Rattle.row_text.proofs.Quotes.{left_of, stops, some_letter}
 
-pub letter_of : (byte : ℕ) → is_escaped byte ≡ true → escape_letter byte ≡ 0 → ⊥
+letter_of : (byte : ℕ) → is_escaped byte ≡ true → escape_letter byte ≡ 0 → ⊥
 letter_of byte is none = eqb-false (escape_letter byte) 0 (not-true (eqb (escape_letter byte) 0) is) none
 
 -- the first byte that doesn't stand for itself

@@ -74,7 +74,7 @@ pub no_end : (b : ℕ) (rest text : List ℕ) → IsInside b → text ≡ b ∷ 
 no_end b rest text inside e ends = ended b rest inside (subst EndsValue e ends)
 
 -- two words with an end behind each
-pub words_apart : (s t x y : List ℕ) → HasNoEnd s → HasNoEnd t → s ++ x ≡ t ++ y → EndsValue x → EndsValue y
+words_apart : (s t x y : List ℕ) → HasNoEnd s → HasNoEnd t → s ++ x ≡ t ++ y → EndsValue x → EndsValue y
     → (s ≡ t) × (x ≡ y)
 words_apart [] [] x y a b e ex ey = (refl, e)
 words_apart [] (c ∷ t) x y a b e ex ey = absurd (no_end c (t ++ y) x (All-head IsInside c t b) e ex)
@@ -88,7 +88,7 @@ words_apart (c ∷ s) (d ∷ t) x y a b e ex ey =
 pub safe_inside : (b : ℕ) → IsSafe b → IsInside b
 safe_inside b safe = (λ e. omega (arith, safe, e), λ e. omega (arith, safe, e))
 
-pub safe_word : (text : List ℕ) → All IsSafe text → HasNoEnd text
+safe_word : (text : List ℕ) → All IsSafe text → HasNoEnd text
 safe_word text safe = All-weaker IsSafe IsInside safe_inside text safe
 
 quote_inside : IsInside 39

@@ -4,6 +4,7 @@
 mod bytes;
 mod calendar;
 mod digits;
+mod ends;
 pub mod laws;
 mod read;
 mod read_bytes;

@@ -10,7 +10,7 @@ ghost use Rattle.row_text.specs.Values.{quoted};
 ghost use Rattle.row_text.specs.calls.Values.{EndsValue, FindsValue};
 ghost use Rattle.row_text.specs.calls.Bytes.{is_binary, AreLeadingBytes, TakesBytes, BeginsNoByte};
 
-use crate::read::behind;
+use crate::ends::behind;
 use crate::read_texts::ends_value;
 use crate::row::RowError;
 use column_values::{ColumnType, Value, is_value};

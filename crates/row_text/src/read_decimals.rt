@@ -6,7 +6,7 @@ ghost use Rattle.column_values.specs.Types.{IsColumnType};
 ghost use Rattle.row_text.specs.Digits.{last_digits, two_digits, four_digits, behind_point};
 ghost use Rattle.row_text.specs.calls.Words.{FindsWord, unsigned_text};
 
-use crate::read::behind;
+use crate::ends::behind;
 use crate::read_numbers::wide;
 use column_values::{Value, ten_to};
 

@@ -9,7 +9,7 @@ ghost use Rattle.row_text.specs.Digits.{behind_point};
 ghost use Rattle.row_text.specs.Values.{quoted, date_text, clock_text, moment_text};
 
 use crate::calendar::day_of_date;
-use crate::read::{ahead, behind};
+use crate::ends::{ahead, behind};
 use crate::read_decimals::{behind_units, four, two};
 use column_values::{Value, ten_to};
 

@@ -4,7 +4,6 @@ ghost use Rattle.std.specs.Prelude.{◌≡◌, ◌<◌, ◌^◌, ℕ, ℤ, Some,
 ghost use Rattle.std.specs.Fmt.{signed_decimal};
 ghost use Rattle.row_text.specs.calls.Words.{FitsLong};
 
-use crate::read::are_same;
 use itoa::Buffer;
 use std::str;
 

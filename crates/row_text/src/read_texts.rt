@@ -10,7 +10,7 @@ ghost use Rattle.row_text.specs.calls.Values.{EndsValue, FindsValue};
 ghost use Rattle.row_text.specs.calls.Texts.{FindsText, IsStop, is_quoted};
 
 use crate::bytes::first_escaped;
-use crate::read::behind;
+use crate::ends::behind;
 use crate::row::RowError;
 use column_values::{ColumnType, Value, is_value};
 use page_source::ByteList;

@@ -5,7 +5,7 @@ ghost use Rattle.column_values.specs.Types.{IsColumnType, IsRaw};
 ghost use Rattle.row_text.specs.calls.Values.{EndsValue, FindsValue, FindsColumn};
 ghost use Rattle.row_text.specs.calls.Texts.{is_quoted};
 
-use crate::read::behind;
+use crate::ends::behind;
 use crate::read_bytes::read_bytes;
 use crate::read_texts::{ends_value, read_text};
 use crate::read_words::read_word;
