@@ -27,13 +27,16 @@ fn is_row_line(alloc: Global, table: &Schema, line: &[u8]) -> Result<bool, Fail>
 #[test]
 fn reads_a_row_of_every_kind_of_type(rt: HostRuntime) -> Result<(), Fail> {
     let alloc = rt.alloc();
-    let numbers = "column a bigint notnull\ncolumn b bigint unsigned notnull\ncolumn c decimal 5 2 null\n";
-    let moments = "column d date null\ncolumn e datetime 3 null\ncolumn f timestamp 0 null\ncolumn g year null\n";
+    let numbers =
+        "column a bigint notnull\ncolumn b bigint unsigned notnull\ncolumn c decimal 5 2 null\n";
+    let moments =
+        "column d date null\ncolumn e datetime 3 null\ncolumn f timestamp 0 null\ncolumn g year null\n";
     let texts = "column h char 3 null\ncolumn i varchar 9 null\ncolumn j text utf8mb4 null\n";
     let bytes = "column k binary 2 null\ncolumn l varbinary 3 null\ncolumn m blob null\n";
     let columns = format!(in alloc; "{numbers}{moments}{texts}{bytes}")?;
     let table = table_of(alloc, columns.as_str(), "")?;
-    let line: &[u8] = b"INSERT INTO `t` VALUES (-9223372036854775808,18446744073709551615,-0.05,'9999-12-31',\
+    let line: &[u8] =
+        b"INSERT INTO `t` VALUES (-9223372036854775808,18446744073709551615,-0.05,'9999-12-31',\
         '2012-01-01 00:00:00.250','2038-01-19 03:14:07',2155,'a,)','\\0\\'\\Z ','\xC3\xA9',0x00ff,'',0x61);";
     assert!(rt; is_row_line(alloc, &table, line)?);
     Ok(())

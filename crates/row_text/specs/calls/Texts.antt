@@ -1,12 +1,10 @@
 -- Texts in quotes.
-use Rattle.std.specs.Prelude.{◌≡◌, ◌≢◌, ℕ, Bool, true, ⊤, List, ◌∷◌, ◌++◌, drop, Result, Ok, Err}
+use Rattle.std.specs.Prelude.{◌≡◌, ◌≢◌, ℕ, ◌≤◌, Bool, true, ⊤, List, ◌++◌, length, drop, Result, Ok, Err}
 use Rattle.column_values.specs.declared.kind.ColumnType.{ColumnType}
 use Rattle.column_values.specs.declared.kind.ColumnType.TheVariants.{Char}
 use Rattle.row_text.specs.declared.row.RowError.{RowError}
 use Rattle.row_text.specs.declared.row.RowError.TheVariants.{Refused, Memory}
-use Rattle.row_text.specs.declared.read_texts.Stop.{Stop}
-use Rattle.row_text.specs.declared.read_texts.Stop.TheVariants.{Quote, Byte, Other}
-use Rattle.row_text.specs.Values.{escape_letter, escaped_text, quoted}
+use Rattle.row_text.specs.Values.{escaped, escaped_text, quoted}
 use Rattle.row_text.specs.Writer.{is_text}
 
 -- the types whose values are texts in quotes
@@ -20,8 +18,18 @@ FindsText text (Ok found) = text ≡ quoted (escaped_text found.0) ++ drop found
 FindsText text (Err Refused) = (inside rest : List ℕ) → text ≢ quoted (escaped_text inside) ++ rest
 FindsText text (Err Memory) = ⊤
 
--- what a text goes on with, whose first byte doesn't stand for itself
-abbrev pub IsStop : List ℕ → Stop → Type 0
-IsStop text Quote = text ≡ 39 ∷ drop 1 text
-IsStop text (Byte byte) = (escape_letter byte ≢ 0) × (text ≡ 92 ∷ escape_letter byte ∷ drop 2 text)
-IsStop text Other = (inside rest : List ℕ) → text ≢ escaped_text inside ++ 39 ∷ rest
+-- a text begins with this byte, which takes so many bytes there
+pub record LeadsByte (byte size : ℕ) (text : List ℕ) : Type 0 where
+  pub spelled : text ≡ escaped byte ++ drop size text
+  pub some : 1 ≤ size
+  pub within : size ≤ length text
+
+-- no byte of a text stands at the head
+abbrev pub LeadsNoByte : List ℕ → Type 0
+LeadsNoByte text = (byte : ℕ) (rest : List ℕ) → text ≢ escaped byte ++ rest
+
+-- a list grew by the bytes that a text begins with, and this is the rest
+pub record TakesText (old new text rest : List ℕ) : Type 0 where
+  pub bytes : List ℕ
+  pub grown : new ≡ old ++ bytes
+  pub spelled : text ≡ escaped_text bytes ++ rest
