@@ -1,7 +1,7 @@
 use Rattle.std.proofs.Common.{◌∙◌}
 use Rattle.std.proofs.lemmas.Bool.{iff_false}
 use Rattle.row_text.proofs.WholeLine.{is_front}
-use Rattle.row_text.proofs.read.behind.Goals as goal
+use Rattle.row_text.proofs.ends.behind.Goals as goal
 
 pub returns-else-are_same-clause-none : goal.returns-else-are_same-clause-none
 returns-else-are_same-clause-none c = λ _ rest e.
