@@ -28,7 +28,7 @@ def index_bytes(made, segments):
     count = len(made.records)
     struct.pack_into('>IIII', page, 0, 0, made.number, made.changes.get('before', FIL_NULL),
                      made.changes.get('after', FIL_NULL))
-    struct.pack_into('>H', page, 24, made.changes.get('kind', 17855))
+    struct.pack_into('>HI', page, 24, made.changes.get('kind', 17855), made.changes.get('key_version', 0))
     struct.pack_into('>HHHHH', page, 38, 2, at, made.changes.get('new_format', 0x8000) + count + 2, 0, 0)
     struct.pack_into('>H', page, 54, count)
     struct.pack_into('>HQ', page, 64, made.level, made.index_id)

@@ -41,6 +41,11 @@ class NotServed(Exception):
     pass
 
 
+def decimal_size(digits, places):
+    """The bytes of a decimal: groups of nine digits, counted from the point."""
+    return sum(count // 9 * 4 + DIGITS[count % 9] for count in (digits - places, places))
+
+
 class Tokens:
     """The words of a text from a place on; each is a pair of its kind and its text."""
 
@@ -147,8 +152,7 @@ class Column:
         if kind == 'bit':
             return ((numbers or [1])[0] + 7) // 8
         if kind == 'decimal':
-            digits, places = (numbers + [10, 0][len(numbers):])[:2]
-            return sum(count // 9 * 4 + DIGITS[count % 9] for count in (digits - places, places))
+            return decimal_size(*(numbers + [10, 0][len(numbers):])[:2])
         if kind in ('time', 'datetime', 'timestamp'):
             return LENGTHS[kind] + ((numbers or [0])[0] + 1) // 2
         return LENGTHS.get(kind)

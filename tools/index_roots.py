@@ -10,18 +10,19 @@ import collections
 import functools
 import struct
 
-from tablespace_file import FIL_NULL, INDEX, LEVEL, PAGE_SIZE, NotTold, type_of
+from create_table import decimal_size
+from tablespace_file import INDEX, LEVEL, PAGE_SIZE, RECORDS, NotTold, type_of
 
-INFIMUM, SUPREMUM, HEAP_START = 99, 112, 120
-HEAP_TOP, GARBAGE, RECORDS = 40, 46, 54
+INFIMUM, HEAP_START = 99, 120
+HEAP_TOP, GARBAGE = 40, 46
+# The mark of a deleted record, and how many entries are looked up at most, about.
 DELETED, ENTRIES = 0x20, 20
 
-# A field of a record: its length where all values have one, else the greatest one, whether it may be null, whether it
-# may go on in pages of its own, and whether it is filled with spaces where it is compared.
+# A field of a record: its length where all values have one, the greatest one, whether it may be null, and whether it is
+# filled with spaces where it is compared.
 Field = collections.namedtuple('Field', 'fixed longest null is_text')
 SYSTEM = {length: Field(length, length, False, False) for length in (4, 6, 7)}
 INTEGERS = {'tinyint': 1, 'smallint': 2, 'mediumint': 3, 'int': 4, 'bigint': 8, 'date': 3, 'year': 1}
-DIGITS = (0, 1, 1, 2, 2, 3, 3, 4, 4, 4)
 
 
 class Shape:
@@ -44,7 +45,7 @@ def field_of(words):
     elif kind in ('datetime', 'timestamp'):
         fixed = (5 if kind == 'datetime' else 4) + (numbers[0] + 1) // 2
     elif kind == 'decimal':
-        fixed = sum(count // 9 * 4 + DIGITS[count % 9] for count in (numbers[0] - numbers[1], numbers[1]))
+        fixed = decimal_size(*numbers)
     else:
         longest = numbers[0] * (4 if 'utf8mb4' in words else 1) if numbers else PAGE_SIZE * PAGE_SIZE
         return Field(None, longest, null, is_text)

@@ -15,15 +15,17 @@ FIL_NULL = 0xFFFFFFFF
 LEAST_PAGES = 4
 
 # Types of pages (fil0fil.h).
-SPACE_HEADER, INODES, INDEX, RTREE, DICTIONARY, INSTANT = 8, 3, 17855, 17854, 17853, 18
-COMPRESSED_PAGES = {14: 'MySQL', 34354: 'MariaDB'}
-CIPHERED_PAGES = (15, 16, 17, 37401)
+SPACE_HEADER, INODES, INDEX = 8, 3, 17855
+OTHER_PAGES = {14: 'page compression of MySQL', 34354: 'page compression of MariaDB', 15: 'encrypted', 16: 'encrypted',
+               17: 'encrypted', 37401: 'encrypted', 17853: 'a file of MySQL 8.0', 17854: 'a spatial index',
+               18: 'a column that was added or dropped instantly'}
 
 # Places on page 0, on a page of inodes, on an index page.
 SIZE, FLAGS, INODES_FULL, INODES_FREE, DESCRIPTORS, DESCRIPTOR_SIZE = 46, 54, 118, 134, 150, 40
 INODE_LIST_NODE, FIRST_INODE, INODE_SIZE, INODE_COUNT = 38, 50, 192, 85
-INODE_MAGIC, MAGIC_PLACE, SLOTS_PLACE, SLOTS = 97937874, 60, 64, 32
-HEAP_COUNT, RECORDS, LEVEL, INDEX_ID, LEAF_SEGMENT, TOP_SEGMENT = 42, 54, 64, 66, 74, 84
+INODE_MAGIC, SLOTS_PLACE, SLOTS = 97937874, 64, 32
+KEY_VERSION, HEAP_COUNT, RECORDS, LEVEL, LEAF_SEGMENT, TOP_SEGMENT = 26, 42, 54, 64, 74, 84
+NEW_FORMAT = 128
 
 # Bits of the flags.
 ZIP_SIZE, FULL_CRC32 = 0b11110, 0b10000
@@ -73,11 +75,12 @@ class TablespaceFile:
             raise NotTold('page 0 has the type %d, and the head of a tablespace has %d' % (type_of(self.head),
                                                                                          SPACE_HEADER))
         if flags & ~DATA_DIRECTORY not in FORMATS:
-            raise LeftOut('flags %d, which no served format has' % flags)
-        why = self.other_pages()
+            raise NotTold('flags %d, which no served format has' % flags)
+        row_format = FORMATS[flags & ~DATA_DIRECTORY]
+        why = self.other_pages(row_format)
         if why:
             raise LeftOut(why)
-        return FORMATS[flags & ~DATA_DIRECTORY]
+        return row_format
 
     def other_form(self, flags):
         """What isn't served by the flags of page 0, or nothing."""
@@ -96,23 +99,18 @@ class TablespaceFile:
                 return why
         return None
 
-    def other_pages(self):
-        """What isn't served by the first pages, or nothing."""
-        for number in range(1, min(self.size(), EXTENT_PAGES)):
-            page = self.page(number)
-            kind = type_of(page)
-            if kind in COMPRESSED_PAGES:
-                return 'page compression of %s (page %d)' % (COMPRESSED_PAGES[kind], number)
-            if kind in CIPHERED_PAGES or kind == INDEX and page[26:30] != bytes(4):
-                return 'encrypted (page %d)' % number
-            if kind == DICTIONARY:
-                return 'a file of MySQL 8.0 (page %d)' % number
-            if kind == INSTANT:
-                return 'a column that was added or dropped instantly (page %d)' % number
-            if kind == RTREE:
-                return 'a spatial index (page %d)' % number
-            if kind == INDEX and page[HEAP_COUNT] < 128 and self.is_used(number):
-                return 'ROW_FORMAT=REDUNDANT (page %d)' % number
+    def other_pages(self, row_format):
+        """What isn't served by the used ones of the first pages, or nothing."""
+        pages = {number: self.page(number) for number in range(1, min(self.size(), EXTENT_PAGES))
+                 if self.is_used(number)}
+        for number, page in pages.items():
+            if type_of(page) in OTHER_PAGES:
+                return '%s (page %d)' % (OTHER_PAGES[type_of(page)], number)
+        indexes = [page for page in pages.values() if type_of(page) == INDEX]
+        if indexes and all(page[KEY_VERSION:KEY_VERSION + 4] != bytes(4) for page in indexes):
+            return 'encrypted'
+        if row_format == 'compact' and indexes and all(page[HEAP_COUNT] < NEW_FORMAT for page in indexes):
+            return 'ROW_FORMAT=REDUNDANT'
         return None
 
     def size(self):
@@ -121,7 +119,8 @@ class TablespaceFile:
 
     def is_used(self, number):
         """Whether the bitmap of its extent says so."""
-        page = self.page(number // DESCRIBED_PAGES * DESCRIBED_PAGES)
+        descriptors = number // DESCRIBED_PAGES * DESCRIBED_PAGES
+        page = self.page(descriptors) if descriptors else self.head
         extent, place = divmod(number % DESCRIBED_PAGES, EXTENT_PAGES)
         byte = page[DESCRIPTORS + DESCRIPTOR_SIZE * extent + 24 + place // 4]
         return byte >> place % 4 * 2 & 1 == 0
