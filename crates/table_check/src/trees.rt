@@ -120,6 +120,7 @@ fn walk_indexes<S: PageSource, L: Ledger>(
         AreWalked file schema.now (index_count schema.now) taken.new clustered leaf_segments.new.items)) }
     ensures ends { OnOk result (OfFile S.PageSource source.old (λ file.
         AreEnds file schema.now (index_count schema.now) list.new)) }
+    ensures count { OnOk result (length list.new ≡ index_count schema.now) }
     ensures members { length taken.new.pages ≡ length taken.old.pages }
     ensures segments { length taken.new.segments ≡ length taken.old.segments }
     ensures leaves { OnOk result
@@ -163,6 +164,7 @@ pub(crate) fn check_trees<S: PageSource, L: Ledger>(
     requires audit { OfFile S.PageSource source.old (λ file. IsAuditOf file space.now) }
     ensures exact { OfFile S.PageSource source.old (λ file. Answers result (TableTreeChecks file schema.now)) }
     ensures trees { IfOk result (λ trees. OfFile S.PageSource source.old (λ file. AreTrees file schema.now trees)) }
+    ensures count { IfOk result (λ trees. length trees.ends ≡ index_count schema.now) }
     ensures members { IfOk result (λ trees. length trees.marks ≡ space.now.size) }
     ensures leaves { IfOk result (λ trees.
         LeavesSome (leaves_of trees.ends) trees.marks space.now.size steps.old steps.new) }

@@ -1,4 +1,4 @@
-use Rattle.std.proofs.Common.{◌≡◌, ℕ, List, [], ◌∷◌, ◌++◌, length, ap, ◌∙◌, subst, arith}
+use Rattle.std.proofs.Common.{◌≡◌, ℕ, List, [], ◌∷◌, ◌++◌, length, ap, ◌∙◌, subst, arith, length-append}
 use Rattle.std.proofs.lemmas.Result.{err_from_is_err_and}
 use Rattle.page_source.proofs.Told.{told1, told2, told3, told4}
 use Rattle.tree_walk.specs.declared.ends.TreeEnds.{TreeEnds}
@@ -32,6 +32,7 @@ loop-j-init g c =
         fewer = omega (arith, first_leaves, c.in_ok-clustered.ensures.leaves.fewer);
         cost = omega (arith, first_leaves, c.in_ok-clustered.ensures.leaves.cost);
       };
+      count = ap length first_list;
       least = omega (arith, first_leaves);
       ends =
           told2 (g.S.PageSource.content c.args.source.now)
@@ -77,6 +78,12 @@ loop-j-preserved g c =
         fewer = omega (arith, inv.leaves.fewer, more.fewer, grown);
         cost = omega (arith, inv.leaves.cost, more.cost, grown);
       };
+      count = omega (
+        arith,
+        inv.count,
+        ap length c.in_ok-push-2.ensures.ends,
+        length-append c.loop-j.list (c.in_ok-ends.ends ∷ []),
+      );
       least = omega (arith, inv.least, grown);
       ends =
           told3 (g.S.PageSource.content c.args.source.now)
@@ -131,3 +138,14 @@ returns-clause-ends g c =
     ) in
     told1 (g.S.PageSource.content c.args.source.now)
     (λ file are. subst (λ (n : ℕ). AreEnds file c.args.schema.now n c.loop-j.list) e are) c.loop-j.invariant.ends
+
+pub returns-clause-count : goal.returns-clause-count
+returns-clause-count g c =
+    omega (
+      arith,
+      c.loop-j.invariant.count,
+      c.loop-j-test.false,
+      c.loop-j.auto.j-end,
+      ap length c.indexes-count.ensures.same,
+      c.indexes-count.ensures.table.clustered,
+    )

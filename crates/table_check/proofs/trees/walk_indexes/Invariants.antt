@@ -15,6 +15,7 @@ invariant-loop-j g l =
       segments : length l.taken.segments ≡ length l.fn.taken.segments;
       room : HasRoom l.walk 128;
       leaves : LeavesRoom (leaves_of l.list) l.fn.taken.pages l.taken.pages l.fn.steps l.steps;
+      count : length l.list ≡ l.j;
       least : l.clustered.leaves ≤ leaves_of l.list;
       ends : OfFile g.S.PageSource l.fn.source (λ file. AreEnds file l.schema l.j l.list);
       told : OfFile g.S.PageSource l.fn.source (λ file.
