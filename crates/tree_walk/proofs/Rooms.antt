@@ -21,5 +21,3 @@ has_room old new n s r = record {
   first = rw s.first r.first;
   last = rw s.last r.last;
 }
-
-}
