@@ -1,5 +1,5 @@
 -- A file that holds the divided trees of some entries has these trees, with the entries as their rows.
-use Rattle.std.specs.Prelude.{◌≡◌, ℕ, ◌*◌, ◌<◌, ◌≤◌, List, map, filter}
+use Rattle.std.specs.Prelude.{◌≡◌, ℕ, ◌<◌, ◌≤◌, List, map, filter}
 use Rattle.std.specs.List.{AllZip}
 use Rattle.page_source.specs.Lists.{times_in}
 use Rattle.tree_walk.specs.Index.{Index, leaf_rows, is_live_row}
