@@ -33,20 +33,24 @@ const ID: Field = Field {
     may_leave: false,
 };
 
-fn hidden(kind: FieldType) -> Field {
-    Field {
-        kind,
-        nullable: false,
-        may_leave: false,
-    }
-}
+const TRX_ID: Field = Field {
+    kind: FieldType::TrxId,
+    nullable: false,
+    may_leave: false,
+};
+
+const ROLL_POINTER: Field = Field {
+    kind: FieldType::RollPointer,
+    nullable: false,
+    may_leave: false,
+};
 
 /// The fields of a row of a table with the key `id int`.
 fn rows(alloc: Global) -> Result<FieldList, NoMemory> {
     let mut fields = FieldList::new(alloc, 0, 1);
     fields.push(ID)?;
-    fields.push(hidden(FieldType::TrxId))?;
-    fields.push(hidden(FieldType::RollPointer))?;
+    fields.push(TRX_ID)?;
+    fields.push(ROLL_POINTER)?;
     Ok(fields)
 }
 
