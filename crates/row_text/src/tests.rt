@@ -1,6 +1,6 @@
 //! Values with the bytes that spell them and the text that a line has for them.
 
-ghost use Rattle.std.specs.Prelude.{◌≡◌, ◌≤◌, length, true};
+ghost use Rattle.std.specs.Prelude.{◌≡◌, ◌≤◌, true};
 ghost use Rattle.row_text.specs.Writer.{is_long};
 
 use crate::writer::RowWriter;
