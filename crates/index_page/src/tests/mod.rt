@@ -64,12 +64,15 @@ fn records_of(
     let mut scratch = Scratch::new(alloc, MEMBERS)?;
     assert!(rt; fields.keys() as usize <= fields.fields().len());
     assert!(rt; fields.fields().len() <= MEMBERS as usize);
-    Ok(
-        match page_fault(&mut scratch, page, fields, true, true, true) {
-            None => Ok(Records::of(alloc, page, fields)?),
-            Some(rule) => Err(rule),
-        },
-    )
+    match page_fault(&mut scratch, page, fields, true, true, true) {
+        None => {
+            if mark_fault(page, true, true) {
+                return Ok(Err(Rule::MinimumMark));
+            }
+            Ok(Ok(Records::of(alloc, page, fields)?))
+        }
+        Some(rule) => Ok(Err(rule)),
+    }
 }
 
 #[test]
@@ -93,17 +96,17 @@ fn reads_records(rt: HostRuntime) -> Result<(), Fail> {
     Ok(())
 }
 
-/// The supremum owns one record less, and the first row has the mark of the least pointer.
+/// The first row has the mark of the least pointer, and then the supremum owns one record less too.
 #[test]
 fn names_a_broken_rule(rt: HostRuntime) -> Result<(), Fail> {
     let mut page = Page::zeroed(rt.alloc())?;
     put_pieces(&rt, &mut page, &pages::THREE_ROWS);
     let fields = rows(rt.alloc())?;
-    assert!(rt; !mark_fault(&page, true, true));
-    page.put_bytes(107, &[3]);
     page.put_bytes(120, &[0x10]);
     let found = records_of(&rt, rt.alloc(), &page, &fields)?;
+    assert_eq!(rt; found.err(), Some(Rule::MinimumMark));
+    page.put_bytes(107, &[3]);
+    let found = records_of(&rt, rt.alloc(), &page, &fields)?;
     assert_eq!(rt; found.err(), Some(Rule::Directory));
-    assert!(rt; mark_fault(&page, true, true));
     Ok(())
 }
