@@ -222,7 +222,7 @@ class Index:
 
 class Table:
     def __init__(self):
-        self.name, self.database, self.format, self.is_read = '', None, None, False
+        self.name, self.database, self.format, self.is_read, self.fills = '', None, None, False, True
         self.charset = self.collation = None
         self.columns, self.indexes, self.refused = [], [], []
 

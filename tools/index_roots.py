@@ -11,7 +11,7 @@ import functools
 import struct
 
 from create_table import decimal_size
-from tablespace_file import INDEX, LEVEL, PAGE_SIZE, RECORDS, NotTold, type_of
+from tablespace_file import INDEX, LEVEL, PAGE_SIZE, RECORDS, NotTold, Root, type_of
 
 INFIMUM, HEAP_START = 99, 120
 HEAP_TOP, GARBAGE = 40, 46
@@ -150,11 +150,16 @@ class Trees:
             return None
         return Page(data)
 
-    def entries(self, page, shape):
-        """The values of some entries of the first leaf that aren't deleted."""
+    def first_leaf(self, page, shape):
+        """The first leaf below a page; nothing where none is found."""
         while page and page.level:
             values = [page.values(origin, shape) for origin in page.origins()[:1]]
             page = self.child(page, values[0]) if values and values[0] else None
+        return page
+
+    def entries(self, page, shape):
+        """The values of some entries of the first leaf that aren't deleted."""
+        page = self.first_leaf(page, shape)
         origins = [origin for origin in page.origins() if not page.data[origin - 5] & DELETED] if page else []
         step = max(1, len(origins) // ENTRIES)
         return [values for values in (page.values(origin, shape) for origin in origins[::step]) if values]
@@ -278,12 +283,24 @@ def pages_of(table, schema, file):
 
 def schema_of(table, roots, default_format, file=None):
     """The schema text of a table, with the roots and the row format of a file where one is given. Raises NotTold where
-    the file doesn't tell them; what else isn't served is on the table's list of what is refused then."""
+    the file doesn't tell them; what else isn't served is on the table's list of what is refused then. Whether the rows
+    are as long as its columns is said by `fills` of the table."""
     if file is not None:
         table.format = file.row_format()
     if not table.is_read:
         return ''
     schema = table.schema_text(roots, default_format)
-    if file is not None and roots is None and not table.refused:
-        schema = table.schema_text(pages_of(table, schema, file), default_format)
+    if file is not None and not table.refused:
+        roots = roots or pages_of(table, schema, file)
+        schema = table.schema_text(roots, default_format)
+        table.fills = fills(schema, roots[0], file)
     return schema
+
+
+def fills(schema, root, file):
+    """Whether the rows of the first leaf, with what was freed, are as long as what is used of the page: where they
+    aren't, the file has other columns, as after an ADD COLUMN. True where there is no such leaf."""
+    shapes = shapes_of(schema)
+    trees = Trees(file, shapes, [Root(root, 0, 0, 0)])
+    leaf = trees.first_leaf(trees.pages[0], shapes[0])
+    return leaf is None or leaf.fits(shapes[0])

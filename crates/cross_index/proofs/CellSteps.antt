@@ -24,8 +24,8 @@ use Rattle.std.specs.Ordering.{is_lt}
 use Rattle.std.proofs.lemmas.List.FromFn.{length-range_with_len, get_or-range_with_len, length-map-range_with_len}
 use Rattle.std.proofs.lemmas.List.FromFn.{get_or-map-range_with_len}
 use Rattle.std.proofs.lemmas.List.Sorted.{All-permutation}
-use Rattle.cross_index.specs.Kept.{LiesIn, kept_key, kept_keys}
-use Rattle.cross_index.specs.Order.{IsOrder}
+use Rattle.cross_index.specs.calls.Kept.{LiesIn, kept_key, kept_keys}
+use Rattle.cross_index.specs.calls.Order.{IsOrder}
 
 -- where a null value lies
 abbrev pub null_place : Place

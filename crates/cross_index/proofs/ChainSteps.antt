@@ -12,8 +12,7 @@ use Rattle.offpage_chain.specs.Chain.{part_length, part_bytes, chain_pages, byte
 use Rattle.offpage_chain.specs.Reader.{ChainRest, GoesOnAlong, GivesNext}
 use Rattle.sql_dump.specs.Long.{CanFollowIn, chain_bytes}
 use Rattle.cross_index.specs.declared.crossed.CrossStop.{CrossStop}
-use Rattle.cross_index.specs.Compare.{cross_stop_of}
-use Rattle.cross_index.specs.Gather.{OnlyReads}
+use Rattle.cross_index.specs.Stops.{cross_stop_of, OnlyReads}
 
 -- the bytes of the first pages of a chain were added, each for one fetch
 pub record ChainSoFar (file : List ℕ) (reference : Reference) (rest : ChainRest) (old now : List ℕ) (most left : ℕ)

@@ -35,9 +35,10 @@ use Rattle.cross_index.specs.declared.crossed.CrossStop.TheVariants as stops
 use Rattle.cross_index.specs.Entries.{entries_in, entry_kinds, row_keys, entry_keys}
 use Rattle.cross_index.specs.Sides.{IsLeastLone, HaveSameKeys, AreMatched, Rise, AreApart}
 use Rattle.cross_index.specs.Differ.{Missing, Extra, IndexDiffers}
-use Rattle.cross_index.specs.Order.{IsOrder, in_order}
-use Rattle.cross_index.specs.Kept.{LiesIn, kept_key, kept_keys}
-use Rattle.cross_index.specs.Compare.{IsReadKey, Meets, EndsAt, CanCompare, Compares, cross_stop_of}
+use Rattle.cross_index.specs.calls.Order.{IsOrder, in_order}
+use Rattle.cross_index.specs.calls.Kept.{LiesIn, kept_key, kept_keys}
+use Rattle.cross_index.specs.Stops.{cross_stop_of}
+use Rattle.cross_index.specs.calls.Compare.{IsReadKey, Meets, EndsAt, CanCompare, Compares}
 use Rattle.cross_index.proofs.Sides.{parts_least, matched_same, matched_back, matched_more}
 use Rattle.cross_index.proofs.Merge.{in_order_size, in_order_at, place_within, order_rises, least_in_order, least_beside}
 use Rattle.cross_index.proofs.Merge.{same_in_order}

@@ -15,8 +15,8 @@ use Rattle.tree_walk.specs.Index.{Index, Row, no_row}
 use Rattle.table_check.specs.Trees.{clustered_tree}
 use Rattle.table_check.specs.Values.{live_rows}
 use Rattle.cross_index.specs.Entries.{entry_fields, field_of_row, projection, rows_in, row_keys}
-use Rattle.cross_index.specs.Kept.{kept_key, kept_keys}
-use Rattle.cross_index.specs.Gather.{kept_fields, kept_cells, IsGathered, StandsAt}
+use Rattle.cross_index.specs.calls.Kept.{kept_key, kept_keys}
+use Rattle.cross_index.specs.calls.Gather.{kept_fields, kept_cells, IsGathered, StandsAt}
 
 -- lists of one length with the same members, place by place
 same_list : {X : Type 0} (xs ys : List X) (d : X) → length xs ≡ length ys

@@ -1,5 +1,7 @@
 pub mod Sides
 pub mod Keys
+pub mod Rising
+pub mod EntryKinds
 pub mod Rows
 pub mod Differences
 pub mod Merge
@@ -7,6 +9,10 @@ pub mod CellSteps
 pub mod EntrySteps
 pub mod ChainSteps
 pub mod RowSteps
+pub mod KeptPages
 pub mod GatherSteps
 pub mod KeysAre
 pub mod KeptSteps
+pub mod EntryFields
+pub mod IndexSteps
+pub mod AllSteps

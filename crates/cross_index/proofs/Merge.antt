@@ -19,7 +19,7 @@ use Rattle.std.proofs.lemmas.Bool.Decides.{nat_tests}
 use Rattle.std.proofs.lemmas.Map.Keys.{IsDistinct-from_apart, IsDistinct-IsPermutation, apart_from_distinct}
 use Rattle.std.proofs.lemmas.List.Elements.{All-contains}
 use Rattle.cross_index.specs.Sides.{HoldsKey, IsLone, IsLeast, IsLeastLone, HaveSameKeys}
-use Rattle.cross_index.specs.Order.{key_less, IsOrder, in_order}
+use Rattle.cross_index.specs.calls.Order.{key_less, IsOrder, in_order}
 use Rattle.cross_index.specs.Sides.{Rise, AreApart}
 
 -- two different numbers aren't the same, whichever comes first

@@ -7,7 +7,7 @@ use Rattle.std.proofs.lemmas.List.Sums.{sum_by-append}
 use Rattle.column_values.specs.Order.{Key}
 use Rattle.compact_record.specs.declared.places.Place.{Place}
 use Rattle.cross_index.specs.Entries.{whole_cell}
-use Rattle.cross_index.specs.Gather.{CanFollowPlace, CanGather, pages_of_place, place_in, pages_of_fields, cells_of}
+use Rattle.cross_index.specs.calls.Gather.{CanFollowPlace, CanGather, pages_of_place, place_in, pages_of_fields, cells_of}
 
 -- the values of the first n fields were added
 pub record RowSoFar (file page : List ℕ) (places : List Place) (kept : List ℕ) (old now : Key) (most left n : ℕ)

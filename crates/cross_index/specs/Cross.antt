@@ -1,7 +1,6 @@
 -- What a comparison answers.
-use Rattle.std.specs.Prelude.{◌≡◌, ℕ, ◌-◌, ◌≤◌, ⊤, List, length, sum_by, Option, Some, None, Result, Ok, Err}
+use Rattle.std.specs.Prelude.{◌≡◌, ℕ, ◌-◌, ⊤, List, length, sum_by, Option, Some, None, Result, Ok, Err}
 use Rattle.std.specs.List.{range_with_len}
-use Rattle.page_source.specs.Faults.{Rose}
 use Rattle.schema_text.specs.TableDef.{TableDef}
 use Rattle.table_check.specs.Trees.{index_count}
 use Rattle.table_check.specs.First.{First}
@@ -12,11 +11,17 @@ use Rattle.cross_index.specs.declared.crossed.CrossStop.TheVariants as stops
 use Rattle.cross_index.specs.Entries.{entries_in}
 use Rattle.cross_index.specs.Differ.{Difference, Missing, Extra, Differ}
 
+-- how many entries the first n secondary indexes have, and all of them
+abbrev pub entries_of : List ℕ → TableDef → ℕ → ℕ
+entries_of file table n = sum_by (λ i. length (entries_in file table i)) (range_with_len 1 n)
+
+abbrev pub entry_count : List ℕ → TableDef → ℕ
+entry_count file table = entries_of file table (index_count table - 1)
+
 -- how many secondary indexes there are, and how many entries they have
 pub record IsCrossed (file : List ℕ) (table : TableDef) (crossed : Crossed) : Type 0 where
   pub has_indexes : crossed.indexes ≡ index_count table - 1
-  pub has_entries : crossed.entries
-      ≡ sum_by (λ i. length (entries_in file table i)) (range_with_len 1 (index_count table - 1))
+  pub has_entries : crossed.entries ≡ entry_count file table
 
 -- the file is sound, and its indexes and rows differ so
 pub record Differs (file : List ℕ) (table : TableDef) (difference : Option Difference) : Type 0 where

@@ -1,9 +1,7 @@
 pub mod Entries
 pub mod Sides
-pub mod Order
-pub mod Kept
 pub mod Differ
-pub mod Compare
-pub mod Gather
+pub mod Stops
 pub mod Cross
 pub mod Laws
+pub mod calls

@@ -4,7 +4,7 @@ ghost use Rattle.std.specs.Prelude.{◌≡◌, ◌++◌, ◌∷◌, [], All, Som
 ghost use Rattle.column_values.specs.Order.{cell_cmp};
 ghost use Rattle.compact_record.specs.Reading.{cell_at};
 ghost use Rattle.compact_record.specs.declared.places.Place.{Place};
-ghost use Rattle.cross_index.specs.Kept.{LiesIn};
+ghost use Rattle.cross_index.specs.calls.Kept.{LiesIn};
 
 use column_values::{FieldType, compare};
 use compact_record::Place;
@@ -34,7 +34,7 @@ impl Model for Cells {
     ghost use Rattle.std.specs.Prelude.{map, length, All};
     ghost use Rattle.column_values.specs.Order.{Key};
     ghost use Rattle.compact_record.specs.Reading.{cell_at};
-    ghost use Rattle.cross_index.specs.Kept.{LiesIn};
+    ghost use Rattle.cross_index.specs.calls.Kept.{LiesIn};
 
     ghost Value = { Key };
 

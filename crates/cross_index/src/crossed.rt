@@ -1,7 +1,7 @@
 //! What a comparison answers.
 
 ghost use Rattle.std.specs.Prelude.{◌≡◌};
-ghost use Rattle.cross_index.specs.Compare.{cross_stop_of, cross_stop_of_checks};
+ghost use Rattle.cross_index.specs.Stops.{cross_stop_of, cross_stop_of_checks};
 
 use page_source::{Fault, Halt, NoMemory, Stop};
 

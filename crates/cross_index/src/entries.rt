@@ -5,9 +5,10 @@ ghost use Rattle.page_source.specs.Calls.{OfFile};
 ghost use Rattle.compact_record.specs.Reading.{IsHeapOrigin, IsSpelled, key_kinds, record_end};
 ghost use Rattle.compact_record.specs.Keys.{key_at};
 ghost use Rattle.schema_text.specs.IndexFields.{leaf_fields};
-ghost use Rattle.cross_index.specs.Kept.{LiesIn, kept_keys};
-ghost use Rattle.cross_index.specs.Order.{IsOrder};
-ghost use Rattle.cross_index.specs.Compare.{CrossesOver, IsReadKey, Meets, EndsAt, CanCompare, Compares};
+ghost use Rattle.cross_index.specs.calls.Kept.{LiesIn, kept_keys};
+ghost use Rattle.cross_index.specs.calls.Order.{IsOrder};
+ghost use Rattle.cross_index.specs.Stops.{CrossesOver};
+ghost use Rattle.cross_index.specs.calls.Compare.{IsReadKey, Meets, EndsAt, CanCompare, Compares};
 
 use crate::crossed::CrossStop;
 use crate::order::{Keys, compare_record};

@@ -9,9 +9,9 @@ ghost use Rattle.schema_text.specs.IndexFields.{leaf_fields};
 ghost use Rattle.table_check.specs.Trees.{clustered_tree};
 ghost use Rattle.table_check.specs.Values.{all_chain_pages};
 ghost use Rattle.cross_index.specs.Entries.{whole_cell};
-ghost use Rattle.cross_index.specs.Compare.{CrossesOver};
-ghost use Rattle.cross_index.specs.Gather.{OnlyReads, CanFollowPlace, CanGather, CanGatherAll, IsGathered, pages_of_place};
-ghost use Rattle.cross_index.specs.Gather.{pages_of_fields, cells_of, kept_fields};
+ghost use Rattle.cross_index.specs.Stops.{CrossesOver, OnlyReads};
+ghost use Rattle.cross_index.specs.calls.Gather.{CanFollowPlace, CanGather, CanGatherAll, IsGathered, pages_of_place};
+ghost use Rattle.cross_index.specs.calls.Gather.{pages_of_fields, cells_of, kept_fields};
 
 use crate::cells::Cells;
 use crate::crossed::CrossStop;

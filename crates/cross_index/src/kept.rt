@@ -8,7 +8,7 @@ ghost use Rattle.schema_text.specs.IndexFields.{positions_without};
 ghost use Rattle.schema_text.specs.IndexFields.{fields_of_columns};
 ghost use Rattle.cross_index.specs.Entries.{entry_fields};
 ghost use Rattle.schema_text.specs.IndexFields.{leaf_fields};
-ghost use Rattle.cross_index.specs.Gather.{all_entry_fields, kept_fields, StandsAt};
+ghost use Rattle.cross_index.specs.calls.Gather.{all_entry_fields, kept_fields, StandsAt};
 
 use page_source::NoMemory;
 use schema_text::Schema;

@@ -2,12 +2,18 @@
 #![tactic(auto)]
 
 mod cells;
+mod cross_check;
 mod crossed;
 mod entries;
 mod gather;
+mod gathered;
+mod indexes;
 mod kept;
 pub mod laws;
 mod long;
 mod order;
+#[cfg(test)]
+mod tests;
 
+pub use cross_check::cross;
 pub use crossed::{CrossStop, Crossed};

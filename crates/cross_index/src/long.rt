@@ -6,8 +6,7 @@ ghost use Rattle.offpage_chain.specs.Chain.{chain_pages};
 ghost use Rattle.offpage_chain.specs.Reference.{reference_of};
 ghost use Rattle.table_check.specs.Values.{front_of};
 ghost use Rattle.sql_dump.specs.Long.{CanFollowIn, chain_bytes, whole_bytes};
-ghost use Rattle.cross_index.specs.Compare.{CrossesOver};
-ghost use Rattle.cross_index.specs.Gather.{OnlyReads};
+ghost use Rattle.cross_index.specs.Stops.{CrossesOver, OnlyReads};
 
 use crate::crossed::CrossStop;
 use offpage_chain::{ChainReader, Reference, read_reference};

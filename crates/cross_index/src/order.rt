@@ -7,8 +7,8 @@ ghost use Rattle.column_values.specs.Order.{key_cmp};
 ghost use Rattle.compact_record.specs.Reading.{key_kinds};
 ghost use Rattle.compact_record.specs.Keys.{key_at};
 ghost use Rattle.compact_record.specs.declared.places.Place.{Place};
-ghost use Rattle.cross_index.specs.Kept.{LiesIn, kept_key, kept_keys};
-ghost use Rattle.cross_index.specs.Order.{IsOrder};
+ghost use Rattle.cross_index.specs.calls.Kept.{LiesIn, kept_key, kept_keys};
+ghost use Rattle.cross_index.specs.calls.Order.{IsOrder};
 
 use crate::cells::Cells;
 use column_values::{Field, FieldList};

@@ -7,6 +7,7 @@ mod choose;
 mod fetch;
 mod find;
 mod key;
+mod key_text;
 pub mod laws;
 mod leaf;
 mod look_up;
@@ -17,6 +18,5 @@ mod tree;
 mod value;
 mod way;
 
-pub use by_key::get_by_key;
-pub use key::SearchKey;
+pub use by_key::get;
 pub use stop::GetStop;

@@ -1,9 +1,8 @@
 -- The text of a value, or of no value, at the head of a text.
-use Rattle.std.proofs.Common.{◌≡◌, ℕ, List, ◌++◌, drop, true, false, Result, Ok, Err, inl, inr, sym, ap, ◌∙◌, subst}
+use Rattle.std.proofs.Common.{◌≡◌, ℕ, List, ◌++◌, true, false, Result, Ok, Err, inl, inr, sym, ap, ◌∙◌}
 use Rattle.std.specs.Prelude.{codes}
 use Rattle.std.proofs.lemmas.Bool.{false≢true}
 use Rattle.column_values.specs.declared.value.Value.{Value}
-use Rattle.column_values.specs.declared.value.Value.TheVariants.{Null}
 use Rattle.column_values.specs.Types.{IsColumnType}
 use Rattle.schema_text.specs.declared.table.Column.{Column}
 use Rattle.row_text.specs.declared.row.RowError.{RowError}

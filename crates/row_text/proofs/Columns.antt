@@ -19,7 +19,7 @@ use Rattle.row_text.specs.Line.{FitsColumn}
 use Rattle.row_text.specs.calls.Values.{EndsValue}
 use Rattle.row_text.proofs.OneNumber.{first_digit, whole_plus, whole_minus, hex_of_some}
 use Rattle.row_text.proofs.OneText.{one_text, units_low, signed_is}
-use Rattle.row_text.proofs.Shapes.{HasShape, shape, shapes_apart, all_from, unsigned_low}
+use Rattle.row_text.proofs.Shapes.{shape, shapes_apart, unsigned_low}
 
 -- no type has the value null
 null_spells : (kind : ColumnType) (bytes : List ℕ) → Spell kind values.Null bytes → ⊥

@@ -5,9 +5,7 @@ use Rattle.row_text.specs.declared.row.RowError.{RowError}
 use Rattle.row_text.specs.declared.row.RowError.TheVariants.{Refused, Memory}
 use Rattle.column_values.specs.declared.value.Value.{Value}
 use Rattle.schema_text.specs.declared.table.Column.{Column}
-use Rattle.column_values.specs.declared.kind.ColumnType.{ColumnType}
 use Rattle.row_text.specs.calls.Rows.{IsNoText, ReadsNext, FindsValues}
-use Rattle.row_text.specs.calls.Values.{BeginsWith, FindsValue}
 
 pub next_failed : (columns : List Column) (text : List ℕ) (values : List Value) (r : Result ℕ RowError) (e : RowError)
     → IsErrAnd r (λ d. d ≡ e) → (e ≡ Refused → IsNoText columns text) → ReadsNext columns text values r

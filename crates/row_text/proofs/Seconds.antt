@@ -1,7 +1,7 @@
 -- Words of timestamps.
 use Rattle.std.proofs.Common.{◌≡◌, ◌≢◌, ℕ, ◌+◌, ◌*◌, ◌/◌, ◌%◌, ◌<◌, ◌≤◌, inl, inr, List, [], ◌∷◌, ◌++◌}
 use Rattle.std.proofs.Common.{refl, sym, ap, ◌∙◌, subst, pos, arith}
-use Rattle.std.proofs.lemmas.Bool.{cases_lt, ne_eqb}
+use Rattle.std.proofs.lemmas.Bool.{cases_lt}
 use Rattle.page_source.specs.Pages.{be_bytes}
 use Rattle.jiff_core.specs.Calendar.{day_count, days_from_civil, IsCivilDate}
 use Rattle.jiff_core.proofs.SignedLemmas.{signed_arith}
@@ -12,7 +12,6 @@ use Rattle.column_values.specs.declared.value.Value.TheVariants as values
 use Rattle.column_values.specs.Moments.{IsTimestamp, fraction_bytes}
 use Rattle.column_values.proofs.MomentValues.{timestamp_spelled}
 use Rattle.row_text.specs.declared.read_moments.MomentParts.{MomentParts}
-use Rattle.row_text.specs.Calendar.{year_of_day, month_of_day, day_of_day}
 use Rattle.row_text.specs.Values.{quoted, date_text, time_text, moment_text, day_text, timestamp_text}
 use Rattle.row_text.specs.calls.Words.{IsWordOf}
 use Rattle.row_text.specs.calls.Moments.{IsMomentWord, IsDateOf, IsSecondOf, IsNoSecond}

@@ -1,6 +1,6 @@
 -- A text in quotes that is read piece by piece.
-use Rattle.std.proofs.Common.{◌≡◌, ◌≢◌, ℕ, ◌+◌, ◌-◌, ◌<◌, ◌≤◌, ◌⊎◌, inl, inr, List, [], ◌∷◌, ◌++◌, length, take, drop}
-use Rattle.std.proofs.Common.{get_or, set, true, false, refl, sym, ap, ◌∙◌, eqb, arith, append_assoc, append-nil, length-append}
+use Rattle.std.proofs.Common.{◌≡◌, ◌≢◌, ℕ, ◌+◌, ◌-◌, ◌<◌, ◌≤◌, List, [], ◌∷◌, ◌++◌, length, take, drop}
+use Rattle.std.proofs.Common.{set, refl, sym, ap, ◌∙◌, arith, append_assoc, length-append}
 use Rattle.std.proofs.lemmas.List.{drop_at, drop-drop, take_more_set, take-append-drop}
 use Rattle.row_text.specs.Values.{escaped, escaped_text, quoted, IsPlain}
 use Rattle.row_text.specs.calls.Texts.{LeadsByte, LeadsNoByte, TakesText}

@@ -1,8 +1,8 @@
 -- A line round its values.
 use Rattle.std.proofs.Common.{◌≡◌, ◌≢◌, ℕ, List, [], ◌∷◌, ◌++◌, refl, sym, ap, ◌∙◌, append_assoc, Result, Ok, Err}
-use Rattle.std.proofs.Common.{◌+◌, ◌-◌, ◌<◌, length, take, drop, arith, length-append}
+use Rattle.std.proofs.Common.{◌+◌, ◌-◌, length, take, drop, arith, length-append}
 use Rattle.std.specs.Prelude.{codes}
-use Rattle.std.proofs.lemmas.List.{append_cancel_left, append_cancel_right, take-append-drop, take_at, drop_at}
+use Rattle.std.proofs.lemmas.List.{append_cancel_left, append_cancel_right, take_at, drop_at}
 use Rattle.column_values.specs.declared.value.Value.{Value}
 use Rattle.schema_text.specs.TableDef.{TableDef}
 use Rattle.row_text.specs.declared.row.RowError.{RowError}

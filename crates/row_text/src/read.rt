@@ -1,7 +1,7 @@
 //! Lines and texts of keys, value after value.
 
 ghost use Rattle.std.specs.Prelude.{◌≡◌, ◌≢◌, ℕ, ◌+◌, ◌<◌, ◌≤◌, ◌++◌, List, length, drop, slice_get, Some, IfOk, OnOk};
-ghost use Rattle.std.specs.Prelude.{IfSome, IsNone, IsTrue, ◌↔◌, All, codes};
+ghost use Rattle.std.specs.Prelude.{IfSome, IsNone, All, codes};
 ghost use Rattle.schema_text.specs.declared.table.Column.{Column};
 ghost use Rattle.column_values.specs.Types.{IsColumnType};
 ghost use Rattle.schema_text.specs.IndexFields.{clustered_positions};

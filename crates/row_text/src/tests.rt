@@ -1,7 +1,7 @@
 //! Values with the bytes that spell them and the text that a line has for them, one of each kind; others are lines of
 //! the crate `cases`.
 
-ghost use Rattle.std.specs.Prelude.{◌≡◌, ◌≤◌, length, true};
+ghost use Rattle.std.specs.Prelude.{◌≡◌, ◌≤◌, true};
 ghost use Rattle.row_text.specs.Writer.{is_long};
 
 use crate::writer::RowWriter;

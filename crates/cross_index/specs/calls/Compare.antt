@@ -1,11 +1,5 @@
 -- The entries of an index beside the rows in the order of their keys.
 use Rattle.std.specs.Prelude.{◌≡◌, ℕ, ◌+◌, ◌<◌, ◌≤◌, ⊤, All, List, [], length, slice_index_or, Option, Some, None, Result, Ok, Err}
-use Rattle.page_source.specs.declared.objects.PageSource.{Ghosts as FileOf}
-use Rattle.page_source.specs.declared.checks.Halt.{Halt}
-use Rattle.page_source.specs.declared.checks.Halt.TheVariants as halts
-use Rattle.page_source.specs.declared.checks.Stop.{Stop}
-use Rattle.page_source.specs.declared.checks.Stop.TheVariants as checks
-use Rattle.page_source.specs.Faults.{Rose}
 use Rattle.column_values.specs.declared.field.FieldType.{FieldType}
 use Rattle.column_values.specs.Types.{Fields}
 use Rattle.column_values.specs.Order.{Key, IsBelow, AreEqualKeys}
@@ -20,24 +14,8 @@ use Rattle.cross_index.specs.declared.crossed.CrossStop.TheVariants as stops
 use Rattle.cross_index.specs.Entries.{entries_in, entry_kinds, row_keys, entry_keys}
 use Rattle.cross_index.specs.Sides.{Rise, AreApart}
 use Rattle.cross_index.specs.Differ.{Missing, Extra, IndexDiffers}
-use Rattle.cross_index.specs.Order.{in_order}
-use Rattle.cross_index.specs.Kept.{LiesIn}
-
--- what a halt and a stop of the checks are to a comparison
-abbrev pub cross_stop_of : Halt → CrossStop
-cross_stop_of (halts.Broken fault) = stops.Broken fault
-cross_stop_of halts.Source = stops.Source
-
-abbrev pub cross_stop_of_checks : Stop → CrossStop
-cross_stop_of_checks (checks.Broken fault) = stops.Broken fault
-cross_stop_of_checks checks.Source = stops.Source
-cross_stop_of_checks checks.Memory = stops.Memory
-
--- the file is as before, its count of faults never fell, and it is blamed only where the count rose
-pub record CrossesOver {S A : Type 0} (g : FileOf S) (old new : S) (result : Result A CrossStop) : Type 0 where
-  pub same : g.content new ≡ g.content old
-  pub later : g.faults old ≤ g.faults new
-  pub rose : result ≡ Err stops.Source → Rose (g.faults old) (g.faults new)
+use Rattle.cross_index.specs.calls.Order.{in_order}
+use Rattle.cross_index.specs.calls.Kept.{LiesIn}
 
 -- the key of the record at an origin was read
 pub record IsReadKey (page : List ℕ) (origin : ℕ) (fields : Fields) (reading : Reading) : Type 0 where

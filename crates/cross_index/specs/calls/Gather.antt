@@ -15,18 +15,7 @@ use Rattle.table_check.specs.Values.{bytes_at, live_rows, pages_of_value}
 use Rattle.table_check.specs.Live.{LiveView, HasGivenLive}
 use Rattle.table_check.specs.Valid.{IsValid}
 use Rattle.sql_dump.specs.Long.{CanFollow}
-use Rattle.cross_index.specs.declared.crossed.CrossStop.{CrossStop}
-use Rattle.cross_index.specs.declared.crossed.CrossStop.TheVariants as stops
 use Rattle.cross_index.specs.Entries.{entry_fields, field_of_row, whole_cell}
-
--- a call that reads finds no rule broken in a file that tells its bytes
-abbrev pub OnlyReads : {A : Type 0} → Result A CrossStop → Type 0
-OnlyReads (Ok a) = ⊤
-OnlyReads (Err (stops.Broken fault)) = ⊥
-OnlyReads (Err (stops.Missing index row)) = ⊥
-OnlyReads (Err (stops.Extra index page)) = ⊥
-OnlyReads (Err stops.Source) = ⊤
-OnlyReads (Err stops.Memory) = ⊤
 
 -- the pages that a field goes on in, by its place
 abbrev pub pages_of_place : List ℕ → List ℕ → Place → List ℕ

@@ -9,7 +9,7 @@ use Rattle.schema_text.specs.IndexFields.{leaf_fields}
 use Rattle.tree_walk.specs.Records.{IsRecord}
 use Rattle.table_check.specs.Trees.{index_in}
 use Rattle.table_check.specs.Live.{FindsLive}
-use Rattle.cross_index.specs.Kept.{kept_keys}
+use Rattle.cross_index.specs.calls.Kept.{kept_keys}
 use Rattle.cross_index.proofs.EntrySteps.{can_give, finds, halts_so, ends_so, meets_on, meets_so, kept_size, order_below}
 use Rattle.cross_index.proofs.EntrySteps.{entry_readable}
 use Rattle.cross_index.proofs.entries.compare_entries.Goals as goal

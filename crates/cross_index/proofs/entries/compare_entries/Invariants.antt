@@ -1,6 +1,6 @@
 use Rattle.std.proofs.Common.{◌≡◌, ◌+◌, ◌≤◌, length, false}
 use Rattle.page_source.specs.Calls.{OfFile}
-use Rattle.cross_index.specs.Kept.{kept_keys}
+use Rattle.cross_index.specs.calls.Kept.{kept_keys}
 use Rattle.cross_index.proofs.EntrySteps.{HasMatched}
 use Rattle.cross_index.proofs.entries.compare_entries.Given as goal
 

@@ -8,9 +8,10 @@ use Rattle.compact_record.specs.Reading.{places_of, field_count}
 use Rattle.compact_record.proofs.KeySteps.{count_of_places}
 use Rattle.schema_text.specs.IndexFields.{leaf_fields}
 use Rattle.tree_walk.specs.Records.{IsRecord}
-use Rattle.cross_index.specs.Gather.{kept_fields}
+use Rattle.cross_index.specs.calls.Gather.{kept_fields}
 use Rattle.cross_index.proofs.GatherSteps.{gather_start, can_give, finds, halts_so, row_readable, can_gather}
-use Rattle.cross_index.proofs.GatherSteps.{gather_more, gather_all, kept_below}
+use Rattle.cross_index.proofs.GatherSteps.{gather_more, gather_all}
+use Rattle.cross_index.proofs.KeptPages.{kept_below}
 use Rattle.cross_index.proofs.gather.gather_rows.Goals as goal
 
 pub loop-origin-init : goal.loop-origin-init

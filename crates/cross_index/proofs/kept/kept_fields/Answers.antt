@@ -3,7 +3,7 @@ use Rattle.schema_text.specs.IndexFields.{leaf_fields}
 use Rattle.std.specs.Prelude.{◌==◌}
 use Rattle.std.specs.List.{range_with_len, list_any}
 use Rattle.std.proofs.lemmas.List.{append-nil}
-use Rattle.cross_index.specs.Gather.{kept_fields}
+use Rattle.cross_index.specs.calls.Gather.{kept_fields}
 use Rattle.cross_index.proofs.KeptSteps.{kept_more}
 use Rattle.cross_index.proofs.kept.kept_fields.Goals as goal
 use Rattle.cross_index.proofs.kept.kept_fields.Goals.{then-is_taken+in_ok-push, else-is_taken}

@@ -1,5 +1,5 @@
 use Rattle.std.proofs.Common.{◌≡◌, ℕ, ◌<◌, length, get_or, Contains}
-use Rattle.cross_index.specs.Gather.{StandsAt}
+use Rattle.cross_index.specs.calls.Gather.{StandsAt}
 use Rattle.cross_index.proofs.kept.slots_of.Given as goal
 
 -- the fields so far have their slots

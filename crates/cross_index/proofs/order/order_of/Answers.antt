@@ -5,7 +5,7 @@ use Rattle.std.proofs.lemmas.List.Sorted.{ranks_by}
 use Rattle.column_values.specs.Order.{key_cmp}
 use Rattle.column_values.proofs.KeyOrder.{key_total}
 use Rattle.compact_record.specs.Reading.{key_kinds}
-use Rattle.cross_index.specs.Kept.{kept_key}
+use Rattle.cross_index.specs.calls.Kept.{kept_key}
 use Rattle.cross_index.proofs.CellSteps.{order_is}
 use Rattle.cross_index.proofs.order.order_of.Goals as goal
 

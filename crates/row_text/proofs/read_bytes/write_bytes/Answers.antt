@@ -1,7 +1,7 @@
 use Rattle.std.proofs.Common.{◌≡◌, ℕ, ◌+◌, ◌*◌, ◌/◌, ◌%◌, ◌<◌, slice_index, slice_set, take, ap, ◌∙◌, arith}
 use Rattle.std.proofs.lemmas.List.{length-set, take_more_set}
 use Rattle.hex.specs.Hex.{lower_digits}
-use Rattle.row_text.proofs.LeadingBytes.{hexed_none, hexed_more, hexed_all}
+use Rattle.row_text.proofs.LeadingBytes.{hexed_none, hexed_more}
 use Rattle.row_text.proofs.read_bytes.write_bytes.Goals as goal
 
 pub loop-i-init : goal.loop-i-init

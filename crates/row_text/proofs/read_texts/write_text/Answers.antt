@@ -1,5 +1,4 @@
-use Rattle.std.proofs.Common.{arith, length, ◌≡◌, ◌+◌}
-use Rattle.std.proofs.lemmas.List.{length-drop}
+use Rattle.std.proofs.Common.{arith}
 use Rattle.row_text.proofs.Unquoted.{written_none, written_more}
 use Rattle.row_text.proofs.read_texts.write_text.Goals as goal
 

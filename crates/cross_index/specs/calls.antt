@@ -1,0 +1,5 @@
+pub mod Kept
+pub mod Order
+pub mod Gather
+pub mod Compare
+pub mod Indexes

@@ -1,0 +1,55 @@
+//! All rules of a tablespace, and then its secondary indexes beside its rows.
+
+ghost use Rattle.std.specs.Prelude.{◌+◌, ◌≤◌, OnOk};
+ghost use Rattle.page_source.specs.Calls.{OfFile};
+ghost use Rattle.space_header.specs.Header.{size_of};
+ghost use Rattle.table_check.specs.First.{TakesSteps, dump_steps};
+ghost use Rattle.cross_index.specs.Stops.{CrossesOver};
+ghost use Rattle.cross_index.specs.Cross.{Crosses};
+
+use crate::crossed::{CrossStop, Crossed};
+use crate::gathered::gather;
+use crate::indexes::compare_indexes;
+use page_source::{PageSource, Steps};
+use schema_text::Schema;
+use std::alloc::Global;
+use std::sync::ledger::Ledger;
+use table_check::check_whole;
+use table_check::laws::checks_are_validity;
+
+/// Checks a tablespace by the rules 1 to 51, and then compares the entries of each secondary index that have no delete
+/// mark with the rows of its table. `Broken` names the first broken rule and its page. `Missing` and `Extra` speak of
+/// the first index that differs, and of the least key that only one side has: `index` is its place in the schema, `row`
+/// the place of the row that has no entry, both counted with the clustered index as 0 and the first row as 1, `page` the
+/// leaf page of the entry that is of no row. `Source` comes where the file's count of faults rose, `Memory` where memory
+/// ran out.
+pub fn cross<S: PageSource, L: Ledger>(
+    alloc: Global,
+    source: &mut S,
+    schema: &Schema,
+    steps: &mut Steps<L>,
+) -> Result<Crossed, CrossStop>
+    ensures exact { OfFile S.PageSource source.old (λ file. Crosses file schema.now result) }
+    ensures steps { TakesSteps S.PageSource source.old dump_steps steps.old steps.new }
+    ensures sized { OnOk result (OfFile S.PageSource source.old (λ file.
+        steps.new ≤ steps.old + dump_steps (size_of file))) }
+    ensures over { CrossesOver S.PageSource source.old source.new result }
+{
+    checks_are_validity();
+    let indexes = schema.indexes().len() - 1;
+    let whole = check_whole(alloc, source, schema, steps)?;
+    let clustered = &whole.ends.items()[0];
+    let found = gather(
+        alloc,
+        source,
+        schema,
+        clustered,
+        whole.table.chain_pages,
+        steps,
+    )?;
+    let entries = compare_indexes(alloc, source, schema, &whole.ends, &found, steps)?;
+    Ok(Crossed {
+        indexes: indexes as u32,
+        entries,
+    })
+}
