@@ -12,3 +12,5 @@ pub mod TableLines
 pub mod Soundness
 pub mod Dumps
 pub mod OneDump
+pub mod SomeValues
+pub mod SomeRows

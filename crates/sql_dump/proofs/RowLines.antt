@@ -51,7 +51,7 @@ zip_size (a ∷ xs) [] same = absurd (omega arith)
 zip_size (a ∷ xs) (b ∷ ys) same = ap suc (zip_size xs ys (omega arith))
 
 -- one value more
-joined_more : (columns : List Column) (row : List Value) (column : Column) (value : Value)
+pub joined_more : (columns : List Column) (row : List Value) (column : Column) (value : Value)
     → length columns ≡ length row
     → joined_values (columns ++ column ∷ []) (row ++ value ∷ [])
     ≡ joined_values columns row ++ (before_value (length row) ++ value_text column.kind value)
