@@ -1,24 +1,55 @@
 #!/usr/bin/env python3
-"""Times `check` and `dump` of large tables against reading the same file with `cat`, and prints the peak memory.
+"""Times `check` and `dump` of large tables against reading the same file with `dd`, and prints the peak memory.
 
-usage: bench/tables.py PROGRAM
+usage: bench/tables.py [--server] [--runs N] PROGRAM
 
 PROGRAM is the program that is measured. The tables are made here, by tablespace.py, one after the other in the folder
-for temporary files, which needs 330 MB; that takes a quarter of a minute. What `dump` writes is compared with the rows.
-Each time is the best of three runs. The memory is read from /proc.
+for temporary files, which needs 700 MB; that takes half a minute. What `dump` writes is compared with the rows. The
+commands and `dd bs=16384` are run in turn, N times each (5 without the option); printed are the medians of processor
+time, in the kernel and outside of it, and of the time by the clock, and the ratios of the processor times. The memory is
+read from /proc.
+
+With --server the same rows are loaded into a server (MariaDB, started by tests/server), and `mariadb-dump
+--skip-extended-insert` and `CHECK TABLE .. EXTENDED` are timed too: client and server together.
 """
+import argparse
+import contextlib
+import functools
+import importlib.machinery
 import itertools
 import os
+import pathlib
+import random
+import statistics
 import struct
 import subprocess
 import sys
 import tempfile
 import time
+import types
+import typing
 
 from tablespace import PAGE_SIZE, Tablespace
 
-RUNS = 3
-LONG_VALUE = b"x" * 60_000
+TOP = pathlib.Path(__file__).resolve().parent.parent
+TICKS = os.sysconf("SC_CLK_TCK")
+KEYED = "table t dynamic\ncolumn id int notnull\n{columns}clustered root 3 id\n"
+VALUE_SIZE = 60_000
+
+
+class Took(typing.NamedTuple):
+    """What one run took: seconds of processor time and by the clock."""
+
+    processor: float
+    clock: float
+
+
+class Table(typing.NamedTuple):
+    rows: int
+    columns: str
+    create: str
+    record: typing.Callable
+    line: typing.Callable
 
 
 def stored_int(number):
@@ -39,53 +70,92 @@ def short_line(number):
     return b"INSERT INTO `t` VALUES (%d,%d,'row %d');\n" % (number, number * 7919 % 1000003, number)
 
 
-def long_record(space, number):
-    return bytes([20, 0xC0]), stored_key(number) + space.put_value(LONG_VALUE)
+def long_table(rows, kind, create, value_of, text_of):
+    """A table of values of 60,000 bytes off the page."""
+
+    def record(space, number):
+        return bytes([20, 0xC0]), stored_key(number) + space.put_value(value_of(number))
+
+    def line(number):
+        return b"INSERT INTO `t` VALUES (%d,%s);\n" % (number, text_of(value_of(number)))
+
+    return Table(rows, f"column b {kind} notnull\n", f"b {create} NOT NULL", record, line)
 
 
-def long_line(number):
-    return b"INSERT INTO `t` VALUES (%d,'%s');\n" % (number, LONG_VALUE)
+def plain_value(_):
+    return b"x" * VALUE_SIZE
+
+
+@functools.lru_cache
+def random_value(seed):
+    return random.Random(seed).randbytes(VALUE_SIZE)
+
+
+def binary_value(number):
+    return random_value(number % 2)
+
+
+def escaped_value(_):
+    return (b"it's a value " * (VALUE_SIZE // 13 + 1))[:VALUE_SIZE]
+
+
+def quoted(value):
+    return b"'" + value.replace(b"'", b"\\'") + b"'"
+
+
+def hexadecimal(value):
+    return b"0x" + value.hex().encode()
 
 
 TABLES = {
-    "1,000,000 short rows": (
+    "1,000,000 short rows": Table(
         1_000_000,
-        "table t dynamic\ncolumn id int notnull\ncolumn a int notnull\ncolumn b varchar 40 notnull\nclustered root 3 id\n",
+        "column a int notnull\ncolumn b varchar 40 notnull\n",
+        "a int NOT NULL, b varchar(40) CHARACTER SET latin1 COLLATE latin1_bin NOT NULL",
         short_record,
         short_line,
     ),
-    "5,000 rows with 60,000 bytes off the page": (
-        5_000,
-        "table t dynamic\ncolumn id int notnull\ncolumn b longtext notnull\nclustered root 3 id\n",
-        long_record,
-        long_line,
+    "5,000 long texts": long_table(5_000, "longtext", "longtext CHARACTER SET latin1", plain_value, quoted),
+    "2,500 long binary values": long_table(2_500, "longblob", "longblob", binary_value, hexadecimal),
+    "2,500 long texts with an escape in 13 bytes": long_table(
+        2_500, "longtext", "longtext CHARACTER SET latin1", escaped_value, quoted
     ),
 }
 
 
-def make(path, count, record):
+def make(path, table):
     with open(path, "wb") as file:
         space = Tablespace(file)
-        space.put_tree([record(space, number) for number in range(count)])
+        space.put_tree([table.record(space, number) for number in range(table.rows)])
         space.put_space()
 
 
-def compare(words, count, line):
+def compare(words, table):
     """Ends where the command writes anything but the rows."""
     with subprocess.Popen(words, stdout=subprocess.PIPE) as child:
-        expected = (line(number) for number in range(count))
+        expected = (table.line(number) for number in range(table.rows))
         if any(given != row for given, row in itertools.zip_longest(child.stdout, expected)):
             sys.exit(f"{words} writes other rows")
 
 
-def seconds(words):
+def run(words):
+    """One run of a command, its output thrown away."""
     start = time.monotonic()
-    subprocess.run(words, stdout=subprocess.DEVNULL, check=True)
-    return time.monotonic() - start
+    child = subprocess.Popen(words, stdout=subprocess.DEVNULL, stderr=subprocess.DEVNULL)
+    _, status, used = os.wait4(child.pid, 0)
+    child.returncode = os.waitstatus_to_exitcode(status)
+    if child.returncode:
+        sys.exit(f"{words} ends with {child.returncode}")
+    return Took(used.ru_utime + used.ru_stime, time.monotonic() - start)
 
 
-def best(words):
-    return min(seconds(words) for _ in range(RUNS))
+def in_turn(commands, runs):
+    """The medians of each command, all of them run one after another, over and over."""
+    took = {name: [] for name in commands}
+    for _ in range(runs):
+        for name, call in commands.items():
+            took[name].append(call())
+    return {name: Took(*map(statistics.median, zip(*each))) for name, each in took.items()}
 
 
 def peak(words):
@@ -99,27 +169,91 @@ def peak(words):
     return most
 
 
-def measure(program, name, table, folder):
-    count, schema_text, record, line = table
+@contextlib.contextmanager
+def server_of(wanted, folder):
+    """A server of tests/server's, or none."""
+    if not wanted:
+        yield None
+        return
+    module = types.ModuleType("server")
+    module.__file__ = str(TOP / "tests/server")
+    importlib.machinery.SourceFileLoader("server", module.__file__).exec_module(module)
+    module.install()
+    server = module.Server(folder)
+    try:
+        server.run("CREATE DATABASE bench")
+        yield server
+    finally:
+        server.stop()
+
+
+def processor_of(server):
+    """The processor time of the server so far."""
+    fields = pathlib.Path(f"/proc/{server.process.pid}/stat").read_text().rsplit(")", 1)[1].split()
+    return (int(fields[11]) + int(fields[12])) / TICKS
+
+
+def with_server(server, words):
+    before = processor_of(server)
+    took = run(words)
+    return Took(took.processor + processor_of(server) - before, took.clock)
+
+
+def load(server, table):
+    """Makes the table in the server, with the same rows."""
+    server.run(f"DROP TABLE IF EXISTS t; CREATE TABLE t (id int NOT NULL, {table.create}, PRIMARY KEY (id))", "bench")
+    with subprocess.Popen(server.client("--default-character-set=binary", "bench"), stdin=subprocess.PIPE) as child:
+        child.stdin.write(b"SET autocommit = 0;\n")
+        for number in range(table.rows):
+            child.stdin.write(table.line(number))
+        child.stdin.write(b"COMMIT;\n")
+        child.stdin.close()
+    if child.returncode:
+        sys.exit("the server refuses the rows")
+
+
+def server_commands(server, table):
+    load(server, table)
+    socket = f"--socket={server.folder / 'socket'}"
+    dump = ["mariadb-dump", "--no-defaults", "-uroot", socket, "--max-allowed-packet=64M", "--hex-blob"]
+    return {
+        "mariadb-dump": lambda: with_server(server, [*dump, "--skip-extended-insert", "bench", "t"]),
+        "CHECK TABLE EXTENDED": lambda: with_server(
+            server, server.client("-e", "CHECK TABLE t EXTENDED", "bench")
+        ),
+    }
+
+
+def measure(program, name, table, folder, server, runs):
     schema, file = (os.path.join(folder, word) for word in ("schema", "file"))
     with open(schema, "w") as out:
-        out.write(schema_text)
-    make(file, count, record)
-    compare([program, "dump", schema, file], count, line)
-    read = best(["cat", file])
-    print(f"{name}: {os.path.getsize(file) // PAGE_SIZE} pages, cat {read:.3f} s")
-    for command in ("check", "dump"):
-        words = [program, command, schema, file]
-        took = best(words)
-        print(f"  {command}: {took:.3f} s, {took / read:.1f} times cat, {peak(words)} KiB at most", flush=True)
+        out.write(KEYED.format(columns=table.columns))
+    make(file, table)
+    compare([program, "dump", schema, file], table)
+    words = {command: [program, command, schema, file] for command in ("check", "dump")}
+    commands = {"dd": lambda: run(["dd", "bs=16384", f"if={file}", "of=/dev/null"])}
+    commands |= {command: lambda each=each: run(each) for command, each in words.items()}
+    if server:
+        commands |= server_commands(server, table)
+    took = in_turn(commands, runs)
+    size = os.path.getsize(file)
+    print(f"{name}: {size // PAGE_SIZE} pages, {size / 1e6:.0f} MB")
+    for command, each in took.items():
+        ratio = each.processor / took["dd"].processor
+        memory = f", {peak(words[command])} KiB at most" if command in words else ""
+        print(f"  {command}: {each.processor:.3f} s of a processor, {ratio:.1f} x dd; {each.clock:.3f} s{memory}", flush=True)
 
 
 def main():
-    if len(sys.argv) != 2:
-        sys.exit(__doc__)
-    for name, table in TABLES.items():
-        with tempfile.TemporaryDirectory() as folder:
-            measure(sys.argv[1], name, table, folder)
+    parser = argparse.ArgumentParser(description=__doc__, formatter_class=argparse.RawDescriptionHelpFormatter)
+    parser.add_argument("--server", action="store_true", help="compare with a server's tools")
+    parser.add_argument("--runs", type=int, default=5, metavar="N", help="runs of each command (5)")
+    parser.add_argument("program", metavar="PROGRAM", help="the program that is measured")
+    given = parser.parse_args()
+    with tempfile.TemporaryDirectory() as home, server_of(given.server, home) as server:
+        for name, table in TABLES.items():
+            with tempfile.TemporaryDirectory() as folder:
+                measure(given.program, name, table, folder, server, given.runs)
 
 
 if __name__ == "__main__":

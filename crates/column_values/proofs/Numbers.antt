@@ -38,13 +38,6 @@ num-lt zero xs bytes = omega arith
 num-lt (suc w) xs bytes =
     let rest = num-lt w xs bytes in let last = bytes w in rw (pow-suc 256 w) (omega (arith, last))
 
--- the top bit of up to eight bytes is shifted there whole
-pub top_bit_fits : (w : ℕ) → w ≤ 8 → 1 * 2 ^ (8 * w - 1) % 2 ^ 64 ≡ 2 ^ (8 * w - 1)
-top_bit_fits w few =
-    let at_most : 2 ^ (8 * w - 1) ≤ 2 ^ 63 = pow-le-pow_right {n = 2} (omega arith) {i = 8 * w - 1} {j =
-    63} (omega arith) in
-    rw one-mul (mod-eq_of_lt (omega arith))
-
 -- the top bit is flipped: it is added, or taken away
 pub flipped_low : (k n : ℕ) → n < 2 ^ k → bit_xor n (2 ^ k) ≡ 2 ^ k + n
 flipped_low k n low =

@@ -87,10 +87,6 @@ abbrev pub RoomFor : State → ℕ → Type 0
 RoomFor Bad more = Unit {0}
 RoomFor (Good count pending) more = count + more ≤ 8589934591
 
-pub can_step : (state : State) (more : ℕ) → 1 ≤ more → RoomFor state more → CanStep state
-can_step Bad more some room = tt
-can_step (Good count pending) more some room = omega arith
-
 room_after : (count more : ℕ) (joined : Joined) → count + suc more ≤ 8589934591
     → RoomFor (state_after count joined) more
 room_after count more Whole room = omega arith

@@ -70,13 +70,6 @@ key_decides page other fields a b i f p q o answer whole few first second below 
     rest = rw (kinds, one, two, k, x, y, add-one) refl in
     ap (λ (r : Ordering). ordering_then r rest) (sym says ∙ is) ∙ sym step ∙ left
 
-pub key_end : (page other : List ℕ) (fields : Fields) (a b : List Place) (i : ℕ) (whole : Ordering)
-    → fields.keys ≤ length fields.fields → fields.keys ≤ i → KeyLeft page other fields a b i ≡ whole → Equal ≡ whole
-key_end page other fields a b i whole few past left =
-    let none = drop_all i (key_kinds fields) (omega (arith, length-kinds fields few)) in
-    let e : KeyLeft page other fields a b i ≡ Equal = rw none refl in
-    sym e ∙ left
-
 -- the key of a record that was read
 pub key_is : (page : List ℕ) (origin : ℕ) (fields : Fields) → fields.keys ≤ length fields.fields
     → key_at page fields (places_of page origin fields) ≡ key_of page origin fields

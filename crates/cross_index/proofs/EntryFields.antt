@@ -16,7 +16,7 @@ use Rattle.schema_text.specs.Grammar.{IsTable}
 use Rattle.schema_text.specs.IndexFields.{leaf_fields, key_fields, rest_fields, clustered_positions, clustered_key}
 use Rattle.schema_text.specs.IndexFields.{clustered_rest, positions_without, field_of_column}
 use Rattle.table_check.specs.Trees.{index_count}
-use Rattle.sql_dump.proofs.ColumnFields.{holds_column}
+use Rattle.schema_text.proofs.ColumnFields.{holds_column}
 use Rattle.cross_index.specs.Entries.{entry_columns, hidden_fields, entry_fields, entry_kinds}
 use Rattle.cross_index.specs.calls.Gather.{all_entry_fields, kept_fields}
 use Rattle.cross_index.proofs.EntryKinds.{all_without, kinds_size}

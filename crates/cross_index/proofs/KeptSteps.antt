@@ -15,7 +15,7 @@ use Rattle.schema_text.proofs.FieldLemmas.{range_more}
 use Rattle.std.proofs.lemmas.List.Elements.{All-head, All-tail, All-filter, filter-append}
 use Rattle.schema_text.specs.TableDef.{TableDef, index_at}
 use Rattle.schema_text.specs.IndexFields.{positions_without, field_of_column, clustered_positions}
-use Rattle.sql_dump.specs.Cells.{fields_of_columns}
+use Rattle.schema_text.specs.IndexFields.{fields_of_columns}
 use Rattle.sql_dump.proofs.Cells.{field_at_column}
 use Rattle.cross_index.specs.Entries.{entry_fields, entry_columns, hidden_fields}
 

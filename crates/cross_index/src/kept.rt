@@ -6,7 +6,7 @@ ghost use Rattle.std.specs.List.{list_any};
 ghost use Rattle.schema_text.specs.Grammar.{IsTable};
 ghost use Rattle.schema_text.specs.TableDef.{index_at};
 ghost use Rattle.schema_text.specs.IndexFields.{positions_without};
-ghost use Rattle.sql_dump.specs.Cells.{fields_of_columns};
+ghost use Rattle.schema_text.specs.IndexFields.{fields_of_columns};
 ghost use Rattle.cross_index.specs.Entries.{entry_fields};
 ghost use Rattle.schema_text.specs.IndexFields.{leaf_fields};
 ghost use Rattle.cross_index.specs.calls.Gather.{all_entry_fields, kept_fields, StandsAt};

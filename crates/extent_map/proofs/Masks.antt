@@ -104,10 +104,6 @@ pub mask_full : (p : ℕ → Bool) (n : ℕ) → mask p n + 1 ≡ 2 ^ n → (j :
 mask_full p n full j inside =
     not_false (p j) (mask_below (λ j. not (p j)) n 0 (omega (arith, full, mask_not p n)) j (omega arith) inside)
 
-pub full_mask : (p : ℕ → Bool) (n : ℕ) → ((j : ℕ) → j < n → p j ≡ true) → mask p n + 1 ≡ 2 ^ n
-full_mask p n all =
-    omega (arith, mask_not p n, below_mask (λ j. not (p j)) n 0 (λ j _ h. ap not (all j h)))
-
 -- the same number as a sum of powers
 weighed_bit : (b : Bool) (v w : ℕ) → v ≡ w → cond b v 0 ≡ w * bit b
 weighed_bit true v w same = same ∙ sym (mul-one w)

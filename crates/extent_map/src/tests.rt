@@ -1,10 +1,10 @@
-//! Tablespaces whose head and descriptors are sound, and one edit after another that breaks a rule.
+//! Tablespaces of one descriptor page and of two. What breaks a rule stands in lines of the crate `cases`.
 
 ghost use Rattle.std.specs.Prelude.{◌≡◌, ◌<◌, ◌≤◌, length};
 
 use crate::{Extent, Extents, check_head, read_extent, read_extents, write_extent};
 use fil_frame::seal;
-use page_source::{Fails, NoMemory, Page, PageMap, Rule, SparsePages, Steps, Stop};
+use page_source::{Fails, NoMemory, Page, PageMap, SparsePages, Steps, Stop};
 use space_header::{
     Address, Base, ExtentList, FollowError, Node, SpaceHeader, descriptor_address, follow,
 };
@@ -79,28 +79,18 @@ fn read<L: Ledger>(alloc: Global, file: &mut SparsePages, blank: Blank) -> Resul
     read_extents(alloc, file, &header, &mut steps)
 }
 
-/// A file of so many pages, of which this is page 0 and the others are zeros.
-fn file_from(
-    alloc: Global,
-    pages: u32,
-    page: Page,
-    fails: &[u64],
-) -> Result<SparsePages, NoMemory> {
+/// A file of six pages, of which this is page 0 and the others are zeros.
+fn file_of(alloc: Global, mut page: Page) -> Result<SparsePages, NoMemory> {
+    seal(&mut page, 0, 23, 1, 8);
     let mut held = PageMap::new(alloc);
     held.put(0, page)?;
-    Ok(SparsePages::new(pages, held, Fails::of(alloc, fails)?))
-}
-
-/// The same, with the page sealed.
-fn file_of(alloc: Global, pages: u32, mut page: Page) -> Result<SparsePages, NoMemory> {
-    seal(&mut page, 0, 23, 1, 8);
-    file_from(alloc, pages, page, &[])
+    Ok(SparsePages::new(6, held, Fails::of(alloc, &[])?))
 }
 
 #[test]
 fn reads_a_small_tablespace(rt: HostRuntime) -> Result<(), Fail> {
     let alloc = rt.alloc();
-    let mut file = file_of(alloc, 6, first_page(alloc, 6, 64)?)?;
+    let mut file = file_of(alloc, first_page(alloc, 6, 64)?)?;
     let extents = read::<Brand>(alloc, &mut file, Blank::new(1))?;
     assert_eq!(rt; extents.count(), 1);
     for (page, used) in [(0, true), (3, true), (4, false), (63, false), (64, false)] {
@@ -116,79 +106,12 @@ fn reads_a_small_tablespace(rt: HostRuntime) -> Result<(), Fail> {
     Ok(())
 }
 
-#[test]
-fn names_the_first_broken_rule(rt: HostRuntime) -> Result<(), Fail> {
-    let alloc = rt.alloc();
-    let edits: [(usize, u8, Rule); 9] = [
-        (41, 24, Rule::HeadSpace),
-        (57, 32, Rule::HeadFlags),
-        (49, 3, Rule::HeadSize),
-        (49, 7, Rule::HeadSize),
-        (53, 63, Rule::HeadLimit),
-        (173, 5, Rule::ExtentState),
-        (173, 3, Rule::ExtentUse),
-        (175, 0xEF, Rule::ExtentPastEnd),
-        (174, 0xAB, Rule::ExtentSystem),
-    ];
-    for (at, byte, rule) in edits {
-        let mut page = first_page(alloc, 6, 64)?;
-        assert!(rt; at < 16384);
-        page.put_bytes(at, &[byte]);
-        let mut file = file_of(alloc, 6, page)?;
-        let answer = read::<Brand>(alloc, &mut file, Blank::new(1));
-        let wanted = Stop::Broken(rule.at(0));
-        assert!(rt; matches!(answer, Err(stop) if stop == wanted), "at {at}");
-    }
-    Ok(())
-}
-
-/// Page 0 of six, which some byte, its type or the number of pages makes no head.
-#[test]
-fn names_the_first_broken_rule_of_the_frame(rt: HostRuntime) -> Result<(), Fail> {
-    let alloc = rt.alloc();
-    for (pages, kind, byte, rule) in [
-        (3, 8, 0, Rule::FileSize),
-        (3, 9, 1, Rule::FileSize),
-        (5, 8, 0, Rule::HeadSize),
-        (6, 9, 0, Rule::HeadType),
-        (6, 8, 1, Rule::HeadFrame),
-        (6, 9, 1, Rule::HeadFrame),
-    ] {
-        let mut page = first_page(alloc, 6, 64)?;
-        seal(&mut page, 0, 23, 1, kind);
-        if byte != 0 {
-            page.put_bytes(16375, &[byte]);
-        }
-        let mut file = file_from(alloc, pages, page, &[])?;
-        let answer = read::<Brand>(alloc, &mut file, Blank::new(1));
-        let wanted = Stop::Broken(rule.at(0));
-        assert!(rt;
-            matches!(answer, Err(stop) if stop == wanted),
-            "{pages} pages of type {kind}"
-        );
-    }
-    Ok(())
-}
-
-#[test]
-fn reads_a_free_extent(rt: HostRuntime) -> Result<(), Fail> {
-    let alloc = rt.alloc();
-    let mut page = first_page(alloc, 128, 128)?;
-    put_descriptor(&mut page, 1, ALONE, 1, 0);
-    let mut file = file_of(alloc, 128, page)?;
-    let extents = read::<Brand>(alloc, &mut file, Blank::new(1))?;
-    assert_eq!(rt; extents.count(), 2);
-    assert_eq!(rt; extents.extent(1).state, 1);
-    assert_eq!(rt; extents.nodes(), [ALONE, ALONE].as_slice());
-    Ok(())
-}
-
 /// The calls are those for the number of pages, for page 0 twice, and for page 16384.
 #[test]
 fn says_which_call_of_the_source_failed(rt: HostRuntime) -> Result<(), Fail> {
     let alloc = rt.alloc();
     for call in 1..6u64 {
-        let mut file = large(alloc, 9, 23, &[call])?;
+        let mut file = large(alloc, &[call])?;
         let answer = read::<Brand>(alloc, &mut file, Blank::new(1));
         let failed = matches!(answer, Err(Stop::Source));
         assert_eq!(rt; failed, call < 5, "call {call}");
@@ -221,8 +144,8 @@ fn writes_what_it_reads(rt: HostRuntime) -> Result<(), Fail> {
     Ok(())
 }
 
-/// A tablespace of 16,448 pages: page 0, and page 16384 of a type with a descriptor of its own.
-fn large(alloc: Global, kind: u16, space: u32, fails: &[u64]) -> Result<SparsePages, NoMemory> {
+/// A tablespace of 16,448 pages: page 0, and page 16384 with a descriptor of its own.
+fn large(alloc: Global, fails: &[u64]) -> Result<SparsePages, NoMemory> {
     let mut page = first_page(alloc, 16448, 16448)?;
     for i in 1..256usize {
         let node = Node {
@@ -242,7 +165,7 @@ fn large(alloc: Global, kind: u16, space: u32, fails: &[u64]) -> Result<SparsePa
     seal(&mut page, 0, 23, 1, 8);
     let mut second = Page::zeroed(alloc)?;
     put_descriptor(&mut second, 0, ALONE, 2, 3);
-    seal(&mut second, 16384, space, 1, kind);
+    seal(&mut second, 16384, 23, 1, 9);
     let mut held = PageMap::new(alloc);
     held.put(0, page)?;
     held.put(16384, second)?;
@@ -267,7 +190,7 @@ fn followed<L: Ledger>(
 #[test]
 fn reads_two_descriptor_pages(rt: HostRuntime) -> Result<(), Fail> {
     let alloc = rt.alloc();
-    let mut file = large(alloc, 9, 23, &[])?;
+    let mut file = large(alloc, &[])?;
     let extents = read::<Brand>(alloc, &mut file, Blank::new(1))?;
     assert_eq!(rt; extents.count(), 257);
     assert_eq!(rt; extents.extent(256).state, 2);
@@ -288,20 +211,5 @@ fn reads_two_descriptor_pages(rt: HostRuntime) -> Result<(), Fail> {
     assert!(rt; extents.nodes().len() <= 65536);
     let list = followed::<Brand>(alloc, &free, extents.nodes(), Blank::new(1))?;
     assert_eq!(rt; list.items().len(), 255);
-    Ok(())
-}
-
-#[test]
-fn checks_later_descriptor_pages(rt: HostRuntime) -> Result<(), Fail> {
-    let alloc = rt.alloc();
-    for (kind, space, rule) in [(9, 24, Rule::XdesFrame), (5, 23, Rule::XdesType)] {
-        let mut file = large(alloc, kind, space, &[])?;
-        let answer = read::<Brand>(alloc, &mut file, Blank::new(1));
-        let wanted = Stop::Broken(rule.at(16384));
-        assert!(rt;
-            matches!(answer, Err(stop) if stop == wanted),
-            "type {kind}"
-        );
-    }
     Ok(())
 }

@@ -22,19 +22,6 @@ came_whole text buffer left n short came =
     let all : n ≡ length text = came.whole short in
     came.came.bytes ∙ ap (λ (k : ℕ). take k text) all ∙ take-length text
 
--- the schema of the bytes that came is that of the text, which was read to its end
-pub schema_found : (text buffer : List ℕ) (left : Option (List ℕ)) (n : ℕ) (table : TableDef) → length buffer ≡ 65537
-    → n ≤ length buffer → IsTextOf table (take n buffer) → CameUpTo text left n buffer
-    → IsTextOf table text × (left ≡ Some [])
-schema_found text buffer left n table size within is came =
-    let front : length (take n buffer) ≡ n = length-take-le n buffer within in
-    let few : length (take n buffer) ≤ 65536 = omega (arith, ap length is.text_is, is.is.short) in
-    let short : n < length buffer = omega arith in
-    let same : take n buffer ≡ text = came_whole text buffer left n short came in
-    let all : n ≡ length text = came.whole short in
-    let end : drop n text ≡ [] = drop_all n text (omega arith) in
-    (subst (λ (t : List ℕ). IsTextOf table t) same is, came.came.rest ∙ ap Some end)
-
 -- so is their refusal, since a text that is too long is refused as such
 too_long : (text front : List ℕ) (line : ℕ) (why : SchemaWhy) → 65536 < length front → 65536 < length text
     → IsRefusedText front line why → IsRefusedText text line why

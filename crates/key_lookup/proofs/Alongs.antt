@@ -137,6 +137,11 @@ within w marks old text due count a some =
     let split : all_pages w ≡ a.before ++ due.page ∷ rest = a.split ∙ ap (λ (t : List ℕ). a.before ++ t) here.2 in
     omega (arith, ap length split, length-append a.before (due.page ∷ rest))
 
+-- there is one page more than those that held
+pub along_within : (w : Walk) (marks : List Bool) (old text : Reader) (due : Link) (count : ℕ)
+    → IsAlong w marks old text due count → 0 < due.left → count < length (all_pages w)
+along_within w marks old text due count a some = omega (arith, within w marks old text due count a some, a.counted)
+
 -- the page at hand is the first that breaks
 pub along_breaks : (w : Walk) (marks : List Bool) (old text : Reader) (due : Link) (count : ℕ) (fault : Fault)
     → IsAlong w marks old text due count → 0 < due.left

@@ -1,5 +1,5 @@
 -- The checks of the head, and then those of the look-up.
-use Rattle.std.proofs.Common.{◌≡◌, ℕ, ◌+◌, ◌*◌, ◌≤◌, List, Option, None, Some, inl, inr, sym, ap, ◌∙◌, subst, arith}
+use Rattle.std.proofs.Common.{◌≡◌, ℕ, ◌+◌, ◌*◌, ◌≤◌, List, length, Option, None, Some, inl, inr, sym, ap, ◌∙◌, subst, arith}
 use Rattle.page_source.specs.declared.objects.PageSource.{Ghosts as FileOf}
 use Rattle.page_source.specs.declared.rule.Fault.{Fault}
 use Rattle.page_source.specs.declared.checks.Halt.{Halt}
@@ -14,10 +14,11 @@ use Rattle.extent_map.specs.Head.{HeadChecks}
 use Rattle.schema_text.specs.Formats.{flags_of}
 use Rattle.schema_text.specs.TableDef.{TableDef, index_at}
 use Rattle.schema_text.specs.IndexFields.{leaf_fields, node_fields}
-use Rattle.tree_walk.specs.Index.{Index, index_of}
+use Rattle.tree_walk.specs.Index.{Index, index_of, root_level}
 use Rattle.table_check.specs.Trees.{index_in, clustered_tree}
 use Rattle.table_check.specs.First.{TakesSteps}
 use Rattle.key_lookup.specs.GetFirst.{LookUpChecks, GetFirst}
+use Rattle.key_lookup.specs.Record.{found_row, found_pages}
 use Rattle.key_lookup.specs.Get.{get_steps}
 
 pub index_same : (file : List ℕ) (table : TableDef) (root : ℕ) (leaf node : Fields) → root ≡ (index_at table 0).root
@@ -48,6 +49,21 @@ module _ (file : List ℕ) (table : TableDef) (key : Key) (flags : ℕ) (f : fla
     pub holds : LookUpChecks index key None → GetFirst file table key None
     unfolding GetFirst
     holds x = (head_is None head, subst (λ (i : Index). LookUpChecks i key None) is x)
+
+-- one step for the head, and those behind it
+pub all_steps : (file : List ℕ) (table : TableDef) (key : Key) (index : Index) (steps mid spent : ℕ)
+    → index ≡ clustered_tree file table → mid ≤ steps + 1
+    → spent ≤ mid + root_level index + 1 + length (found_pages index (found_row index key))
+    → spent ≤ steps + root_level (clustered_tree file table) + 2
+    + length (found_pages (clustered_tree file table) (found_row (clustered_tree file table) key))
+all_steps file table key index steps mid spent is one few =
+    omega (
+      arith,
+      one,
+      few,
+      ap root_level is,
+      ap (λ (i : Index). length (found_pages i (found_row i key))) is,
+    )
 
 pub takes_steps : {S : Type 0} {g : FileOf S} {source : S} {size steps spent : ℕ}
     → OfFile g source (λ file. size ≤ page_count file) → size ≤ 4194304 → spent ≤ steps + get_steps size

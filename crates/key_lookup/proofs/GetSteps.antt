@@ -34,7 +34,7 @@ use Rattle.key_lookup.specs.Record.{HasFoundValue, found_row, found_pages, IsFou
 use Rattle.key_lookup.specs.GetFirst.{FoundRecordChecks, FoundRowChecks, GetFirst}
 use Rattle.key_lookup.specs.declared.stop.GetStop.{GetStop}
 use Rattle.key_lookup.specs.declared.stop.GetStop.TheVariants as gets
-use Rattle.key_lookup.specs.Get.{IsLineFound, GetsByKey, GetsOver, IsAnswered, get_steps}
+use Rattle.key_lookup.specs.Get.{IsLineFound, GetsByKey, GetsOver, get_steps}
 use Rattle.key_lookup.specs.LookUp.{IsFoundRowAt}
 use Rattle.key_lookup.specs.Leaf.{row_at_origin}
 use Rattle.key_lookup.specs.Stops.{get_stop_of, get_stop_of_write}
@@ -168,15 +168,16 @@ not_sink (stops.Broken fault) e = cc
 not_sink stops.Source e = cc
 not_sink stops.Memory e = cc
 
-pub not_answered : (stop : Stop) → IsAnswered (Err (get_stop_of stop)) → ⊥
-not_answered (stops.Broken fault) a = a
-not_answered stops.Source a = a
-not_answered stops.Memory a = a
+pub not_refused : (stop : Stop) → ◌≡◌ {A = Result (Unit {0}) GetStop} (Err (get_stop_of stop)) (Err gets.Refused) → ⊥
+not_refused (stops.Broken fault) e = cc
+not_refused stops.Source e = cc
+not_refused stops.Memory e = cc
 
-pub cut_unanswered : (end : WriteStop) → IsAnswered (Err (get_stop_of_write end)) → ⊥
-cut_unanswered (writes.Broken fault) a = a
-cut_unanswered writes.Source a = a
-cut_unanswered writes.Sink a = a
+pub write_refused : (end : WriteStop)
+    → ◌≡◌ {A = Result (Unit {0}) GetStop} (Err (get_stop_of_write end)) (Err gets.Refused) → ⊥
+write_refused (writes.Broken fault) e = cc
+write_refused writes.Source e = cc
+write_refused writes.Sink e = cc
 
 write_source : (end : WriteStop) → ◌≡◌ {A = Result (Unit {0}) GetStop} (Err (get_stop_of_write end)) (Err gets.Source)
     → ◌≡◌ {A = Result (Unit {0}) WriteStop} (Err end) (Err writes.Source)

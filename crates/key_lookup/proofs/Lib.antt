@@ -23,3 +23,5 @@ mod Rows
 mod Checks
 mod Values
 mod Sound
+mod KeyCells
+mod GetKey

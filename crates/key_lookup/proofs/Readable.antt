@@ -31,7 +31,7 @@ use Rattle.schema_text.specs.IndexFields.{field_of_column, leaf_fields}
 use Rattle.table_check.specs.Values.{bytes_at, front_of, FitsKind, IsTextBehind, pages_of_part, pages_of_record}
 use Rattle.sql_dump.specs.Long.{chain_bytes, stated_length}
 use Rattle.sql_dump.specs.Cells.{IsWholeLong, ReadsValue, ReadsRow, CanReadRow, row_on, cell_of_column}
-use Rattle.sql_dump.proofs.ColumnFields.{holds_column}
+use Rattle.schema_text.proofs.ColumnFields.{holds_column}
 use Rattle.sql_dump.proofs.RowPages.{place_is, columns_within}
 use Rattle.sql_dump.proofs.Soundness.{bytes_due, long_spells, external_is_long, values_up_to}
 use Rattle.key_lookup.specs.Record.{HasFoundValue}

@@ -1,6 +1,6 @@
 -- A record's fields are checked one after another.
-use Rattle.std.proofs.Common.{◌≡◌, ℕ, ◌+◌, ◌<◌, Bool, List, length, get_or, Option, Some, None}
-use Rattle.std.proofs.Common.{IfSome, Result, Ok, Err, refl, sym, ap, ◌∙◌, subst, arith}
+use Rattle.std.proofs.Common.{◌≡◌, ℕ, ◌+◌, ◌<◌, ◌≤◌, Bool, false, List, length, get_or, Option, Some, None}
+use Rattle.std.proofs.Common.{IfSome, Result, Ok, Err, refl, sym, ap, ◌∙◌, subst, arith, length-append}
 use Rattle.std.proofs.lemmas.List.FromFn.{get_or-map-range_with_len, length-map-range_with_len}
 use Rattle.std.proofs.lemmas.List.{get_or_default}
 use Rattle.std.proofs.Math.Path.{fun_ext}
@@ -11,7 +11,7 @@ use Rattle.page_source.specs.declared.checks.Halt.TheVariants.{Broken, Source}
 use Rattle.page_source.specs.Verdict.{AllBelow}
 use Rattle.page_source.specs.Checks.{HaltsAt}
 use Rattle.page_source.specs.Calls.{OfFile}
-use Rattle.page_source.proofs.Told.{told0, told1, told3}
+use Rattle.page_source.proofs.Told.{told0, told1, told2, told3}
 use Rattle.column_values.specs.declared.field.Field.{Field}
 use Rattle.column_values.specs.Types.{Fields, field_at}
 use Rattle.compact_record.specs.declared.places.Place.{Place}
@@ -24,7 +24,7 @@ use Rattle.key_lookup.specs.GetFirst.{FoundFieldCheck}
 use Rattle.key_lookup.specs.Values.{FieldChecksOn, RecordChecksOn, pages_of_field_on, pages_of_record_on}
 use Rattle.table_check.proofs.Progress.{HasMarked, none_marked, more_marked, all_marked, breaks_off}
 use Rattle.table_check.proofs.RecordSteps.{part_more, below_more}
-use Rattle.key_lookup.proofs.RecordSteps.{record_breaks, whole_record, record_holds}
+use Rattle.key_lookup.proofs.RecordSteps.{record_breaks, whole_record, record_holds, part_most}
 
 pub halts_as : (halt : Halt) (A B : Option Fault → Type 0) → ((v : Option Fault) → A v → B v) → HaltsAt halt A
     → HaltsAt halt B
@@ -68,6 +68,20 @@ all_held {g = g} {first = first} {now = now} {start = start} {marks = marks} {st
     have.held)
     have.has
 
+pub steps_held : {S : Type 0} (g : FileOf S) (first : S) (steps spent i : ℕ) (leaf : Leaf) (origin : ℕ)
+    → OfFile g first (λ file. spent ≤ steps + length (pages_of_part file leaf.page.now origin leaf.fields.now i))
+    → i ≡ field_count leaf.fields.now
+    → OfFile g first (λ file. spent ≤ steps + length (pages_of_record_on file leaf origin))
+steps_held g first steps spent i leaf origin few all =
+    told1 (g.content first)
+    (λ file few. omega (
+      arith,
+      few,
+      ap (λ (k : ℕ). length (pages_of_part file leaf.page.now origin leaf.fields.now k)) all,
+      ap length (whole_record file leaf.number leaf.page.now origin leaf.fields.now (λ n. false)),
+    ))
+    few
+
 module _ {S : Type 0} {g : FileOf S} {first old : S} {start before : List Bool} {steps mid count i : ℕ} {leaf : Leaf}
     {origin : ℕ} (have : FieldsHeld g first old start before steps mid count leaf origin i)
     (within : i < field_count leaf.fields.now) (field : Field) (place : Place)
@@ -103,6 +117,40 @@ module _ {S : Type 0} {g : FileOf S} {first old : S} {start before : List Bool} 
     read_here result call =
         subst (λ (p : Place). Checked result (field_at fields i) p) is_place
         (subst (λ (f : Field). Checked result f place) is_field call)
+
+    -- so many steps were taken up to here
+    pub field_steps : OfFile g first (λ file. mid ≤ steps + length (pages_of_part file page origin fields i))
+        → OfFile g old (λ file. spent ≤ mid + length (pages_of_field_on file leaf field.kind place))
+        → OfFile g first (λ file. spent ≤ steps + length (pages_of_part file page origin fields (i + 1)))
+    field_steps before here =
+        let one = subst (λ (p : Place). OfFile g old
+        (λ file. spent ≤ mid + length (pages_of_field_on file leaf field.kind p))) is_place here in
+        let two = subst (λ (f : Field). OfFile g old
+        (λ file. spent ≤ mid + length (pages_of_field_on file leaf f.kind (place_of page origin fields i)))) is_field one
+        in
+        let three = subst (λ (o : Option (List ℕ)). IfSome o (λ file. spent ≤ mid + length (pages_here file)))
+        have.has.same two in
+        told2 (g.content first)
+        (λ file few last. omega (
+          arith,
+          few,
+          last,
+          ap length (part_more file 0 leaf.number page origin fields (is_set start) i),
+          length-append (pages_of_part file page origin fields i) (pages_here file),
+        ))
+        before three
+
+    pub all_steps : OfFile g first (λ file. mid ≤ steps + length (pages_of_part file page origin fields i))
+        → OfFile g old (λ file. spent ≤ mid + length (pages_of_field_on file leaf field.kind place))
+        → OfFile g first (λ file. spent ≤ steps + length (pages_of_record_on file leaf origin))
+    all_steps before here =
+        told1 (g.content first)
+        (λ file few. omega (
+          arith,
+          few,
+          part_most file leaf.number page origin fields (is_set start) (i + 1) (omega arith),
+        ))
+        (field_steps before here)
 
     -- they break off
     pub field_breaks : (halt : Halt) → Checked (Err halt) field place

@@ -21,7 +21,7 @@ use Rattle.table_check.specs.Trees.{clustered_tree, index_in}
 use Rattle.table_check.specs.Values.{bytes_at, front_of}
 use Rattle.table_check.specs.Rows.{IsWholeValue, HasValue, place_of_column, IsRow}
 use Rattle.table_check.specs.Valid.{IsSoundValue, IsSoundField, IsSoundRow}
-use Rattle.sql_dump.proofs.ColumnFields.{holds_column}
+use Rattle.schema_text.proofs.ColumnFields.{holds_column}
 use Rattle.key_lookup.specs.Record.{HasFoundValue, IsFoundRow}
 
 module _ (one : HasOneChain) (file : List ℕ) (size : size_of file ≤ 4194304) where

@@ -1,5 +1,5 @@
 -- What a look-up answers, and what its sink then holds.
-use Rattle.std.specs.Prelude.{◌≡◌, ℕ, ◌+◌, ◌*◌, ◌≤◌, ⊤, List, length, Option, Some, None, Result, Ok, Err}
+use Rattle.std.specs.Prelude.{◌≡◌, ℕ, ◌+◌, ◌*◌, ◌≤◌, ◌⊎◌, List, length, Option, Some, None, Result, Ok, Err}
 use Rattle.page_source.specs.declared.objects.PageSource.{Ghosts as FileOf}
 use Rattle.page_source.specs.declared.objects.ByteSink.{Ghosts as SinkOf}
 use Rattle.page_source.specs.Faults.{Rose}
@@ -14,6 +14,7 @@ use Rattle.key_lookup.specs.declared.stop.GetStop.{GetStop}
 use Rattle.key_lookup.specs.declared.stop.GetStop.TheVariants.{Refused, Absent, Broken, Source, Sink, Memory}
 use Rattle.key_lookup.specs.Record.{found_row, found_pages, IsFoundRow}
 use Rattle.key_lookup.specs.GetFirst.{GetFirst}
+use Rattle.key_lookup.specs.KeyOfText.{SpellsKey, IsNoKey}
 
 -- the line of the row that is found, where all checks hold
 pub record IsLineFound (file : List ℕ) (table : TableDef) (key : Key) (line : List ℕ) : Type 0 where
@@ -48,11 +49,19 @@ GetsByKey file table key (Err Source) old new =
 GetsByKey file table key (Err Sink) old new = GrewByPart file table key old new
 GetsByKey file table key (Err Memory) old new = new ≡ old
 
--- the row was written, or there is none
-abbrev pub IsAnswered : Result (Unit {0}) GetStop → Type 0
-IsAnswered (Ok done) = ⊤
-IsAnswered (Err Absent) = ⊤
-IsAnswered (Err _) = ⊥
+-- the answer over a file that is told, of the text of a key
+abbrev pub Gets : List ℕ → TableDef → List ℕ → Result (Unit {0}) GetStop → Option (List ℕ) → Option (List ℕ) → Type 0
+Gets file table text (Err Refused) old new = IsNoKey table text × (new ≡ old)
+Gets file table text (Err Memory) old new = new ≡ old
+Gets file table text result old new = (key : Key) × SpellsKey table text key × GetsByKey file table key result old new
+
+-- a text that is no key's is refused before any object is called
+pub record TouchesNothing {S O : Type 0} (old new : S) (sink sink_now : O) (steps steps_now : ℕ)
+    (result : Result (Unit {0}) GetStop) : Type 0 where
+  pub ends : (result ≡ Err Refused) ⊎ (result ≡ Err Memory)
+  pub file : new ≡ old
+  pub out : sink_now ≡ sink
+  pub steps_same : steps_now ≡ steps
 
 -- what a look-up leaves of the two objects, told or not: the file is as before, a fault is answered only where the count
 -- of that object rose, and else nothing is written but the line
@@ -66,7 +75,7 @@ pub record GetsOver {S O : Type 0} (g : FileOf S) (o : SinkOf O) (old new : S) (
   pub absent : result ≡ Err Absent → sink_now ≡ sink
   pub unwritten : result ≡ Err Memory → sink_now ≡ sink
 
--- the most steps of a look-up in so many pages, and those of one that finds no check broken: the chains are fetched twice
+-- the most steps of a look-up in so many pages, and those of one for a key: the head, the way, and the chains twice
 abbrev pub get_steps : ℕ → ℕ
 get_steps pages = 2 * pages + 64
 

@@ -15,6 +15,7 @@ use Rattle.table_check.specs.Rows.{IsRow}
 use Rattle.table_check.specs.Valid.{IsValid}
 use Rattle.key_lookup.specs.Record.{found_row, IsFoundRow}
 use Rattle.key_lookup.specs.GetFirst.{GetFirst}
+use Rattle.key_lookup.specs.KeyOfText.{SpellsKey}
 
 -- a row without the delete mark, whose key is neither less nor greater
 pub record IsRowWith (index : Index) (key : Key) (row : Row) : Type 0 where
@@ -38,6 +39,12 @@ pub record FindsRow (file : List ℕ) (table : TableDef) (key : Key) : Type 0 wh
 abbrev pub FindsInValid : Type 0
 FindsInValid = (file : List ℕ) (table : TableDef) (key : Key) → IsTable table → IsValid file table
     → FindsRow file table key
+
+-- a text spells one key at the most
+abbrev pub SpellsOneKey : Type 0
+SpellsOneKey =
+    (table : TableDef) (text : List ℕ) (a b : Key) → IsTable table → SpellsKey table text a → SpellsKey table text b
+    → a ≡ b
 
 -- a file, a table and a key have one first broken check, or none
 abbrev pub GetFirstHasOneAnswer : Type 0

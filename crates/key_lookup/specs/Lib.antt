@@ -9,6 +9,7 @@ pub mod Leaf
 pub mod Way
 pub mod ChainSteps
 pub mod Values
+pub mod KeyOfText
 pub mod Get
 pub mod Stops
 pub mod LookUp

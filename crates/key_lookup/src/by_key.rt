@@ -1,18 +1,22 @@
 //! The line of the row with a key.
 
-ghost use Rattle.std.specs.Prelude.{◌≡◌, ◌+◌, ◌≤◌, List, length, None, OnOk, Ok};
+ghost use Rattle.std.specs.Prelude.{◌≡◌, ◌≢◌, ◌+◌, ◌≤◌, List, length, None, OnOk, Ok, Err};
 ghost use Rattle.page_source.specs.Calls.{OfFile};
 ghost use Rattle.column_values.specs.declared.value.Value.{Value};
+ghost use Rattle.column_values.specs.Order.{Key};
 ghost use Rattle.schema_text.specs.IndexFields.{leaf_fields};
 ghost use Rattle.row_text.specs.Line.{line_of};
 ghost use Rattle.tree_walk.specs.Records.{IsRecord};
 ghost use Rattle.table_check.specs.First.{TakesSteps};
 ghost use Rattle.sql_dump.specs.Stops.{Writes, WritesOver};
 ghost use Rattle.sql_dump.specs.Cells.{ReadsRow, CanReadRow, row_on};
-ghost use Rattle.key_lookup.specs.Get.{GetsByKey, GetsOver, IsAnswered, get_steps, steps_for};
+ghost use Rattle.key_lookup.specs.KeyOfText.{SpellsKey, IsNoKey};
+ghost use Rattle.key_lookup.specs.Get.{GetsByKey, Gets, TouchesNothing, GetsOver, get_steps, steps_for};
 
 use crate::find::find;
 use crate::key::SearchKey;
+use crate::key_text::search_key;
+use crate::laws::{schema_is_table, text_spells_one_key};
 use crate::look_up::Found;
 use crate::room::Room;
 use crate::stop::GetStop;
@@ -47,7 +51,7 @@ fn write_row<S: PageSource, O: ByteSink, L: Ledger>(
 }
 
 /// Finds the row with a key, and writes its line.
-pub fn get_by_key<S: PageSource, O: ByteSink, L: Ledger>(
+pub(crate) fn get_by_key<S: PageSource, O: ByteSink, L: Ledger>(
     alloc: Global,
     source: &mut S,
     schema: &Schema,
@@ -58,9 +62,10 @@ pub fn get_by_key<S: PageSource, O: ByteSink, L: Ledger>(
     requires same { length key.now ≡ (leaf_fields schema.now 0).keys }
     ensures told { OfFile S.PageSource source.old (λ file.
         GetsByKey file schema.now key.now result (O.written sink.old) (O.written sink.new)) }
+    ensures knows { result ≢ Err GetStop.Refused }
     ensures over { GetsOver S.PageSource O.ByteSink source.old source.new sink.old sink.new result }
-    ensures few { OfFile S.PageSource source.old (λ file. IsAnswered result
-        → steps.new ≤ steps.old + steps_for file schema.now key.now) }
+    ensures few { OfFile S.PageSource source.old (λ file.
+        steps.new ≤ steps.old + steps_for file schema.now key.now) }
     ensures steps { TakesSteps S.PageSource source.old get_steps steps.old steps.new }
 {
     let Room {
@@ -95,4 +100,32 @@ pub fn get_by_key<S: PageSource, O: ByteSink, L: Ledger>(
         steps,
     )?;
     Ok(())
+}
+
+/// Finds the row whose key the text spells, and writes its line. Before the file is touched, a text that is no key's is
+/// `Refused`. `Broken` names the first broken check of the head, of the way to the row or of its values, with the page
+/// that it is about; nothing was written then. `Absent` is no row, or one with the delete mark. Pages beside the way are
+/// neither fetched nor checked (btr0cur). Chains are fetched twice, since they are checked before the line begins.
+pub fn get<S: PageSource, O: ByteSink, L: Ledger>(
+    alloc: Global,
+    source: &mut S,
+    schema: &Schema,
+    key: &[u8],
+    sink: &mut O,
+    steps: &mut Steps<L>,
+) -> Result<(), GetStop>
+    ensures told { OfFile S.PageSource source.old (λ file.
+        Gets file schema.now key.now result (O.written sink.old) (O.written sink.new)) }
+    ensures refused { result ≡ Err GetStop.Refused → IsNoKey schema.now key.now }
+    ensures first { IsNoKey schema.now key.now
+        → TouchesNothing source.old source.new sink.old sink.new steps.old steps.new result }
+    ensures over { GetsOver S.PageSource O.ByteSink source.old source.new sink.old sink.new result }
+    ensures few { OfFile S.PageSource source.old (λ file. (sought : Key) → SpellsKey schema.now key.now sought
+        → steps.new ≤ steps.old + steps_for file schema.now sought) }
+    ensures steps { TakesSteps S.PageSource source.old get_steps steps.old steps.new }
+{
+    schema_is_table(schema);
+    text_spells_one_key();
+    let sought = search_key(alloc, schema, key)?;
+    get_by_key(alloc, source, schema, &sought, sink, steps)
 }

@@ -134,7 +134,8 @@ fn check_links<S: PageSource, L: Ledger>(
     ensures members { length marks.new ≡ length marks.old }
     ensures cost { steps.new + unmarked marks.new ≤ steps.old + unmarked marks.old + 1 }
     ensures fewer { IfOk result (λ count. count + unmarked marks.new ≤ unmarked marks.old) }
-    ensures few { IfOk result (λ count. steps.new ≤ steps.old + count) }
+    ensures told { OfFile S.PageSource source.old (λ file.
+        steps.new ≤ steps.old + length (pages_in file chain.now)) }
     ensures spent { OnOk result (steps.new + unmarked marks.new ≤ steps.old + unmarked marks.old) }
     ensures over { HaltsOver S.PageSource source.old source.new result }
 {
@@ -180,7 +181,8 @@ pub(crate) fn check_chain<S: PageSource, L: Ledger>(
     ensures members { length marks.new ≡ length marks.old }
     ensures cost { steps.new + unmarked marks.new ≤ steps.old + unmarked marks.old + 1 }
     ensures fewer { IfOk result (λ count. count + unmarked marks.new ≤ unmarked marks.old) }
-    ensures few { IfOk result (λ count. steps.new ≤ steps.old + count) }
+    ensures told { OfFile S.PageSource source.old (λ file.
+        steps.new ≤ steps.old + length (chain_pages file reference.now)) }
     ensures spent { OnOk result (steps.new + unmarked marks.new ≤ steps.old + unmarked marks.old) }
     ensures over { HaltsOver S.PageSource source.old source.new result }
 {

@@ -11,6 +11,7 @@ ghost use Rattle.tree_walk.specs.Records.{IsRecord};
 ghost use Rattle.tree_walk.specs.Room.{CanWalk};
 ghost use Rattle.table_check.specs.Trees.{clustered_tree};
 ghost use Rattle.table_check.specs.First.{TakesSteps};
+ghost use Rattle.key_lookup.specs.Record.{found_row, found_pages};
 ghost use Rattle.key_lookup.specs.GetFirst.{GetFirst};
 ghost use Rattle.key_lookup.specs.Get.{get_steps};
 ghost use Rattle.key_lookup.specs.LookUp.{IsFound, pages_found};
@@ -56,8 +57,9 @@ pub(crate) fn find<S: PageSource, L: Ledger>(
     ensures found { IfOk result (λ found. OfFile S.PageSource source.old (λ file.
         IsFound (clustered_tree file schema.now) key.now walk.new.child found)) }
     ensures readable { IfOk result (λ found. IfSome found (λ row. IsRecord walk.new.child leaf.now row.origin)) }
-    ensures told { IfOk result (λ found. OfFile S.PageSource source.old (λ file.
-        steps.new ≤ steps.old + root_level (clustered_tree file schema.now) + 2 + pages_found found)) }
+    ensures told { OfFile S.PageSource source.old (λ file.
+        let index = clustered_tree file schema.now in
+        steps.new ≤ steps.old + root_level index + 2 + length (found_pages index (found_row index key.now))) }
     ensures few { IfOk result (λ found. TakesSteps S.PageSource source.old get_steps steps.old
         (steps.new + pages_found found)) }
     ensures cost { TakesSteps S.PageSource source.old get_steps steps.old steps.new }

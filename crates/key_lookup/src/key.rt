@@ -17,7 +17,7 @@ use std::marker::Model;
 
 /// The key of the row that is sought: the bytes of its fields, none for null.
 #[derive(Debug, Drop)]
-pub struct SearchKey {
+pub(crate) struct SearchKey {
     /// The bytes of all fields.
     bytes: Vec<u8>,
     /// Where those of each field lie among them.
@@ -48,19 +48,6 @@ impl SearchKey {
         }
     }
 
-    /// One more field, which is null.
-    pub fn push_null(&mut self) -> Result<(), NoMemory>
-        ensures { OnOk result (self.new ≡ self.old ++ None ∷ []) }
-    {
-        self.places.push(Place {
-            null: true,
-            external: false,
-            from: 0,
-            until: 0,
-        })?;
-        Ok(())
-    }
-
     /// One more field, with these bytes. After want of memory the key isn't used again.
     pub fn push(&mut self, bytes: &[u8]) -> Result<(), NoMemory>
         ensures { OnOk result (self.new ≡ self.old ++ Some bytes.now ∷ []) }
@@ -74,13 +61,6 @@ impl SearchKey {
             until: from + bytes.len(),
         })?;
         Ok(())
-    }
-
-    /// How many fields it has.
-    pub fn len(&self) -> usize
-        ensures { result ≡ length self.now }
-    {
-        self.places.len()
     }
 
     /// The order of a record's key against this one, which has as many fields.

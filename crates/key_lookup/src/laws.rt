@@ -1,9 +1,12 @@
 //! Laws of the definitions, each the contract of a function that does nothing.
 
-ghost use Rattle.key_lookup.specs.Laws.{FindsRowIn, FindsInValid, GetFirstHasOneAnswer};
+ghost use Rattle.schema_text.specs.Grammar.{IsTable};
+ghost use Rattle.key_lookup.specs.Laws.{FindsRowIn, FindsInValid, GetFirstHasOneAnswer, SpellsOneKey};
 
 use index_page::laws::{checks_are_an_index_page, keys_rise_throughout};
 use offpage_chain::laws::has_one_chain;
+use row_text::laws::key_texts_are_unique;
+use schema_text::Schema;
 use schema_text::laws::lists_are_of_one_index;
 use table_check::laws::checks_are_validity;
 
@@ -23,6 +26,20 @@ pub fn finds_in_valid()
     has_one_chain();
     lists_are_of_one_index();
     checks_are_validity();
+}
+
+/// A schema is that of a table.
+pub(crate) fn schema_is_table(schema: &Schema)
+    ensures { IsTable schema.now }
+{
+    let _ = schema.columns();
+}
+
+/// The text of a key spells no other one.
+pub fn text_spells_one_key()
+    ensures { SpellsOneKey }
+{
+    key_texts_are_unique();
 }
 
 /// The checks of a look-up have one answer: the first broken one, or none.

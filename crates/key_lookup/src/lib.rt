@@ -7,16 +7,18 @@ mod choose;
 mod fetch;
 mod find;
 mod key;
+mod key_text;
 pub mod laws;
 mod leaf;
 mod look_up;
 mod record;
 mod room;
 mod stop;
+#[cfg(test)]
+mod tests;
 mod tree;
 mod value;
 mod way;
 
-pub use by_key::get_by_key;
-pub use key::SearchKey;
+pub use by_key::get;
 pub use stop::GetStop;

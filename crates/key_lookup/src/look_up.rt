@@ -9,6 +9,7 @@ ghost use Rattle.space_audit.specs.Marks.{is_set};
 ghost use Rattle.tree_walk.specs.Index.{root_level};
 ghost use Rattle.tree_walk.specs.Records.{IsRecord};
 ghost use Rattle.tree_walk.specs.Room.{HasSameRoom};
+ghost use Rattle.key_lookup.specs.Record.{found_row, found_pages};
 ghost use Rattle.key_lookup.specs.GetFirst.{LookUpChecks};
 ghost use Rattle.key_lookup.specs.Tree.{OfIndex, IsReady};
 ghost use Rattle.key_lookup.specs.LookUp.{IsFound, pages_found};
@@ -52,8 +53,8 @@ pub(crate) fn look_up<S: PageSource, L: Ledger>(
         IsFound index key.now walk.new.child found)) }
     ensures readable { IfOk result (λ found. IfSome found (λ row.
         IsRecord walk.new.child tree.now.leaf.now row.origin)) }
-    ensures told { IfOk result (λ found. OfIndex S.PageSource source.old tree.now (λ index.
-        steps.new ≤ steps.old + root_level index + 1 + pages_found found)) }
+    ensures told { OfIndex S.PageSource source.old tree.now (λ index.
+        steps.new ≤ steps.old + root_level index + 1 + length (found_pages index (found_row index key.now))) }
     ensures few { IfOk result (λ found. steps.new + pages_found found ≤ steps.old + 51 + 2 * length marks.old) }
     ensures cost { steps.new ≤ steps.old + 52 + length marks.old }
     ensures over { HaltsOver S.PageSource source.old source.new result }

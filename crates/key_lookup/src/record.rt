@@ -5,6 +5,7 @@ ghost use Rattle.column_values.specs.Types.{AreFields, IsFieldKind};
 ghost use Rattle.compact_record.specs.Keys.{LiesBelow, IsWholeReading};
 ghost use Rattle.space_audit.specs.Marks.{is_set};
 ghost use Rattle.table_check.specs.Marking.{ChecksPages};
+ghost use Rattle.page_source.specs.Calls.{OfFile};
 ghost use Rattle.key_lookup.specs.Values.{CanMark, FieldChecksOn, RecordChecksOn, pages_of_field_on, pages_of_record_on};
 
 use crate::leaf::Leaf;
@@ -32,7 +33,8 @@ fn check_field<S: PageSource, L: Ledger>(
     ensures checks { ChecksPages S.PageSource source.old source.new marks.old marks.new steps.old steps.new result
         (λ file. FieldChecksOn file leaf.now kind place (is_set marks.old))
         (λ file. pages_of_field_on file leaf.now kind place) }
-    ensures few { IfOk result (λ count. steps.new ≤ steps.old + count) }
+    ensures told { OfFile S.PageSource source.old (λ file.
+        steps.new ≤ steps.old + length (pages_of_field_on file leaf.now kind place)) }
 {
     let FieldType::Column(kind) = kind else {
         return Ok(0);
@@ -60,7 +62,8 @@ pub(crate) fn check_record<S: PageSource, L: Ledger>(
     ensures checks { ChecksPages S.PageSource source.old source.new marks.old marks.new steps.old steps.new result
         (λ file. RecordChecksOn file leaf.now located.now.origin (is_set marks.old))
         (λ file. pages_of_record_on file leaf.now located.now.origin) }
-    ensures few { IfOk result (λ count. steps.new ≤ steps.old + count) }
+    ensures told { OfFile S.PageSource source.old (λ file.
+        steps.new ≤ steps.old + length (pages_of_record_on file leaf.now located.now.origin)) }
 {
     let _size = leaf.header.size;
     let mut count = 0;

@@ -1,9 +1,10 @@
 //! What ends a look-up before its row is written.
 
 ghost use Rattle.std.specs.Prelude.{◌≡◌};
-ghost use Rattle.key_lookup.specs.Stops.{get_stop_of, get_stop_of_write};
+ghost use Rattle.key_lookup.specs.Stops.{get_stop_of, get_stop_of_write, get_stop_of_row};
 
 use page_source::{Fault, NoMemory, Stop};
+use row_text::RowError;
 use sql_dump::WriteStop;
 use thiserror::Error;
 
@@ -61,5 +62,16 @@ impl From<NoMemory> for GetStop {
 
     fn from(_: NoMemory) -> Self {
         GetStop::Memory
+    }
+}
+
+impl From<RowError> for GetStop {
+    ghost from_gives = { λ error stop. stop ≡ get_stop_of_row error };
+
+    fn from(error: RowError) -> Self {
+        match error {
+            RowError::Refused => GetStop::Refused,
+            RowError::Memory => GetStop::Memory,
+        }
     }
 }

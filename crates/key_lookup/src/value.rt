@@ -41,7 +41,8 @@ fn check_external<S: PageSource, L: Ledger>(
     ensures checks { ChecksPages S.PageSource source.old source.new marks.old marks.new steps.old steps.new result
         (λ file. FoundValueChecks file leaf.now.number kind.now local.now true (is_set marks.old))
         (λ file. pages_of_value file local.now true) }
-    ensures few { IfOk result (λ count. steps.new ≤ steps.old + count) }
+    ensures told { OfFile S.PageSource source.old (λ file.
+        steps.new ≤ steps.old + length (pages_of_value file local.now true)) }
 {
     let (front, reference) = cut(local);
     if front.len() + reference.length as usize > greatest_length(*kind) {
@@ -78,7 +79,8 @@ pub(crate) fn check_value<S: PageSource, L: Ledger>(
     ensures checks { ChecksPages S.PageSource source.old source.new marks.old marks.new steps.old steps.new result
         (λ file. ValueChecksOn file leaf.now kind.now place (is_set marks.old))
         (λ file. pages_of_value_on file leaf.now place) }
-    ensures few { IfOk result (λ count. steps.new ≤ steps.old + count) }
+    ensures told { OfFile S.PageSource source.old (λ file.
+        steps.new ≤ steps.old + length (pages_of_value_on file leaf.now place)) }
 {
     let local = &leaf.page.bytes()[place.from..place.until];
     if place.external {

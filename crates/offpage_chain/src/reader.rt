@@ -37,10 +37,10 @@ impl ChainReader {
     }
 
     /// Fetches the next page into `page`, and gives the number of its bytes, which stand from byte 46
-    /// on; none once the whole value was given. Each fetch takes one from `left`. `Broken` names rule
-    /// 49 and the page that is due, where `left` is 0 or the page has no such part; over a file that
-    /// tells its bytes, and whose chain was checked, it comes only where `left` is less than the pages
-    /// that are left.
+    /// on; none once the whole value was given. A fetch takes one from `left`, and a call fetches once
+    /// at the most. `Broken` names rule 49 and the page that is due, where `left` is 0 or the page has
+    /// no such part; over a file that tells its bytes, and whose chain was checked, it comes only where
+    /// `left` is less than the pages that are left.
     pub fn part<S: PageSource, L: Ledger>(
         &mut self,
         source: &mut S,
@@ -57,6 +57,7 @@ impl ChainReader {
         ensures lacks { (fault : Fault) → result ≡ Err (Halt.Broken fault)
             → LacksPart self.old page.new left.old fault }
         ensures kept { OnErr result (self.new ≡ self.old) }
+        ensures one { left.old ≤ left.new + 1 }
         ensures cost { steps.new + left.new ≡ steps.old + left.old }
         ensures over { HaltsOver S.PageSource source.old source.new result }
     {

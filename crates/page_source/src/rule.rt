@@ -116,7 +116,7 @@ pub enum Rule {
 pub struct Fault {
     /// The rule that is broken.
     pub rule: Rule,
-    /// The number of the page that is named, as docs/FORMATS.md says of each rule.
+    /// The number of the page that is named, as docs/RULES.md says of each rule.
     pub page: u32,
 }
 

@@ -64,21 +64,21 @@ fn pages_of_a_file_are_read(rt: HostRuntime) -> Result<(), Fail> {
     Ok(())
 }
 
-/// A page past the reach of a number of 16 bits, in a file that is nearly all holes.
+/// A page past the reach of a place of 32 bits, in a file that is nearly all holes.
 #[test]
 fn pages_of_a_large_file_are_read(rt: HostRuntime) -> Result<(), Fail> {
     let mut file = OpenOptions::new()
         .write(true)
         .create(true)
         .open(&rt, "large.ibd")?;
-    file.set_len(70_000 * 16384)?;
-    file.seek(SeekFrom::Start(69_999 * 16384))?;
+    file.set_len(262_146 * 16384)?;
+    file.seek(SeekFrom::Start(262_145 * 16384))?;
     file.write_all(b"the last page")?;
     let mut page = Page::zeroed(rt.alloc())?;
     let mut source = FilePages::new(&rt, Some(b"large.ibd"));
-    assert_eq!(rt; source.pages(), Ok(70_000));
+    assert_eq!(rt; source.pages(), Ok(262_146));
     assert_eq!(rt;
-        fetch::<HostRuntime, Brand>(&mut source, 69_999, &mut page, Blank::new(1)),
+        fetch::<HostRuntime, Brand>(&mut source, 262_145, &mut page, Blank::new(1)),
         Ok(())
     );
     assert_eq!(rt; &page.bytes()[..13], b"the last page".as_slice());

@@ -12,13 +12,13 @@ use Rattle.jiff_core.specs.Calendar.{IsCivilDate, IsDate, days_from_civil}
 use Rattle.jiff_core.specs.Date.{epoch_day, IsYmd}
 use Rattle.jiff_core.specs.declared.civil.date.Date.{Date}
 use Rattle.jiff_core.proofs.DateLemmas.{civil}
-use Rattle.row_text.specs.Reads.{IsDateOf}
+use Rattle.row_text.specs.calls.Moments.{IsDateOf}
 use Rattle.row_text.proofs.Seconds.{civil_of, date_is}
 
-pub same_year : (y : ℕ) → y < 10000 → to_z w16 y ≡ pos y
+same_year : (y : ℕ) → y < 10000 → to_z w16 y ≡ pos y
 same_year y low = to_z_pos w16 (omega (arith, low))
 
-pub same_small : (m : ℕ) → m < 100 → to_z w8 m ≡ pos m
+same_small : (m : ℕ) → m < 100 → to_z w8 m ≡ pos m
 same_small m low = to_z_pos w8 (omega (arith, low))
 
 civil_date : (y m d : ℕ) → IsCivilDate (pos y) m d → IsDate (pos y) (pos m) (pos d)
@@ -28,14 +28,9 @@ civil_date y m d is = (
   (omega (arith, ints, is.2.0), omega (arith, ints, is.2.1)),
 )
 
-pub is_date : (y m d : ℕ) → y < 10000 → m < 100 → d < 100 → IsCivilDate (pos y) m d
+is_date : (y m d : ℕ) → y < 10000 → m < 100 → d < 100 → IsCivilDate (pos y) m d
     → IsDate (to_z w16 y) (to_z w8 m) (to_z w8 d)
 is_date y m d ly lm ld is = rw (same_year y ly, same_small m lm, same_small d ld) (civil_date y m d is)
-
-pub ymd_of : {E : Type 0} (year month day : ℤ) (r : Result Date E) (d : Date) → Some d ≡ result_ok r
-    → IfOk r (IsYmd year month day) → IsYmd year month day d
-ymd_of year month day (Ok x) d e is = let same : d ≡ x = cc e in subst (IsYmd year month day) (sym same) is
-ymd_of year month day (Err x) d e is = absurd (cc e)
 
 -- the numbers of a date
 pub record HasNumbers (y m d : ℕ) (date : Date) : Type 0 where
@@ -43,19 +38,19 @@ pub record HasNumbers (y m d : ℕ) (date : Date) : Type 0 where
   pub month : date.month ≡ m
   pub day : date.day ≡ d
 
-pub numbers_of : (y m d : ℕ) (date : Date) → y < 10000 → m < 100 → d < 100
+numbers_of : (y m d : ℕ) (date : Date) → y < 10000 → m < 100 → d < 100
     → IsYmd (to_z w16 y) (to_z w8 m) (to_z w8 d) date → HasNumbers y m d date
 numbers_of y m d date ly lm ld is =
     let month : pos date.month ≡ pos m = is.1 ∙ same_small m lm in
     let day : pos date.day ≡ pos d = is.2 ∙ same_small d ld in
     record { year = is.0 ∙ same_year y ly; month = cc month; day = cc day }
 
-pub epoch_is : (y m d : ℕ) (date : Date) → HasNumbers y m d date → epoch_day date ≡ days_from_civil (pos y) m d
+epoch_is : (y m d : ℕ) (date : Date) → HasNumbers y m d date → epoch_day date ≡ days_from_civil (pos y) m d
 epoch_is y m d date is =
     ap (λ (k : ℤ). days_from_civil k date.month date.day) is.year
     ∙ ap (λ (k : ℕ). days_from_civil (pos y) k date.day) is.month ∙ ap (days_from_civil (pos y) m) is.day
 
-pub civil_is : (y m d : ℕ) (date : Date) → HasNumbers y m d date → IsCivilDate (pos y) m d
+civil_is : (y m d : ℕ) (date : Date) → HasNumbers y m d date → IsCivilDate (pos y) m d
 civil_is y m d date is =
     subst (λ (k : ℤ). IsCivilDate k m d) is.year (subst (λ (k : ℕ). IsCivilDate date.year k d) is.month
     (subst (λ (k : ℕ). IsCivilDate date.year date.month k) is.day (civil date)))

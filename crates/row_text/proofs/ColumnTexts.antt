@@ -1,25 +1,15 @@
 -- The text of a value, or of no value, at the head of a text.
-use Rattle.std.proofs.Common.{◌≡◌, ℕ, List, ◌++◌, drop, true, false, Result, Ok, Err, inl, inr, sym, ap, ◌∙◌, subst}
+use Rattle.std.proofs.Common.{◌≡◌, ℕ, List, ◌++◌, true, false, Result, Ok, Err, inl, inr, sym, ap, ◌∙◌}
 use Rattle.std.specs.Prelude.{codes}
 use Rattle.std.proofs.lemmas.Bool.{false≢true}
 use Rattle.column_values.specs.declared.value.Value.{Value}
-use Rattle.column_values.specs.declared.value.Value.TheVariants.{Null}
 use Rattle.column_values.specs.Types.{IsColumnType}
 use Rattle.schema_text.specs.declared.table.Column.{Column}
 use Rattle.row_text.specs.declared.row.RowError.{RowError}
 use Rattle.row_text.specs.declared.row.RowError.TheVariants.{Refused, Memory}
 use Rattle.row_text.specs.Values.{value_text}
-use Rattle.row_text.specs.Reads.{EndsValue, BeginsColumn, FindsValue, FindsColumn}
+use Rattle.row_text.specs.calls.Values.{EndsValue, BeginsColumn, FindsValue, FindsColumn}
 use Rattle.row_text.proofs.Columns.{fits_cases, value_fits, no_null_text}
-
-pub null_found : (column : Column) (text rest : List ℕ) → column.nullable ≡ true → text ≡ codes "NULL" ++ rest
-    → EndsValue rest → BeginsColumn column Null text (drop 4 text)
-null_found column text rest nullable e ends =
-    let left : drop 4 text ≡ rest = ap (drop 4) e in record {
-      fits = nullable;
-      spelled = e ∙ ap (λ (t : List ℕ). codes "NULL" ++ t) (sym left);
-      ends = subst EndsValue (sym left) ends;
-    }
 
 pub null_refused : (column : Column) (text rest : List ℕ) → IsColumnType column.kind → column.nullable ≡ false
     → text ≡ codes "NULL" ++ rest → (value : Value) (more : List ℕ) → ¬ (BeginsColumn column value text more)

@@ -16,13 +16,13 @@ use Rattle.schema_text.specs.declared.table.Column.{Column}
 use Rattle.row_text.specs.Digits.{four_digits, behind_point, whole_text, decimal_text}
 use Rattle.row_text.specs.Values.{quoted, hex_text, hex_or_empty, value_text, date_text, moment_text}
 use Rattle.row_text.specs.Line.{FitsColumn}
-use Rattle.row_text.specs.Reads.{EndsValue}
+use Rattle.row_text.specs.calls.Values.{EndsValue}
 use Rattle.row_text.proofs.OneNumber.{first_digit, whole_plus, whole_minus, hex_of_some}
 use Rattle.row_text.proofs.OneText.{one_text, units_low, signed_is}
-use Rattle.row_text.proofs.Shapes.{HasShape, shape, shapes_apart, all_from, unsigned_low}
+use Rattle.row_text.proofs.Shapes.{shape, shapes_apart, unsigned_low}
 
 -- no type has the value null
-pub null_spells : (kind : ColumnType) (bytes : List ℕ) → Spell kind values.Null bytes → ⊥
+null_spells : (kind : ColumnType) (bytes : List ℕ) → Spell kind values.Null bytes → ⊥
 null_spells (types.Int w true) bytes spell = spell
 null_spells (types.Int w false) bytes spell = spell
 null_spells types.Date bytes spell = spell
@@ -104,7 +104,7 @@ units_head s (negsuc n) rest t b low e =
     ∙ sym (append_assoc (whole_text s (negsuc n)) (behind_point s (suc n)) rest) ∙ e in
     let is : 45 ≡ b = ap (λ (l : List ℕ). get_or l 0 0) f in omega (arith, is)
 
-pub text_head : (kind : ColumnType) (value : Value) (rest t : List ℕ) (b : ℕ) → IsColumnType kind
+text_head : (kind : ColumnType) (value : Value) (rest t : List ℕ) (b : ℕ) → IsColumnType kind
     → IsValueOf kind value → value_text kind value ++ rest ≡ b ∷ t → b ≤ 57
 text_head (types.Int w true) (values.Signed z) rest t b known is e = signed_head z rest t b (signed_is w z known is) e
 text_head (types.Int w false) (values.Unsigned n) rest t b known is e =
@@ -145,11 +145,8 @@ pub no_null_text : (kind : ColumnType) (value : Value) (rest t : List ℕ) → I
 no_null_text kind value rest t known is e =
     let low = text_head kind value rest (codes "ULL" ++ t) 78 known is e in omega (arith, low)
 
-null_shape : HasShape (codes "NULL")
-null_shape = inl (all_from (codes "NULL") refl)
-
 -- a value ends where it ends, and its text is that of no other
-pub one_value : (kind : ColumnType) (v u : Value) (x y : List ℕ) → IsColumnType kind → IsValueOf kind v
+one_value : (kind : ColumnType) (v u : Value) (x y : List ℕ) → IsColumnType kind → IsValueOf kind v
     → IsValueOf kind u → value_text kind v ++ x ≡ value_text kind u ++ y → EndsValue x → EndsValue y
     → (v ≡ u) × (x ≡ y)
 one_value kind v u x y known a b e ex ey =

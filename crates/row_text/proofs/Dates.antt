@@ -13,7 +13,7 @@ use Rattle.jiff_core.proofs.CalendarLemmas.{day_count-day_of_year, day_count-lat
 use Rattle.row_text.specs.Calendar.{day_number, year_of_day, month_of_day, day_of_day}
 
 -- a test that the first numbers of a range pass, and no later one
-pub count_first : (p : ℕ → Bool) (a n k : ℕ) → k ≤ n → ((i : ℕ) → i < k → p (a + i) ≡ true)
+count_first : (p : ℕ → Bool) (a n k : ℕ) → k ≤ n → ((i : ℕ) → i < k → p (a + i) ≡ true)
     → ((i : ℕ) → k ≤ i → i < n → p (a + i) ≡ false)
     → count_by p (range_with_len a n) ≡ k
 count_first p a zero k few passes fails = let none : k ≡ 0 = omega (arith, few) in sym none

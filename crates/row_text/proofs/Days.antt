@@ -16,7 +16,7 @@ pub record DateOf (n : ℕ) : Type 0 where
   pub day : ℕ
   pub is : IsDayOf year month day n
 
-pub dated : (year month day n : ℕ) → n ≤ 24855 → IsCivilDate (pos year) month day
+dated : (year month day n : ℕ) → n ≤ 24855 → IsCivilDate (pos year) month day
     → day_count (pos year) month day ≡ 4371953 + n → DateOf n
 dated year month day n few civil counted =
     let number : days_from_civil (pos year) month day ≡ pos n =

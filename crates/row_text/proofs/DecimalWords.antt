@@ -16,13 +16,13 @@ use Rattle.column_values.specs.Decimals.{decimal_bytes, signed_groups}
 use Rattle.column_values.proofs.DecimalValues.{are_top, are_signed}
 use Rattle.column_values.proofs.Groups.{some_power}
 use Rattle.row_text.specs.Digits.{last_digits, behind_point, decimal_text}
-use Rattle.row_text.specs.Reads.{IsWordOf, unsigned_text}
+use Rattle.row_text.specs.calls.Words.{IsWordOf, unsigned_text}
 use Rattle.row_text.proofs.FixedDigits.{ten_step, same_parts, behind_size, behind_mod}
 use Rattle.row_text.proofs.OneNumber.{decimal_one, first_digit, whole_plus, whole_minus, back}
 use Rattle.row_text.proofs.Shapes.{decimal_low}
 
 -- numbers with one remainder have the same last digits
-pub last_same : (c m n : ℕ) → m % 10 ^ c ≡ n % 10 ^ c → last_digits c m ≡ last_digits c n
+last_same : (c m n : ℕ) → m % 10 ^ c ≡ n % 10 ^ c → last_digits c m ≡ last_digits c n
 unfolding last_digits
 last_same zero m n e = refl
 last_same (suc c) m n e =
@@ -37,7 +37,7 @@ last_same (suc c) m n e =
 abbrev if_digits : ℕ → List ℕ → List ℕ
 if_digits c t = cond (eqb c 0) [] (46 ∷ t)
 
-pub behind_same : (c m n : ℕ) → m % 10 ^ c ≡ n % 10 ^ c → behind_point c m ≡ behind_point c n
+behind_same : (c m n : ℕ) → m % 10 ^ c ≡ n % 10 ^ c → behind_point c m ≡ behind_point c n
 behind_same c m n e = ap (λ (t : List ℕ). if_digits c t) (last_same c m n e)
 
 -- whole and part
@@ -50,7 +50,7 @@ units_text s whole part low =
     ∙ ap (λ (t : List ℕ). decimal ((whole * 10 ^ s + part) / 10 ^ s) ++ t)
     (behind_same s part (whole * 10 ^ s + part) (mod-eq_of_lt low ∙ sym last))
 
-pub power_parts : (p s : ℕ) → s ≤ p → 10 ^ p ≡ 10 ^ (p - s) * 10 ^ s
+power_parts : (p s : ℕ) → s ≤ p → 10 ^ p ≡ 10 ^ (p - s) * 10 ^ s
 power_parts p s few =
     let both : p ≡ (p - s) + s = omega (arith, few) in ap (λ (k : ℕ). 10 ^ k) both ∙ pow-add 10 (p - s) s
 
@@ -81,11 +81,6 @@ unit_parts s n size text whole part sized a b e =
       part_is = b ∙ ap (drop (length text - size)) e ∙ drop_at front (behind_point s n) (length text - size) place;
     }
 
-pub long_units : (s n size : ℕ) (text : List ℕ) → ((m : ℕ) → size ≡ length (behind_point s m)) → length text < size
-    → text ≡ unsigned_text s n → ⊥
-long_units s n size text sized short e =
-    omega (arith, ap length e, length-append (decimal (n / 10 ^ s)) (behind_point s n), sized n, short)
-
 pub whole_low : (p s n : ℕ) → s ≤ p → n < 10 ^ p → n / 10 ^ s < 10 ^ (p - s)
 whole_low p s n few low = div_below n (10 ^ s) (10 ^ (p - s)) (some_power s) (omega (arith, low, power_parts p s few))
 
@@ -94,7 +89,7 @@ units_bytes : (p s : ℕ) (z : ℤ) → IsColumnType (types.Decimal p s) → Are
 unfolding decimal_bytes
 units_bytes p s z known = are_top (signed_groups (decimal_groups p s) z) (are_signed p s known z)
 
-pub decimal_is : (p s : ℕ) (z : ℤ) (word : List ℕ) → IsColumnType (types.Decimal p s) → nat_abs z < 10 ^ p
+decimal_is : (p s : ℕ) (z : ℤ) (word : List ℕ) → IsColumnType (types.Decimal p s) → nat_abs z < 10 ^ p
     → word ≡ decimal_text s z → IsWordOf (types.Decimal p s) (values.Decimal z) word
 decimal_is p s z word known low e = record {
   is_value = (decimal_bytes p s z, units_bytes p s z known, record { few = low; digits = refl });

@@ -5,8 +5,7 @@ use Rattle.row_text.specs.declared.row.RowError.{RowError}
 use Rattle.row_text.specs.declared.row.RowError.TheVariants.{Refused, Memory}
 use Rattle.column_values.specs.declared.value.Value.{Value}
 use Rattle.schema_text.specs.declared.table.Column.{Column}
-use Rattle.column_values.specs.declared.kind.ColumnType.{ColumnType}
-use Rattle.row_text.specs.Reads.{IsNoText, ReadsNext, FindsValues, IsWordOf, FindsWord, BeginsWith, FindsValue}
+use Rattle.row_text.specs.calls.Rows.{IsNoText, ReadsNext, FindsValues}
 
 pub next_failed : (columns : List Column) (text : List ℕ) (values : List Value) (r : Result ℕ RowError) (e : RowError)
     → IsErrAnd r (λ d. d ≡ e) → (e ≡ Refused → IsNoText columns text) → ReadsNext columns text values r
@@ -19,16 +18,3 @@ pub values_failed : (columns : List Column) (text : List ℕ) (r : Result (List 
 values_failed columns text (Ok n) e is none = absurd is
 values_failed columns text (Err Refused) e is none = none (sym is)
 values_failed columns text (Err Memory) e is none = tt
-
-pub word_failed : (kind : ColumnType) (word : List ℕ) (r : Result Value RowError) (e : RowError)
-    → IsErrAnd r (λ d. d ≡ e) → (e ≡ Refused → (v : Value) → ¬ (IsWordOf kind v word)) → FindsWord kind word r
-word_failed kind word (Ok v) e is none = absurd is
-word_failed kind word (Err Refused) e is none = none (sym is)
-word_failed kind word (Err Memory) e is none = tt
-
-pub value_failed : (kind : ColumnType) (text : List ℕ) (r : Result (Value × ℕ) RowError) (e : RowError)
-    → IsErrAnd r (λ d. d ≡ e) → (e ≡ Refused → (v : Value) (rest : List ℕ) → ¬ (BeginsWith kind v text rest))
-    → FindsValue kind text r
-value_failed kind text (Ok v) e is none = absurd is
-value_failed kind text (Err Refused) e is none = none (sym is)
-value_failed kind text (Err Memory) e is none = tt

@@ -1,6 +1,6 @@
 -- The escapes of a text in parts.
 use Rattle.std.proofs.Common.{◌≡◌, ◌≢◌, ℕ, zero, suc, ◌+◌, ◌<◌, List, [], ◌∷◌, ◌++◌, flat_map, take, slice_index, refl}
-use Rattle.std.proofs.Common.{sym, ap, ◌∙◌, ◌≤◌, eqb, ltb, get_or, not, false, Option, None, Some, position}
+use Rattle.std.proofs.Common.{sym, ap, ◌∙◌, ◌≤◌, eqb, ltb, get_or, not, false, None, Some, position}
 use Rattle.std.proofs.Common.{map, length, drop, set, cond, All, subst, arith, inl, inr}
 use Rattle.std.specs.List.{position_or_len}
 use Rattle.std.proofs.lemmas.Bool.{cond-true, cond-false, eq-eqb, ne_eqb, eqb-true, eqb-false, not-true, not-false}

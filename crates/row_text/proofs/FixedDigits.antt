@@ -39,7 +39,7 @@ ten_step m c =
     ap (λ (k : ℕ). m % k) (tens c) ∙ ap (λ (k : ℕ). k % (10 ^ c * 10)) (sym whole)
     ∙ mod-mul-add (m / 10 ^ c / 10) (10 ^ c * 10) (m / 10 ^ c % 10 * 10 ^ c + m % 10 ^ c) fits
 
-pub last_mod : (c m n : ℕ) → last_digits c m ≡ last_digits c n → m % 10 ^ c ≡ n % 10 ^ c
+last_mod : (c m n : ℕ) → last_digits c m ≡ last_digits c n → m % 10 ^ c ≡ n % 10 ^ c
 unfolding last_digits
 last_mod zero m n e = omega arith
 last_mod (suc c) m n e =
@@ -48,10 +48,6 @@ last_mod (suc c) m n e =
     let rest : last_digits c m ≡ last_digits c n = cc in
     ten_step m c ∙ ap (λ (k : ℕ). k * 10 ^ c + m % 10 ^ c) first
     ∙ ap (λ (k : ℕ). n / 10 ^ c % 10 * 10 ^ c + k) (last_mod c m n rest) ∙ sym (ten_step n c)
-
-pub last_injective : (c m n : ℕ) → m < 10 ^ c → n < 10 ^ c → last_digits c m ≡ last_digits c n → m ≡ n
-last_injective c m n low_m low_n e =
-    sym (mod-eq_of_lt low_m) ∙ last_mod c m n e ∙ mod-eq_of_lt low_n
 
 pub length-last_digits : (c n : ℕ) → length (last_digits c n) ≡ c
 unfolding last_digits
@@ -72,9 +68,6 @@ last_push (suc c) n d low =
     shift (n * 10 + d) c ∙ ap (λ (k : ℕ). k / 10 ^ c) front in
     ap (λ (k : ℕ). (48 + k % 10) ∷ last_digits (suc c) (n * 10 + d)) head
     ∙ ap (λ (t : List ℕ). (48 + n / 10 ^ c % 10) ∷ t) (last_push c n d low)
-
-pub last_more : (c n : ℕ) → n / 10 < 10 ^ c → n < 10 ^ suc c
-last_more c n low = rw (tens c) (omega (arith, low))
 
 -- numbers in a fixed number of digits
 pub two_injective : (m n : ℕ) (s t : List ℕ) → m < 100 → n < 100 → two_digits m ++ s ≡ two_digits n ++ t

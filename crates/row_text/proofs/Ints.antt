@@ -10,7 +10,7 @@ use Rattle.column_values.specs.Types.{IsWidth}
 use Rattle.column_values.specs.Spell.{IsInRange, int_bytes}
 use Rattle.column_values.proofs.IntegerValues.{integer_in_range, integer_spelled, signed_written, unsigned_written}
 use Rattle.column_values.proofs.Numbers.{half_is_most, pow256_most}
-use Rattle.row_text.specs.Reads.{FitsLong, IsWordOf}
+use Rattle.row_text.specs.calls.Words.{FitsLong, IsWordOf}
 
 pub signed_word : (w : ℕ) (z : ℤ) (word : List ℕ) → IsWidth w → word ≡ signed_decimal z → IsInRange true w z
     → IsWordOf (types.Int w true) (values.Signed z) word
@@ -27,18 +27,18 @@ unsigned_word w n word known is low =
     (unsigned_written w (pos n) range) refl in
     record { is_value = (int_bytes false w (pos n), spelled.are_bytes, spelled.spell); spelled = is }
 
-pub fits_long : (w : ℕ) (z : ℤ) → IsWidth w → IsInRange true w z → FitsLong z
+fits_long : (w : ℕ) (z : ℤ) → IsWidth w → IsInRange true w z → FitsLong z
 fits_long w z known range =
     let most = half_is_most w (omega (arith, known)) in
     (omega (arith, ints, range.0, most), omega (arith, ints, range.1, most))
 
-pub signed_is : (w : ℕ) (v : Value) (word : List ℕ) → IsWidth w → IsWordOf (types.Int w true) v word
+signed_is : (w : ℕ) (v : Value) (word : List ℕ) → IsWidth w → IsWordOf (types.Int w true) v word
     → (z : ℤ) × (word ≡ signed_decimal z) × IsInRange true w z
 signed_is w (values.Signed z) word known is =
     (z, is.spelled, integer_in_range w true (values.Signed z) z (omega (arith, known)) refl is.is_value)
 signed_is w _ word known is = absurd is.is_value.2
 
-pub unsigned_is : (w : ℕ) (v : Value) (word : List ℕ) → IsWidth w → IsWordOf (types.Int w false) v word
+unsigned_is : (w : ℕ) (v : Value) (word : List ℕ) → IsWidth w → IsWordOf (types.Int w false) v word
     → (n : ℕ) × (word ≡ decimal n) × (n < 256 ^ w)
 unsigned_is w (values.Unsigned n) word known is =
     let range = integer_in_range w false (values.Unsigned n) (pos n) (omega (arith, known)) refl is.is_value in

@@ -16,7 +16,7 @@ key_step columns i places d within =
     ap (λ (o : Option Column). cons_option o (filter_map (slice_get columns) places))
     (slice_get-get_or columns i d (All-head (IsPlace columns) i places within))
 
-pub key_count : (columns : List Column) (places : List ℕ) → All (λ i. i < length columns) places
+key_count : (columns : List Column) (places : List ℕ) → All (λ i. i < length columns) places
     → length (filter_map (slice_get columns) places) ≡ length places
 key_count [] [] within = refl
 key_count [] (i ∷ places) within = absurd (omega (arith, All-head (IsPlace []) i places within))
@@ -25,7 +25,7 @@ key_count (c ∷ columns) (i ∷ places) within =
     ap length (key_step (c ∷ columns) i places c within)
     ∙ ap suc (key_count (c ∷ columns) places (All-tail (IsPlace (c ∷ columns)) i places within))
 
-pub key_column_at : (columns : List Column) (places : List ℕ) (k : ℕ) (d : Column)
+key_column_at : (columns : List Column) (places : List ℕ) (k : ℕ) (d : Column)
     → All (λ i. i < length columns) places → k < length places
     → slice_get (filter_map (slice_get columns) places) k ≡ Some (get_or columns (get_or places k 0) d)
 key_column_at columns [] k d within lt = absurd (omega (arith, lt))

@@ -14,7 +14,8 @@ mod Errors
 mod Reading
 mod Words
 mod Ints
-mod RawWords
+mod RawValues
+mod LeadingBytes
 mod ColumnTexts
 mod ReadDigits
 mod MomentWords

@@ -12,7 +12,8 @@ use Rattle.page_source.specs.Pages.{be_bytes}
 use Rattle.row_text.specs.declared.read_moments.MomentParts.{MomentParts}
 use Rattle.row_text.specs.Digits.{two_digits, four_digits, behind_point}
 use Rattle.row_text.specs.Values.{quoted, date_text, clock_text, time_text, moment_text}
-use Rattle.row_text.specs.Reads.{IsWordOf, IsMomentWord}
+use Rattle.row_text.specs.calls.Words.{IsWordOf}
+use Rattle.row_text.specs.calls.Moments.{IsMomentWord}
 use Rattle.row_text.proofs.FixedDigits.{two_injective, four_injective, behind_injective}
 use Rattle.row_text.proofs.OneMoment.{fraction_low, fraction_back}
 use Rattle.row_text.proofs.OneNumber.{inside_one}
@@ -119,7 +120,7 @@ pub record OneTime (h m s h2 m2 s2 : ℕ) (x y : List ℕ) : Type 0 where
   pub second : s ≡ s2
   pub rest : x ≡ y
 
-pub one_time : (h m s h2 m2 s2 : ℕ) (x y : List ℕ) → h < 100 → m < 100 → s < 100 → h2 < 100 → m2 < 100 → s2 < 100
+one_time : (h m s h2 m2 s2 : ℕ) (x y : List ℕ) → h < 100 → m < 100 → s < 100 → h2 < 100 → m2 < 100 → s2 < 100
     → clock_text h m s ++ x ≡ clock_text h2 m2 s2 ++ y → OneTime h m s h2 m2 s2 x y
 one_time h m s h2 m2 s2 x y lh lm ls lh2 lm2 ls2 e =
     let a = two_injective h h2 (58 ∷ (two_digits m ++ 58 ∷ (two_digits s ++ x)))
@@ -235,12 +236,6 @@ fraction_part f y mo d h mi s n inside rest fraction e r c =
 pub date_part : (f y mo d h mi s n : ℕ) (inside date : List ℕ) → inside ≡ moment_text f y mo d h mi s n
     → date ≡ take 10 inside → date ≡ date_text y mo d
 date_part f y mo d h mi s n inside date e c = c ∙ ap (take 10) e
-
-pub long_moment : (f y mo d h mi s n : ℕ) (inside : List ℕ) → inside ≡ moment_text f y mo d h mi s n
-    → length inside < 19 → ⊥
-long_moment f y mo d h mi s n inside e short =
-    let size : length inside ≡ 19 + length (behind_point f (n / 10 ^ (6 - f))) = ap length e ∙ omega arith in
-    omega (arith, size, short)
 
 pub whole_moment : (f y mo d h mi s n : ℕ) (inside date rest clock fraction : List ℕ) → date ≡ take 10 inside
     → rest ≡ drop 10 inside → clock ≡ take 9 rest → fraction ≡ drop 9 rest → date ≡ date_text y mo d

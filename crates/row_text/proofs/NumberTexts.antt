@@ -10,7 +10,7 @@ use Rattle.std.specs.Result.{MatchResult, result_ok}
 use Rattle.std.specs.Fmt.{decimal, signed_decimal}
 use Rattle.std.specs.Bool.{then_some}
 use Rattle.std.specs.Borrow.{Bor}
-use Rattle.row_text.specs.Reads.{FitsLong}
+use Rattle.row_text.specs.calls.Words.{FitsLong}
 
 pub utf8_wide : {E : Type 0} (F : E → Type 0) (s : List ℕ) (n : ℕ) (r : Result (Bor (List ℕ)) E)
     → MatchResult r (λ t. (t.now ≡ s) × IsUtf8 s) (λ e. ¬ (IsUtf8 s) × F e) → None ≡ result_ok r → n < 10 ^ 64

@@ -5,7 +5,7 @@ use Rattle.std.proofs.Math.Nat.{div-div-eq-div-mul, pow-succ', mul_comm}
 use Rattle.row_text.specs.Digits.{last_digits}
 
 -- the list from a place on that was written
-pub drop_set : (xs : List ℕ) (i v : ℕ) → i < length xs → drop i (slice_set xs i v) ≡ v ∷ drop (suc i) xs
+drop_set : (xs : List ℕ) (i v : ℕ) → i < length xs → drop i (slice_set xs i v) ≡ v ∷ drop (suc i) xs
 drop_set [] i v lt = absurd (omega (arith, lt))
 drop_set (x ∷ xs) zero v lt = refl
 drop_set (x ∷ xs) (suc i) v lt = drop_set xs i v (omega (arith, lt))

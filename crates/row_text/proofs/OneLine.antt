@@ -19,7 +19,7 @@ use Rattle.row_text.specs.Values.{value_text}
 use Rattle.row_text.specs.Line.{FitsColumn, IsTableRow, comma, joined_values, values_of, line_of}
 use Rattle.row_text.specs.KeyText.{key_columns, IsRowIdText, IsColumnsText}
 use Rattle.row_text.specs.Writer.{line_open, line_close}
-use Rattle.row_text.specs.Reads.{EndsValue}
+use Rattle.row_text.specs.calls.Values.{EndsValue}
 use Rattle.row_text.specs.Laws.{HasOneLine, HasOneRow, BeginsNoOther, HasOneKeyText, HasOneKey}
 use Rattle.row_text.proofs.OneNumber.{decimal_one}
 use Rattle.row_text.proofs.Columns.{one_column}
@@ -66,7 +66,7 @@ led_apart (c ∷ columns) (p ∷ v) (q ∷ w) x y known a b e ex ey =
     let rest = led_apart columns v w x y (All-tail IsKnown c columns known) a.1 b.1 first.1 ex ey in
     (ap (λ (h : Value). h ∷ v) first.0 ∙ ap (λ (t : List Value). q ∷ t) rest.0, rest.1)
 
-pub rows_apart : (columns : List Column) (v w : List Value) (x y : List ℕ) → All IsKnown columns
+rows_apart : (columns : List Column) (v w : List Value) (x y : List ℕ) → All IsKnown columns
     → AllZip FitsColumn columns v → AllZip FitsColumn columns w
     → joined_values columns v ++ x ≡ joined_values columns w ++ y → EndsValue x → EndsValue y → (v ≡ w) × (x ≡ y)
 rows_apart [] [] [] x y known a b e ex ey = (refl, e)
@@ -83,7 +83,7 @@ pub has_one_line : HasOneLine
 has_one_line table row a b one two = append_cancel_right a b (line_feed ∷ []) (one.spelled ∙ sym two.spelled)
 
 -- the line of a row, from its values on
-pub line_parts : (table : TableDef) (row : List Value) (x : List ℕ)
+line_parts : (table : TableDef) (row : List Value) (x : List ℕ)
     → line_of table row ++ x ≡ line_open table ++ (values_of table row ++ (line_close ++ x))
 unfolding line_of
 line_parts table row x =
@@ -121,7 +121,7 @@ known_columns columns [] known = All-nil IsKnown
 known_columns columns (i ∷ places) known = known_at columns i (slice_get columns i) (filter_map (slice_get columns) places)
     known refl (known_columns columns places known)
 
-pub known_key : (table : TableDef) → IsTable table → All IsKnown (key_columns table)
+known_key : (table : TableDef) → IsTable table → All IsKnown (key_columns table)
 known_key table is = known_columns table.columns (clustered table).columns is.kinds
 
 columns_text_one : (columns : List Column) (v w : List Value) (text : List ℕ) → All IsKnown columns

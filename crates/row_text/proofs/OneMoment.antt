@@ -86,7 +86,7 @@ pub record SameStamp (s u s2 u2 : ℕ) : Type 0 where
   pub seconds : s ≡ s2
   pub micro : u ≡ u2
 
-pub low_clock : (f seconds micro : ℕ) → IsFraction f micro
+low_clock : (f seconds micro : ℕ) → IsFraction f micro
     → IsLowTime f (seconds / 3600 % 24) (seconds / 60 % 60) (seconds % 60) micro
 low_clock f seconds micro is = record {
   hour = omega arith;

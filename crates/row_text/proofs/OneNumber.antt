@@ -34,7 +34,7 @@ pub first_digit : (n : ℕ) (rest t : List ℕ) (b : ℕ) → n < 10 ^ 64 → de
 first_digit n rest t b low e = let is = decimal_is_IsNumeral_wide n low in
     starts (decimal n) rest t b is.0.0 is.0.1 e
 
-pub no_sign : (n : ℕ) (t : List ℕ) → n < 10 ^ 64 → decimal n ≡ 45 ∷ t → ⊥
+no_sign : (n : ℕ) (t : List ℕ) → n < 10 ^ 64 → decimal n ≡ 45 ∷ t → ⊥
 no_sign n t low e = let d = first_digit n [] t 45 low (append-nil (decimal n) ∙ e) in omega (arith, d.0)
 
 sign_plus : (n : ℕ) → sign_text (pos n) ≡ []
@@ -87,7 +87,7 @@ pub inside_one : (a b : List ℕ) → quoted a ≡ quoted b → a ≡ b
 inside_one a b e =
     let f : a ++ 39 ∷ [] ≡ b ++ 39 ∷ [] = cc in append_cancel_right a b (39 ∷ []) f
 
-pub are_is : (bytes : List ℕ) → AreBytes bytes → IsBytes bytes
+are_is : (bytes : List ℕ) → AreBytes bytes → IsBytes bytes
 are_is bytes are = λ i. elim (cases_lt i (length bytes)) [
   | inl lt ↦ All-get_or (λ (b : ℕ). b < 256) bytes i 0 lt are
   | inr past ↦ omega (arith, get_or_past bytes i 0 past)

@@ -10,7 +10,8 @@ use Rattle.column_values.specs.declared.value.Value.TheVariants as values
 use Rattle.column_values.specs.Spell.{Spell, IsValueOf, IsSpelling, IsTrimmed}
 use Rattle.column_values.proofs.TextValues.{char_spelled}
 use Rattle.row_text.specs.Values.{quoted, escaped_text, value_text}
-use Rattle.row_text.specs.Reads.{EndsValue, BeginsWith, is_quoted}
+use Rattle.row_text.specs.calls.Values.{EndsValue, BeginsWith}
+use Rattle.row_text.specs.calls.Texts.{is_quoted}
 use Rattle.row_text.specs.Writer.{is_text}
 use Rattle.row_text.proofs.Quotes.{quoted_apart}
 
@@ -68,7 +69,7 @@ text_of (types.Utf8Text n) _ quote is = absurd is.2
 text_of _ value quote is = absurd (false≢true quote)
 
 -- a value that the text begins with is a text in quotes
-pub begins_quoted : (kind : ColumnType) (value : Value) (text rest : List ℕ) → is_quoted kind ≡ true
+begins_quoted : (kind : ColumnType) (value : Value) (text rest : List ℕ) → is_quoted kind ≡ true
     → BeginsWith kind value text rest → (inside : List ℕ) × IsValueOf kind (values.Text inside)
     × (text ≡ quoted (escaped_text inside) ++ rest)
 begins_quoted kind value text rest quote begins =
@@ -86,12 +87,6 @@ no_text kind text inside rest quote is none value more begins =
     let found = begins_quoted kind value text more quote begins in
     let same = quoted_apart found.0 inside more rest (sym found.2 ∙ is) in
     none (subst (λ (t : List ℕ). IsValueOf kind (values.Text t)) same.0 found.1) (subst EndsValue same.1 begins.ends)
-
-pub no_quoted : (kind : ColumnType) (text : List ℕ) → is_quoted kind ≡ true
-    → ((inside rest : List ℕ) → text ≢ quoted (escaped_text inside) ++ rest) → (value : Value) (more : List ℕ)
-    → ¬ (BeginsWith kind value text more)
-no_quoted kind text quote none value more begins =
-    let found = begins_quoted kind value text more quote begins in none found.0 more found.2
 
 pub not_char : (kind : ColumnType) → is_quoted kind ≡ true → ((n : ℕ) → kind ≡ types.Char n → ⊥) → is_text kind ≡ true
 not_char (types.Char n) quote other = absurd (other n refl)

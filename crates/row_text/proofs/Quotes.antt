@@ -1,5 +1,5 @@
 -- Where a text in quotes ends.
-use Rattle.std.proofs.Common.{◌≡◌, ◌≢◌, ℕ, ◌≤◌, ◌⊎◌, inl, inr, eqb, cond, List, [], ◌∷◌, ◌++◌, flat_map, get_or, subst}
+use Rattle.std.proofs.Common.{◌≡◌, ◌≢◌, ℕ, ◌≤◌, ◌⊎◌, inl, inr, eqb, cond, List, [], ◌∷◌, ◌++◌, flat_map}
 use Rattle.std.proofs.Common.{refl, sym, ap, ◌∙◌, arith, append_assoc}
 use Rattle.std.proofs.lemmas.Bool.{cases_eq, ne_eqb}
 use Rattle.std.proofs.lemmas.List.Elements.{All-nil, All-cons, All-head, All-tail}
@@ -28,7 +28,7 @@ plain_byte b n0 n1 n2 n3 n4 n5 n6 =
     refl
 
 -- a byte stands for itself, or its letter stands for it
-pub cases_letter : (b : ℕ) → (escape_letter b ≡ 0) ⊎ HasLetter b
+cases_letter : (b : ℕ) → (escape_letter b ≡ 0) ⊎ HasLetter b
 cases_letter b = elim (cases_eq b 0) [
   | inl e ↦ rw e (inr (record { back = refl; known = inl refl }))
   | inr n0 ↦ elim (cases_eq b 10) [
@@ -59,7 +59,7 @@ cases_letter b = elim (cases_eq b 0) [
 abbrev pub IsSafe : ℕ → Type 0
 IsSafe b = (b ≡ 32) ⊎ ((45 ≤ b) × (b ≤ 122) × (b ≢ 92))
 
-pub safe_is_plain : (b : ℕ) → IsSafe b → escape_letter b ≡ 0
+safe_is_plain : (b : ℕ) → IsSafe b → escape_letter b ≡ 0
 safe_is_plain b safe = elim safe [
   | inl e ↦ rw e refl
   | inr h ↦ rw (
@@ -75,7 +75,7 @@ safe_is_plain b safe = elim safe [
   ) refl
 ]
 
-pub safe_text : (text : List ℕ) → All IsSafe text → IsPlain text
+safe_text : (text : List ℕ) → All IsSafe text → IsPlain text
 safe_text [] safe = All-nil (λ byte. escape_letter byte ≡ 0)
 safe_text (b ∷ text) safe = All-cons (λ byte. escape_letter byte ≡ 0) b text
     (safe_is_plain b (All-head IsSafe b text safe)) (safe_text text (All-tail IsSafe b text safe))
@@ -88,11 +88,11 @@ pub some_letter : (b : ℕ) → HasLetter b → escape_letter b ≢ 0
 some_letter b has none = omega (arith, has.known, none)
 
 -- a backslash has one
-pub backslash_has : (b : ℕ) → b ≡ 92 → escape_letter b ≡ 0 → ⊥
+backslash_has : (b : ℕ) → b ≡ 92 → escape_letter b ≡ 0 → ⊥
 backslash_has b is none = let e : escape_letter b ≡ 92 = ap escape_letter is in omega (arith, e, none)
 
 -- a byte's text ends before another one's, and is that of no other
-pub escaped_apart : (a b : ℕ) (s t : List ℕ) → escaped a ++ s ≡ escaped b ++ t → (a ≡ b) × (s ≡ t)
+escaped_apart : (a b : ℕ) (s t : List ℕ) → escaped a ++ s ≡ escaped b ++ t → (a ≡ b) × (s ≡ t)
 escaped_apart a b s t e = elim (cases_letter a) [
   | inl pa ↦ elim (cases_letter b) [
     | inl pb ↦ let f : a ∷ s ≡ b ∷ t = sym (ap (λ (h : List ℕ). h ++ s) (itself a pa)) ∙ e
@@ -115,7 +115,7 @@ escaped_apart a b s t e = elim (cases_letter a) [
 ]
 
 -- no byte's text begins with a quote
-pub escaped_no_quote : (a : ℕ) (s t : List ℕ) → escaped a ++ s ≡ 39 ∷ t → ⊥
+escaped_no_quote : (a : ℕ) (s t : List ℕ) → escaped a ++ s ≡ 39 ∷ t → ⊥
 escaped_no_quote a s t e = elim (cases_letter a) [
   | inl pa ↦ let f : a ∷ s ≡ 39 ∷ t = sym (ap (λ (h : List ℕ). h ++ s) (itself a pa)) ∙ e in
       let is : a ≡ 39 = cc in
@@ -126,7 +126,7 @@ escaped_no_quote a s t e = elim (cases_letter a) [
 ]
 
 -- a text ends at its quote
-pub unquoted_apart : (a b x y : List ℕ) → escaped_text a ++ 39 ∷ x ≡ escaped_text b ++ 39 ∷ y → (a ≡ b) × (x ≡ y)
+unquoted_apart : (a b x y : List ℕ) → escaped_text a ++ 39 ∷ x ≡ escaped_text b ++ 39 ∷ y → (a ≡ b) × (x ≡ y)
 unfolding escaped_text
 unquoted_apart [] [] x y e = (refl, cc)
 unquoted_apart [] (b ∷ others) x y e =
@@ -162,50 +162,3 @@ left_of (a ∷ list) rest [] more e =
 left_of (a ∷ list) rest (b ∷ inside) more e =
     left_of list rest inside more (escaped_apart a b (flat_map escaped list ++ rest) (flat_map escaped inside ++ 39 ∷ more)
     (sym (append_assoc (escaped a) _ _) ∙ e ∙ append_assoc (escaped b) _ _)).1
-
-abbrev IsSelf : ℕ → Type 0
-IsSelf byte = escape_letter byte ≡ 0
-
--- a byte of two stands there
-pub record Letters (text : List ℕ) : Type 0 where
-  pub byte : ℕ
-  pub letter : HasLetter byte
-  pub more : List ℕ
-  pub same : text ≡ 92 ∷ escape_letter byte ∷ more
-
--- the first byte of what is left, where it doesn't stand for itself, is a quote or a backslash
-pub stops : (text inside more : List ℕ) → text ≡ escaped_text inside ++ 39 ∷ more
-    → (escape_letter (get_or text 0 0) ≡ 0 → ⊥) → (get_or text 0 0 ≢ 39) → Letters text
-unfolding escaped_text
-stops text [] more e some other = absurd (other (ap (λ (t : List ℕ). get_or t 0 0) e))
-stops text (b ∷ inside) more e some other =
-    let f : text ≡ escaped b ++ (flat_map escaped inside ++ 39 ∷ more) = e ∙ append_assoc (escaped b) _ _ in
-    elim (cases_letter b) [
-      | inl plain ↦ let g : text ≡ b ∷ (flat_map escaped inside ++ 39 ∷ more) =
-          f ∙ ap (λ (t : List ℕ). t ++ (flat_map escaped inside ++ 39 ∷ more)) (itself b plain) in
-          absurd (some (ap (λ (t : List ℕ). escape_letter (get_or t 0 0)) g ∙ plain))
-      | inr has ↦ record {
-        byte = b;
-        letter = has;
-        more = flat_map escaped inside ++ 39 ∷ more;
-        same = f ∙ ap (λ (t : List ℕ). t ++ (flat_map escaped inside ++ 39 ∷ more)) (behind_backslash b (some_letter b has));
-      }
-    ]
-
--- a text of bytes that stand for themselves has no end
-pub no_end_in : (text inside more : List ℕ) → IsPlain text → text ≡ escaped_text inside ++ 39 ∷ more → ⊥
-unfolding escaped_text
-no_end_in text [] more plain e =
-    let is = All-head IsSelf 39 more (subst IsPlain e plain) in omega (arith, is)
-no_end_in text (b ∷ inside) more plain e =
-    let f : text ≡ escaped b ++ (flat_map escaped inside ++ 39 ∷ more) = e ∙ append_assoc (escaped b) _ _ in
-    elim (cases_letter b) [
-      | inl self ↦ let g : text ≡ b ∷ (flat_map escaped inside ++ 39 ∷ more) =
-          f ∙ ap (λ (t : List ℕ). t ++ (flat_map escaped inside ++ 39 ∷ more)) (itself b self) in
-          no_end_in (flat_map escaped inside ++ 39 ∷ more) inside more
-          (All-tail IsSelf b (flat_map escaped inside ++ 39 ∷ more) (subst IsPlain g plain)) refl
-      | inr has ↦ let g : text ≡ 92 ∷ escape_letter b ∷ (flat_map escaped inside ++ 39 ∷ more) =
-          f ∙ ap (λ (t : List ℕ). t ++ (flat_map escaped inside ++ 39 ∷ more)) (behind_backslash b (some_letter b has)) in
-          let is = All-head IsSelf 92 (escape_letter b ∷ (flat_map escaped inside ++ 39 ∷ more)) (subst IsPlain g plain) in
-          omega (arith, is)
-    ]

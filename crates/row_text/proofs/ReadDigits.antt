@@ -35,7 +35,7 @@ digits_fit count number d low few small =
     omega (arith, most, step, low, small)
 
 -- each digit of a number is one
-pub digit_at_is : (count n i : ℕ) → i < count → 48 + n / 10 ^ (count - suc i) % 10 ≡ get_or (last_digits count n) i 0
+digit_at_is : (count n i : ℕ) → i < count → 48 + n / 10 ^ (count - suc i) % 10 ≡ get_or (last_digits count n) i 0
 unfolding last_digits
 digit_at_is zero n i lt = absurd (omega (arith, lt))
 digit_at_is (suc count) n zero lt =

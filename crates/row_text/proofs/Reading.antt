@@ -14,7 +14,8 @@ use Rattle.row_text.specs.Values.{value_text}
 use Rattle.row_text.specs.Line.{FitsColumn, comma, joined_values}
 use Rattle.row_text.specs.KeyText.{IsColumnsText}
 use Rattle.row_text.specs.Writer.{before_value}
-use Rattle.row_text.specs.Reads.{EndsValue, BeginsColumn, HasRead, IsNoText}
+use Rattle.row_text.specs.calls.Values.{EndsValue, BeginsColumn}
+use Rattle.row_text.specs.calls.Rows.{HasRead, IsNoText}
 use Rattle.row_text.proofs.Columns.{one_column}
 use Rattle.row_text.proofs.OneLine.{led_values, joined_led, ends_led}
 
@@ -37,7 +38,7 @@ fits_at (c ∷ columns) (v ∷ row) zero d e fits lt = fits.0
 fits_at (c ∷ columns) (v ∷ row) (suc k) d e fits lt = fits_at columns row k d e fits.1 (omega (arith, lt))
 
 -- one value more
-pub fits_more : (columns : List Column) (values : List Value) (column : Column) (v : Value)
+fits_more : (columns : List Column) (values : List Value) (column : Column) (v : Value)
     → AllZip FitsColumn columns values → FitsColumn column v → AllZip FitsColumn (columns ++ column ∷ []) (values ++ v ∷ [])
 fits_more [] [] column v fits more = (more, tt)
 fits_more [] (w ∷ values) column v fits more = absurd fits
@@ -54,7 +55,7 @@ led_more (c ∷ columns) (w ∷ values) column v fits =
     ∙ ap (λ (t : List ℕ). comma ∷ t) (sym (append_assoc (value_text c.kind w) (led_values columns values)
     (comma ∷ value_text column.kind v)))
 
-pub joined_more : (columns : List Column) (values : List Value) (column : Column) (v : Value)
+joined_more : (columns : List Column) (values : List Value) (column : Column) (v : Value)
     → AllZip FitsColumn columns values → joined_values (columns ++ column ∷ []) (values ++ v ∷ [])
     ≡ joined_values columns values ++ (before_value (length values) ++ value_text column.kind v)
 joined_more [] [] column v fits = refl
@@ -108,7 +109,7 @@ pub record NextIs (column : Column) (text : List ℕ) (values row : List Value) 
       ++ (value_text column.kind (get_or row (length values) Null) ++ more)
   pub ends : EndsValue more
 
-pub next_is : (columns : List Column) (column : Column) (text : List ℕ) (values row : List Value) (at : ℕ)
+next_is : (columns : List Column) (column : Column) (text : List ℕ) (values row : List Value) (at : ℕ)
     → slice_get columns (length values) ≡ Some column → HasRead columns text values at → IsColumnsText columns row text
     → NextIs column text values row at
 next_is columns column text values row at is read has =
@@ -197,10 +198,6 @@ pub next_unled : (columns : List Column) (column : Column) (text : List ℕ) (va
     → ((rest : List ℕ) → drop at text ≡ before_value (length values) ++ rest → ⊥) → IsNoText columns text
 next_unled columns column text values at is read none = λ row has.
     let next = next_is columns column text values row at is read has in none _ next.there
-
--- before the first value
-pub read_none : (columns : List Column) (text : List ℕ) → HasRead columns text [] 0
-read_none columns text = record { few = omega arith; fits = tt; spelled = refl; only = λ row has. refl }
 
 -- behind the last value nothing is left, or no values have the text
 pub read_all : (columns : List Column) (text : List ℕ) (values : List Value) (at : ℕ) → HasRead columns text values at

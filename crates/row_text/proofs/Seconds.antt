@@ -1,7 +1,7 @@
 -- Words of timestamps.
 use Rattle.std.proofs.Common.{◌≡◌, ◌≢◌, ℕ, ◌+◌, ◌*◌, ◌/◌, ◌%◌, ◌<◌, ◌≤◌, inl, inr, List, [], ◌∷◌, ◌++◌}
 use Rattle.std.proofs.Common.{refl, sym, ap, ◌∙◌, subst, pos, arith}
-use Rattle.std.proofs.lemmas.Bool.{cases_lt, ne_eqb}
+use Rattle.std.proofs.lemmas.Bool.{cases_lt}
 use Rattle.page_source.specs.Pages.{be_bytes}
 use Rattle.jiff_core.specs.Calendar.{day_count, days_from_civil, IsCivilDate}
 use Rattle.jiff_core.proofs.SignedLemmas.{signed_arith}
@@ -12,9 +12,9 @@ use Rattle.column_values.specs.declared.value.Value.TheVariants as values
 use Rattle.column_values.specs.Moments.{IsTimestamp, fraction_bytes}
 use Rattle.column_values.proofs.MomentValues.{timestamp_spelled}
 use Rattle.row_text.specs.declared.read_moments.MomentParts.{MomentParts}
-use Rattle.row_text.specs.Calendar.{year_of_day, month_of_day, day_of_day}
 use Rattle.row_text.specs.Values.{quoted, date_text, time_text, moment_text, day_text, timestamp_text}
-use Rattle.row_text.specs.Reads.{IsWordOf, IsMomentWord, IsDateOf, IsSecondOf, IsNoSecond}
+use Rattle.row_text.specs.calls.Words.{IsWordOf}
+use Rattle.row_text.specs.calls.Moments.{IsMomentWord, IsDateOf, IsSecondOf, IsNoSecond}
 use Rattle.row_text.proofs.Dates.{is_day, year_is, month_is, day_is}
 use Rattle.row_text.proofs.Days.{date_of, parts_of}
 use Rattle.row_text.proofs.MomentWords.{one_moment, one_date}
@@ -75,7 +75,7 @@ pub record StampIs (f : ℕ) (moment : MomentParts) (v : Value) : Type 0 where
   pub none : seconds ≡ 0 → moment.micro ≡ 0
   pub second : IsSecondOf seconds moment
 
-pub stamp_is : (f : ℕ) (moment : MomentParts) (word : List ℕ) (v : Value) → f ≤ 6 → IsMomentWord f moment word
+stamp_is : (f : ℕ) (moment : MomentParts) (word : List ℕ) (v : Value) → f ≤ 6 → IsMomentWord f moment word
     → IsWordOf (types.Timestamp f) v word → StampIs f moment v
 unfolding timestamp_text
 stamp_is f moment word (values.Timestamp s n) few is has =
@@ -108,7 +108,7 @@ stamp_is f moment word (values.Timestamp s n) few is has =
 stamp_is f moment word _ few is has = absurd has.is_value.2
 
 -- the second 0 has the date of all zeros
-pub zero_parts : (moment : MomentParts) → moment.date.year < 10000 → moment.date.month < 100 → moment.date.day < 100
+zero_parts : (moment : MomentParts) → moment.date.year < 10000 → moment.date.month < 100 → moment.date.day < 100
     → IsSecondOf 0 moment → moment.micro ≡ 0 → IsNoSecond moment
 zero_parts moment y m d is micro =
     let same = one_date 0 0 0 moment.date.year moment.date.month moment.date.day [] [] (omega arith) (omega arith)
@@ -123,7 +123,7 @@ zero_parts moment y m d is micro =
       micro = micro;
     }
 
-pub zero_second : (moment : MomentParts) → IsNoSecond moment → IsSecondOf 0 moment
+zero_second : (moment : MomentParts) → IsNoSecond moment → IsSecondOf 0 moment
 zero_second moment is = record {
   date = ap (λ (y : ℕ). date_text y 0 0) (sym is.year) ∙ ap (λ (m : ℕ). date_text moment.date.year m 0) (sym is.month)
       ∙ ap (date_text moment.date.year moment.date.month) (sym is.day);
@@ -145,23 +145,6 @@ no_stamp f moment word few is some none v has =
           some (zero_parts moment is.year is.month is.day (subst (λ (s : ℕ). IsSecondOf s moment) zero_is found.second)
           (found.none zero_is))
     ]
-
--- from the parts of a second to its day and back
-pub second_of : (n clock s h m sec : ℕ) (moment : MomentParts) → s ≡ n * 86400 + (h * 3600 + m * 60 + sec) → 1 ≤ s
-    → h ≡ moment.time.hour → m ≡ moment.time.minute → sec ≡ moment.time.second → h ≤ 23 → m ≤ 59 → sec ≤ 59
-    → IsDateOf n moment.date.year moment.date.month moment.date.day → IsSecondOf s moment
-second_of n clock s h m sec moment e some hour minute second lh lm ls is =
-    let day : s / 86400 ≡ n = omega (arith, e, lh, lm, ls) in
-    let ne : s ≡ 0 → ⊥ = λ zeroth. omega (arith, some, zeroth) in
-    record {
-      date = rw (ne_eqb s 0 ne) (ap (λ (k : ℕ). date_text (year_of_day k) (month_of_day k) (day_of_day k)) day
-          ∙ ap (λ (y : ℕ). date_text y (month_of_day n) (day_of_day n)) is.year_is
-          ∙ ap (λ (x : ℕ). date_text moment.date.year x (day_of_day n)) is.month_is
-          ∙ ap (date_text moment.date.year moment.date.month) is.day_is);
-      hour = omega (arith, e, lh, lm, ls) ∙ hour;
-      minute = omega (arith, e, lh, lm, ls) ∙ minute;
-      second = omega (arith, e, lh, lm, ls) ∙ second;
-    }
 
 pub day_is_of : (s : ℕ) (moment : MomentParts) → 1 ≤ s → s ≤ 2147483647 → moment.date.year < 10000
     → moment.date.month < 100 → moment.date.day < 100 → IsSecondOf s moment

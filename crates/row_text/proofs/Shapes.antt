@@ -23,7 +23,7 @@ use Rattle.column_values.proofs.Numbers.{half_is_most, pow256_most}
 use Rattle.row_text.specs.Digits.{last_digits, two_digits, four_digits, behind_point, sign_text, whole_text, decimal_text}
 use Rattle.row_text.specs.Values.{escaped_text, quoted, hex_text, hex_or_empty, date_text, clock_text, time_text, moment_text}
 use Rattle.row_text.specs.Values.{day_text, timestamp_text, value_text}
-use Rattle.row_text.specs.Reads.{EndsValue}
+use Rattle.row_text.specs.calls.Values.{EndsValue}
 use Rattle.row_text.proofs.Quotes.{IsSafe, safe_escaped, quoted_apart}
 
 abbrev is_safe : ℕ → Bool
@@ -65,20 +65,20 @@ point = inr (omega arith, omega arith, λ e. omega (arith, e))
 blank : IsSafe 32
 blank = inl refl
 
-pub two_safe : (n : ℕ) → All IsSafe (two_digits n)
+two_safe : (n : ℕ) → All IsSafe (two_digits n)
 two_safe n = All-cons IsSafe (48 + n / 10 % 10) ((48 + n % 10) ∷ []) (digit (n / 10))
     (All-cons IsSafe (48 + n % 10) [] (digit n) (All-nil IsSafe))
 
 pub four_safe : (n : ℕ) → All IsSafe (four_digits n)
 four_safe n = All-append IsSafe (two_digits (n / 100)) (two_digits n) (two_safe (n / 100)) (two_safe n)
 
-pub last_safe : (count n : ℕ) → All IsSafe (last_digits count n)
+last_safe : (count n : ℕ) → All IsSafe (last_digits count n)
 unfolding last_digits
 last_safe zero n = All-nil IsSafe
 last_safe (suc count) n = All-cons IsSafe (48 + n / 10 ^ count % 10) (last_digits count n) (digit (n / 10 ^ count))
     (last_safe count n)
 
-pub behind_safe : (count n : ℕ) → All IsSafe (behind_point count n)
+behind_safe : (count n : ℕ) → All IsSafe (behind_point count n)
 behind_safe count n = cond_both (eqb count 0) [] (46 ∷ last_digits count n) (All IsSafe) (λ _. All-nil IsSafe)
     (λ _. All-cons IsSafe 46 (last_digits count n) point (last_safe count n))
 
@@ -93,13 +93,13 @@ date_safe year month day = All-append IsSafe (four_digits year) (45 ∷ two_digi
     (All-append IsSafe (two_digits month) (45 ∷ two_digits day) (two_safe month)
     (All-cons IsSafe 45 (two_digits day) dash (two_safe day))))
 
-pub clock_safe : (hour minute second : ℕ) → All IsSafe (clock_text hour minute second)
+clock_safe : (hour minute second : ℕ) → All IsSafe (clock_text hour minute second)
 clock_safe hour minute second = All-append IsSafe (two_digits hour) (58 ∷ two_digits minute ++ 58 ∷ two_digits second)
     (two_safe hour) (All-cons IsSafe 58 (two_digits minute ++ 58 ∷ two_digits second) colon
     (All-append IsSafe (two_digits minute) (58 ∷ two_digits second) (two_safe minute)
     (All-cons IsSafe 58 (two_digits second) colon (two_safe second))))
 
-pub time_safe : (f hour minute second micro : ℕ) → All IsSafe (time_text f hour minute second micro)
+time_safe : (f hour minute second micro : ℕ) → All IsSafe (time_text f hour minute second micro)
 time_safe f hour minute second micro = All-append IsSafe (clock_text hour minute second)
     (behind_point f (micro / 10 ^ (6 - f))) (clock_safe hour minute second) (behind_safe f (micro / 10 ^ (6 - f)))
 
@@ -120,10 +120,10 @@ timestamp_safe f seconds micro =
     (time_safe f (seconds / 3600 % 24) (seconds / 60 % 60) (seconds % 60) micro))
 
 -- hexadecimal digits
-hex_safe : (k : ℕ) → k < 16 → IsSafe (slice_index lower_digits k)
+pub hex_safe : (k : ℕ) → k < 16 → IsSafe (slice_index lower_digits k)
 hex_safe k lt = All-get_or IsSafe lower_digits k 0 lt (all_from lower_digits refl)
 
-pub encode_safe : (bytes : List ℕ) → AreBytes bytes → All IsSafe (encode_lower bytes)
+encode_safe : (bytes : List ℕ) → AreBytes bytes → All IsSafe (encode_lower bytes)
 unfolding encode_with
 encode_safe [] are = All-nil IsSafe
 encode_safe (b ∷ bytes) are =
@@ -133,7 +133,7 @@ encode_safe (b ∷ bytes) are =
     (All-cons IsSafe (slice_index lower_digits (b % 16)) (encode_lower bytes) (hex_safe (b % 16) (omega arith))
     (encode_safe bytes (All-tail (λ (x : ℕ). x < 256) b bytes are)))
 
-pub hex_text_safe : (bytes : List ℕ) → AreBytes bytes → All IsSafe (hex_text bytes)
+hex_text_safe : (bytes : List ℕ) → AreBytes bytes → All IsSafe (hex_text bytes)
 hex_text_safe bytes are = All-append IsSafe (codes "0x") (encode_lower bytes) (all_from (codes "0x") refl)
     (encode_safe bytes are)
 
@@ -228,7 +228,7 @@ ended b rest safe ends = omega (arith, safe, ends)
 no_end : (b : ℕ) (rest text : List ℕ) → IsSafe b → text ≡ b ∷ rest → EndsValue text → ⊥
 no_end b rest text safe e ends = ended b rest safe (subst EndsValue e ends)
 
-pub bare_apart : (s t x y : List ℕ) → All IsSafe s → All IsSafe t → s ++ x ≡ t ++ y → EndsValue x → EndsValue y
+bare_apart : (s t x y : List ℕ) → All IsSafe s → All IsSafe t → s ++ x ≡ t ++ y → EndsValue x → EndsValue y
     → (s ≡ t) × (x ≡ y)
 bare_apart [] [] x y a b e ex ey = (refl, e)
 bare_apart [] (c ∷ t) x y a b e ex ey = absurd (no_end c (t ++ y) x (All-head IsSafe c t b) e ex)

@@ -1,51 +1,59 @@
 -- A text in quotes that is read piece by piece.
-use Rattle.std.proofs.Common.{◌≡◌, ◌≢◌, ℕ, ◌+◌, ◌-◌, ◌≤◌, List, [], ◌∷◌, ◌++◌, length, take, drop, get_or, true, Some}
-use Rattle.std.proofs.Common.{refl, sym, ap, ◌∙◌, eqb, arith, append_assoc, length-append, position}
-use Rattle.std.proofs.lemmas.Bool.{eqb-false, not-true}
-use Rattle.std.proofs.lemmas.List.{take-append-drop, drop_at, get_or-drop}
-use Rattle.std.proofs.lemmas.List.Quantifiers.{position-Some}
-use Rattle.row_text.specs.Values.{escape_letter, escaped_text, is_escaped, quoted}
-use Rattle.row_text.proofs.Escapes.{escaped_append, escaped_front, alone, behind_backslash}
-use Rattle.row_text.proofs.Quotes.{left_of, stops, some_letter}
+use Rattle.std.proofs.Common.{◌≡◌, ◌≢◌, ℕ, ◌+◌, ◌-◌, ◌<◌, ◌≤◌, List, [], ◌∷◌, ◌++◌, length, take, drop}
+use Rattle.std.proofs.Common.{set, refl, sym, ap, ◌∙◌, arith, append_assoc, length-append}
+use Rattle.std.proofs.lemmas.List.{drop_at, drop-drop, take_more_set, take-append-drop}
+use Rattle.row_text.specs.Values.{escaped, escaped_text, quoted, IsPlain}
+use Rattle.row_text.specs.calls.Texts.{LeadsByte, LeadsNoByte, TakesText}
+use Rattle.row_text.proofs.Escapes.{escaped_append, escaped_plain, alone}
+use Rattle.row_text.proofs.Quotes.{left_of}
 
-pub letter_of : (byte : ℕ) → is_escaped byte ≡ true → escape_letter byte ≡ 0 → ⊥
-letter_of byte is none = eqb-false (escape_letter byte) 0 (not-true (eqb (escape_letter byte) 0) is) none
+-- so many bytes stand in the room, and so many of the text were read
+pub record IsWritten (text room : List ℕ) (n at : ℕ) : Type 0 where
+  pub same : text ≡ escaped_text (take n room) ++ drop at text
+  pub least : n ≤ at
+  pub within : at ≤ length text
+  pub none : n ≡ 0 → at ≡ 0
 
--- the first byte that doesn't stand for itself
-pub first_is : (rest more : List ℕ) (at : ℕ) → position is_escaped rest ≡ Some at → more ≡ drop at rest
-    → is_escaped (get_or more 0 0) ≡ true
-first_is rest more at found e =
-    let place = position-Some is_escaped rest at 0 found in
-    let same : get_or more 0 0 ≡ get_or rest at 0 = ap (λ (t : List ℕ). get_or t 0 0) e ∙ get_or-drop at rest 0 0
-    ∙ ap (λ (k : ℕ). get_or rest k 0) (omega arith) in
-    ap is_escaped same ∙ place.1
+pub written_none : (text room : List ℕ) → IsWritten text room 0 0
+unfolding escaped_text
+written_none text room = record { same = refl; least = omega arith; within = omega arith; none = λ e. e }
 
--- what stands before it was read
-pub plain_read : (text list rest list2 more : List ℕ) (at : ℕ) → text ≡ 39 ∷ (escaped_text list ++ rest)
-    → position is_escaped rest ≡ Some at → list2 ≡ list ++ take at rest → more ≡ drop at rest
-    → text ≡ 39 ∷ (escaped_text list2 ++ more)
-plain_read text list rest list2 more at is found longer e =
-    let place = position-Some is_escaped rest at 0 found in
-    let front = escaped_front rest at place.2 in
-    let grown : escaped_text list2 ≡ escaped_text list ++ take at rest =
-    ap escaped_text longer ∙ escaped_append list (take at rest) ∙ ap (λ (t : List ℕ). escaped_text list ++ t) front in
-    is ∙ ap (λ (t : List ℕ). 39 ∷ (escaped_text list ++ t)) (sym (take-append-drop at rest))
-    ∙ ap (λ (t : List ℕ). 39 ∷ t) (sym (append_assoc (escaped_text list) (take at rest) (drop at rest)))
-    ∙ ap (λ (t : List ℕ). 39 ∷ (t ++ drop at rest)) (sym grown)
-    ∙ ap (λ (t : List ℕ). 39 ∷ (escaped_text list2 ++ t)) (sym e)
+pub written_more : (text room rest : List ℕ) (n at byte size : ℕ) → n < length room → IsWritten text room n at
+    → rest ≡ drop at text → LeadsByte byte size rest → at + size ≤ length text
+    → IsWritten text (set room n byte) (n + 1) (at + size)
+written_more text room rest n at byte size lt is left leads within =
+    let whole : drop at text ≡ escaped byte ++ drop (at + size) text = sym left ∙ leads.spelled
+    ∙ ap (λ (t : List ℕ). escaped byte ++ drop size t) left ∙ ap (λ (t : List ℕ). escaped byte ++ t) (drop-drop size at text) in
+    let longer : escaped_text (take (n + 1) (set room n byte)) ≡ escaped_text (take n room) ++ escaped byte =
+    ap escaped_text (take_more_set room n byte lt) ∙ escaped_append (take n room) (byte ∷ [])
+    ∙ ap (λ (t : List ℕ). escaped_text (take n room) ++ t) (alone byte) in record {
+      same = is.same ∙ ap (λ (t : List ℕ). escaped_text (take n room) ++ t) whole
+          ∙ sym (append_assoc (escaped_text (take n room)) (escaped byte) (drop (at + size) text))
+          ∙ ap (λ (t : List ℕ). t ++ drop (at + size) text) (sym longer);
+      least = omega (arith, is.least, leads.some);
+      within = within;
+      none = λ e. absurd (omega (arith, e));
+    }
 
--- and then a byte of two
-pub byte_read : (text list more list2 rest : List ℕ) (byte : ℕ) → text ≡ 39 ∷ (escaped_text list ++ more)
-    → (escape_letter byte ≢ 0) × (more ≡ 92 ∷ escape_letter byte ∷ drop 2 more) → list2 ≡ list ++ byte ∷ []
-    → rest ≡ drop 2 more → text ≡ 39 ∷ (escaped_text list2 ++ rest)
-byte_read text list more list2 rest byte is stop longer e =
-    let grown : escaped_text list2 ≡ escaped_text list ++ 92 ∷ escape_letter byte ∷ [] =
-    ap escaped_text longer ∙ escaped_append list (byte ∷ [])
-    ∙ ap (λ (t : List ℕ). escaped_text list ++ t) (alone byte ∙ behind_backslash byte stop.0) in
-    is ∙ ap (λ (t : List ℕ). 39 ∷ (escaped_text list ++ t)) stop.1
-    ∙ ap (λ (t : List ℕ). 39 ∷ t) (sym (append_assoc (escaped_text list) (92 ∷ escape_letter byte ∷ []) (drop 2 more)))
-    ∙ ap (λ (t : List ℕ). 39 ∷ (t ++ drop 2 more)) (sym grown)
-    ∙ ap (λ (t : List ℕ). 39 ∷ (escaped_text list2 ++ t)) (sym e)
+-- a front of bytes that stand for themselves
+pub plain_taken : (old new text plain rest : List ℕ) (n : ℕ) → IsPlain (take n text) → plain ≡ take n text
+    → rest ≡ drop n text → new ≡ old ++ plain → TakesText old new text rest
+plain_taken old new text plain rest n self front back grown = record {
+  bytes = take n text;
+  grown = grown ∙ ap (λ (t : List ℕ). old ++ t) front;
+  spelled = sym (take-append-drop n text) ∙ ap (λ (t : List ℕ). t ++ drop n text) (sym (escaped_plain (take n text) self))
+      ∙ ap (λ (t : List ℕ). escaped_text (take n text) ++ t) (sym back);
+}
+
+-- what was read is longer by what was taken
+pub read_more : (text list list2 rest more : List ℕ) → text ≡ 39 ∷ (escaped_text list ++ rest)
+    → TakesText list list2 rest more → text ≡ 39 ∷ (escaped_text list2 ++ more)
+read_more text list list2 rest more is takes =
+    let longer : escaped_text list2 ≡ escaped_text list ++ escaped_text takes.bytes =
+    ap escaped_text takes.grown ∙ escaped_append list takes.bytes in
+    is ∙ ap (λ (t : List ℕ). 39 ∷ (escaped_text list ++ t)) takes.spelled
+    ∙ ap (λ (t : List ℕ). 39 ∷ t) (sym (append_assoc (escaped_text list) (escaped_text takes.bytes) more))
+    ∙ ap (λ (t : List ℕ). 39 ∷ (t ++ more)) (sym longer)
 
 -- what is left, counted from the end
 pub left_at : (text front rest : List ℕ) (n : ℕ) → text ≡ front ++ rest → n ≡ length text - length rest → drop n text ≡ rest
@@ -54,37 +62,26 @@ left_at text front rest n e place =
     ap (λ (k : ℕ). drop k text) (place ∙ omega (arith, size)) ∙ ap (drop (length front)) e
     ∙ drop_at front rest (length front) refl
 
-pub quote_read : (text list more : List ℕ) (n : ℕ) → text ≡ 39 ∷ (escaped_text list ++ more) → more ≡ 39 ∷ drop 1 more
-    → n ≡ length text - length more + 1 → text ≡ quoted (escaped_text list) ++ drop n text
-quote_read text list more n is stop place =
-    let whole : text ≡ quoted (escaped_text list) ++ drop 1 more =
+pub quote_read : (text list rest more : List ℕ) (n : ℕ) → text ≡ 39 ∷ (escaped_text list ++ rest) → rest ≡ 39 ∷ more
+    → n ≡ length text - length more → text ≡ quoted (escaped_text list) ++ drop n text
+quote_read text list rest more n is stop place =
+    let whole : text ≡ quoted (escaped_text list) ++ more =
     is ∙ ap (λ (t : List ℕ). 39 ∷ (escaped_text list ++ t)) stop
-    ∙ ap (λ (t : List ℕ). 39 ∷ t) (sym (append_assoc (escaped_text list) (39 ∷ []) (drop 1 more))) in
-    let some : length more ≡ length (drop 1 more) + 1 = ap length stop ∙ omega arith in
-    let size : length text ≡ length (quoted (escaped_text list)) + length (drop 1 more) =
-    ap length whole ∙ length-append (quoted (escaped_text list)) (drop 1 more) in
-    let size2 : length (quoted (escaped_text list)) ≡ length (escaped_text list ++ 39 ∷ []) + 1 = omega arith in
-    let rest = left_at text (quoted (escaped_text list)) (drop 1 more) n whole (place ∙ omega (arith, some, size, size2)) in
-    whole ∙ ap (λ (t : List ℕ). quoted (escaped_text list) ++ t) (sym rest)
+    ∙ ap (λ (t : List ℕ). 39 ∷ t) (sym (append_assoc (escaped_text list) (39 ∷ []) more)) in
+    whole ∙ ap (λ (t : List ℕ). quoted (escaped_text list) ++ t) (sym (left_at text (quoted (escaped_text list)) more n whole place))
 
 -- no text in quotes stands there
-pub none_left : (text list more : List ℕ) → text ≡ 39 ∷ (escaped_text list ++ more)
-    → ((inside rest : List ℕ) → more ≢ escaped_text inside ++ 39 ∷ rest)
-    → (inside rest : List ℕ) → text ≢ quoted (escaped_text inside) ++ rest
-none_left text list more is none inside rest e =
+no_more : (text inside rest : List ℕ) → LeadsNoByte text → ((more : List ℕ) → text ≢ 39 ∷ more)
+    → text ≡ escaped_text inside ++ 39 ∷ rest → ⊥
+unfolding escaped_text
+no_more text [] rest none other e = other rest e
+no_more text (byte ∷ inside) rest none other e = none byte (escaped_text inside ++ 39 ∷ rest) (e ∙ append_assoc (escaped byte) _ _)
+
+pub none_left : (text list more : List ℕ) → text ≡ 39 ∷ (escaped_text list ++ more) → LeadsNoByte more
+    → ((rest : List ℕ) → more ≢ 39 ∷ rest) → (inside rest : List ℕ) → text ≢ quoted (escaped_text inside) ++ rest
+none_left text list more is none other inside rest e =
     let f : 39 ∷ (escaped_text list ++ more) ≡ 39 ∷ (escaped_text inside ++ 39 ∷ rest) =
     sym is ∙ e ∙ ap (λ (t : List ℕ). 39 ∷ t) (append_assoc (escaped_text inside) (39 ∷ []) rest) in
     let g : escaped_text list ++ more ≡ escaped_text inside ++ 39 ∷ rest = cc in
     let left = left_of list more inside rest g in
-    none left.inside rest left.same
-
--- what a byte that doesn't stand for itself must be
-pub no_stop : (text inside rest : List ℕ) → is_escaped (get_or text 0 0) ≡ true → (get_or text 0 0 ≢ 39)
-    → (get_or text 0 0 ≡ 92 → 2 ≤ length text → (byte : ℕ) → escape_letter byte ≡ get_or text 1 0 → get_or text 1 0 ≡ 0)
-    → text ≡ escaped_text inside ++ 39 ∷ rest → ⊥
-no_stop text inside rest is quote none e =
-    let two = stops text inside rest e (letter_of (get_or text 0 0) is) quote in
-    let first : get_or text 0 0 ≡ 92 = ap (λ (t : List ℕ). get_or t 0 0) two.same in
-    let second : get_or text 1 0 ≡ escape_letter two.byte = ap (λ (t : List ℕ). get_or t 1 0) two.same in
-    let size : length text ≡ length two.more + 2 = ap length two.same ∙ omega arith in
-    some_letter two.byte two.letter (sym second ∙ none first (omega (arith, size)) two.byte (sym second))
+    no_more more left.inside rest none other left.same

@@ -1,8 +1,8 @@
 -- A line round its values.
 use Rattle.std.proofs.Common.{◌≡◌, ◌≢◌, ℕ, List, [], ◌∷◌, ◌++◌, refl, sym, ap, ◌∙◌, append_assoc, Result, Ok, Err}
-use Rattle.std.proofs.Common.{◌+◌, ◌-◌, ◌<◌, length, take, drop, arith, length-append}
+use Rattle.std.proofs.Common.{◌+◌, ◌-◌, length, take, drop, arith, length-append}
 use Rattle.std.specs.Prelude.{codes}
-use Rattle.std.proofs.lemmas.List.{append_cancel_left, append_cancel_right, take-append-drop, take_at, drop_at}
+use Rattle.std.proofs.lemmas.List.{append_cancel_left, append_cancel_right, take_at, drop_at}
 use Rattle.column_values.specs.declared.value.Value.{Value}
 use Rattle.schema_text.specs.TableDef.{TableDef}
 use Rattle.row_text.specs.declared.row.RowError.{RowError}
@@ -10,7 +10,8 @@ use Rattle.row_text.specs.declared.row.RowError.TheVariants.{Refused, Memory}
 use Rattle.row_text.specs.Line.{values_of, line_of, IsLineOf}
 use Rattle.row_text.specs.KeyText.{IsColumnsText}
 use Rattle.row_text.specs.Writer.{line_open, line_close}
-use Rattle.row_text.specs.Reads.{FindsValues, FindsRow}
+use Rattle.row_text.specs.calls.Rows.{FindsValues}
+use Rattle.row_text.specs.Reads.{FindsRow}
 
 abbrev front : List ℕ
 front = codes "INSERT INTO `"
@@ -21,34 +22,14 @@ middle = codes "` VALUES ("
 abbrev pub opened : List ℕ → List ℕ
 opened name = codes "INSERT INTO `" ++ name ++ codes "` VALUES ("
 
--- a text begins with a front, or ends with an end
-pub cut_front : (text front rest start : List ℕ) → start ≡ take (length front) text → rest ≡ drop (length front) text
-    → start ≡ front → text ≡ front ++ rest
-cut_front text front rest start s r same =
-    sym (take-append-drop (length front) text) ∙ ap (λ (t : List ℕ). t ++ drop (length front) text) (sym s ∙ same)
-    ∙ ap (λ (t : List ℕ). front ++ t) (sym r)
-
-pub short_front : (text front rest : List ℕ) → length text < length front → text ≡ front ++ rest → ⊥
-short_front text front rest short e = omega (arith, short, ap length e, length-append front rest)
-
 pub is_front : (text front rest : List ℕ) → text ≡ front ++ rest → take (length front) text ≡ front
 is_front text front rest e = ap (take (length front)) e ∙ take_at front rest (length front) refl
-
-pub cut_end : (text end rest start : List ℕ) → start ≡ take (length text - length end) text
-    → rest ≡ drop (length text - length end) text → rest ≡ end → text ≡ start ++ end
-cut_end text end rest start s r same =
-    sym (take-append-drop (length text - length end) text)
-    ∙ ap (λ (t : List ℕ). t ++ drop (length text - length end) text) (sym s)
-    ∙ ap (λ (t : List ℕ). start ++ t) (sym r ∙ same)
 
 pub is_end : (text end front : List ℕ) → text ≡ front ++ end → drop (length text - length end) text ≡ end
 is_end text end front e =
     let size : length text ≡ length front + length end = ap length e ∙ length-append front end in
     let place : length text - length end ≡ length front = omega (arith, size) in
     ap (λ (n : ℕ). drop n text) place ∙ ap (drop (length front)) e ∙ drop_at front end (length front) refl
-
-pub short_end : (text end front : List ℕ) → length text < length end → text ≡ front ++ end → ⊥
-short_end text end front short e = omega (arith, short, ap length e, length-append front end)
 
 -- a line that begins otherwise is none
 pub no_name : (line behind name text : List ℕ) → line ≡ codes "INSERT INTO `" ++ behind
@@ -90,7 +71,7 @@ line_is table row line is =
     ∙ ap (λ (t : List ℕ). line_open table ++ t) (sym (append_assoc (values_of table row) (codes ");") (10 ∷ [])))
     ∙ sym (append_assoc (line_open table) (values_of table row ++ codes ");") (10 ∷ [])))
 
-pub is_line : (table : TableDef) (row : List Value) (line text : List ℕ)
+is_line : (table : TableDef) (row : List Value) (line text : List ℕ)
     → line ≡ line_open table ++ (text ++ codes ");") → IsColumnsText table.columns row text → IsLineOf table row line
 unfolding line_of
 is_line table row line text is has = record {

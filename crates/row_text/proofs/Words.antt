@@ -1,25 +1,25 @@
--- Words, and the values that are words.
+-- Words, and the numbers and moments, which are words.
 use Rattle.std.proofs.Common.{◌≡◌, ◌≢◌, ℕ, ◌+◌, ◌<◌, ◌≤◌, ◌⊎◌, List, [], ◌∷◌, ◌++◌, length}
 use Rattle.std.proofs.Common.{take, drop, get_or, true, false, Some, None, refl, sym, ap, ◌∙◌, subst, inl, inr}
 use Rattle.std.proofs.Common.{arith, eqb, position}
 use Rattle.std.specs.Prelude.{All, unsigned_abs}
-use Rattle.std.proofs.lemmas.Bool.{eqb-true, eqb-false, or_cases, or_parts, false≢true, cond_both}
+use Rattle.std.proofs.lemmas.Bool.{eqb-true, eqb-false, or_cases, or_parts}
 use Rattle.std.proofs.lemmas.List.{take-append-drop, drop_more, get_or-take, length-take-le, drop_all, append-nil}
 use Rattle.std.proofs.lemmas.List.Elements.{All-nil, All-cons, All-head, All-tail, All-append, All-from_get_or, All-weaker}
 use Rattle.std.proofs.lemmas.List.Quantifiers.{position-Some}
 use Rattle.schema_text.proofs.Positions.{none_passes}
-use Rattle.page_source.specs.Pages.{AreBytes}
 use Rattle.column_values.specs.declared.kind.ColumnType.{ColumnType}
 use Rattle.column_values.specs.declared.kind.ColumnType.TheVariants as types
 use Rattle.column_values.specs.declared.value.Value.{Value}
 use Rattle.column_values.specs.declared.value.Value.TheVariants as values
-use Rattle.column_values.specs.Types.{IsColumnType}
+use Rattle.column_values.specs.Types.{IsColumnType, HoldsText}
 use Rattle.column_values.specs.Spell.{IsValueOf}
-use Rattle.row_text.specs.Values.{quoted, value_text, date_text, moment_text, timestamp_text, hex_text, hex_or_empty}
-use Rattle.row_text.specs.Reads.{EndsValue, HasNoEnd, BeginsWith, IsWordOf, is_end, is_quoted}
+use Rattle.row_text.specs.Values.{quoted, value_text, date_text, moment_text, timestamp_text}
+use Rattle.row_text.specs.calls.Values.{EndsValue, BeginsWith}
+use Rattle.row_text.specs.calls.Words.{HasNoEnd, IsWordOf, is_end}
 use Rattle.row_text.proofs.Quotes.{IsSafe}
 use Rattle.row_text.proofs.Shapes.{date_safe, moment_safe, timestamp_safe, four_safe, decimal_safe, decimal_text_safe}
-use Rattle.row_text.proofs.Shapes.{signed_safe, signed_low, unsigned_low, decimal_low, hex_text_safe}
+use Rattle.row_text.proofs.Shapes.{signed_safe, signed_low, unsigned_low, decimal_low}
 use Rattle.std.specs.Fmt.{decimal, signed_decimal}
 use Rattle.column_values.proofs.IntegerValues.{integer_in_range}
 use Rattle.row_text.specs.Digits.{four_digits, decimal_text}
@@ -69,11 +69,11 @@ cut_all text none =
 ended : (b : ℕ) (rest : List ℕ) → IsInside b → EndsValue (b ∷ rest) → ⊥
 ended b rest inside ends = omega (arith, inside.0, inside.1, ends)
 
-no_end : (b : ℕ) (rest text : List ℕ) → IsInside b → text ≡ b ∷ rest → EndsValue text → ⊥
+pub no_end : (b : ℕ) (rest text : List ℕ) → IsInside b → text ≡ b ∷ rest → EndsValue text → ⊥
 no_end b rest text inside e ends = ended b rest inside (subst EndsValue e ends)
 
 -- two words with an end behind each
-pub words_apart : (s t x y : List ℕ) → HasNoEnd s → HasNoEnd t → s ++ x ≡ t ++ y → EndsValue x → EndsValue y
+words_apart : (s t x y : List ℕ) → HasNoEnd s → HasNoEnd t → s ++ x ≡ t ++ y → EndsValue x → EndsValue y
     → (s ≡ t) × (x ≡ y)
 words_apart [] [] x y a b e ex ey = (refl, e)
 words_apart [] (c ∷ t) x y a b e ex ey = absurd (no_end c (t ++ y) x (All-head IsInside c t b) e ex)
@@ -84,10 +84,10 @@ words_apart (c ∷ s) (d ∷ t) x y a b e ex ey =
     let rest = words_apart s t x y (All-tail IsInside c s a) (All-tail IsInside d t b) more ex ey in
     (ap (λ (h : ℕ). h ∷ s) first ∙ ap (λ (r : List ℕ). d ∷ r) rest.0, rest.1)
 
-safe_inside : (b : ℕ) → IsSafe b → IsInside b
+pub safe_inside : (b : ℕ) → IsSafe b → IsInside b
 safe_inside b safe = (λ e. omega (arith, safe, e), λ e. omega (arith, safe, e))
 
-pub safe_word : (text : List ℕ) → All IsSafe text → HasNoEnd text
+safe_word : (text : List ℕ) → All IsSafe text → HasNoEnd text
 safe_word text safe = All-weaker IsSafe IsInside safe_inside text safe
 
 quote_inside : IsInside 39
@@ -97,18 +97,9 @@ quoted_word : (text : List ℕ) → All IsSafe text → HasNoEnd (quoted text)
 quoted_word text safe = All-cons IsInside 39 (text ++ 39 ∷ []) quote_inside
     (All-append IsInside text (39 ∷ []) (safe_word text safe) (All-cons IsInside 39 [] quote_inside (All-nil IsInside)))
 
-raw_inside : (raw : List ℕ) → AreBytes raw → HasNoEnd (hex_or_empty raw)
-raw_inside raw are = cond_both (eqb (length raw) 0) (quoted []) (hex_text raw) HasNoEnd
-    (λ _. quoted_word [] (All-nil IsSafe)) (λ _. safe_word (hex_text raw) (hex_text_safe raw are))
-
--- a value that isn't in quotes, or whose quotes hold no end, is a word
-pub value_word : (kind : ColumnType) (value : Value) → IsColumnType kind → is_quoted kind ≡ false
-    → IsValueOf kind value → HasNoEnd (value_text kind value)
-value_word (types.Char n) value known plain is = absurd (false≢true (sym plain))
-value_word (types.Varchar n) value known plain is = absurd (false≢true (sym plain))
-value_word (types.Text n) value known plain is = absurd (false≢true (sym plain))
-value_word (types.Utf8Varchar n) value known plain is = absurd (false≢true (sym plain))
-value_word (types.Utf8Text n) value known plain is = absurd (false≢true (sym plain))
+-- a number and a moment are words
+value_word : (kind : ColumnType) (value : Value) → IsColumnType kind → ¬ (HoldsText kind) → IsValueOf kind value
+    → HasNoEnd (value_text kind value)
 value_word (types.Int w true) (values.Signed z) known plain is =
     safe_word (signed_decimal z) (signed_safe z (signed_low w z known
     (integer_in_range w true (values.Signed z) z (omega (arith, known)) refl is)))
@@ -123,10 +114,6 @@ value_word types.Year (values.Year year) known plain is = safe_word (four_digits
 value_word (types.Decimal p s) (values.Decimal units) known plain is =
     safe_word (decimal_text s units) (decimal_text_safe s units
     (decimal_low p (unsigned_abs units) (omega (arith, known)) is.2.few))
-value_word (types.Binary n) (values.Bytes raw) known plain is =
-    safe_word (hex_text raw) (hex_text_safe raw (subst AreBytes is.2.1 is.1))
-value_word (types.Varbinary n) (values.Bytes raw) known plain is = raw_inside raw (subst AreBytes is.2.1 is.1)
-value_word (types.Blob n) (values.Bytes raw) known plain is = raw_inside raw (subst AreBytes is.2.1 is.1)
 value_word (types.Int w true) _ known plain is = absurd is.2
 value_word (types.Int w false) _ known plain is = absurd is.2
 value_word types.Date _ known plain is = absurd is.2
@@ -134,12 +121,18 @@ value_word (types.DateTime f) _ known plain is = absurd is.2
 value_word (types.Timestamp f) _ known plain is = absurd is.2
 value_word types.Year _ known plain is = absurd is.2
 value_word (types.Decimal p s) _ known plain is = absurd is.2
-value_word (types.Binary n) _ known plain is = absurd is.2
-value_word (types.Varbinary n) _ known plain is = absurd is.2
-value_word (types.Blob n) _ known plain is = absurd is.2
+value_word (types.Char n) value known plain is = absurd (plain tt)
+value_word (types.Varchar n) value known plain is = absurd (plain (inl tt))
+value_word (types.Text n) value known plain is = absurd (plain (inl tt))
+value_word (types.Utf8Varchar n) value known plain is = absurd (plain (inl tt))
+value_word (types.Utf8Text n) value known plain is = absurd (plain (inl tt))
+value_word (types.Binary n) value known plain is = absurd (plain (inr tt))
+value_word (types.Varbinary n) value known plain is = absurd (plain (inr tt))
+value_word (types.Blob n) value known plain is = absurd (plain (inr tt))
 
+-- a value that the text begins with is that of the word there
 pub word_begins : (kind : ColumnType) (value : Value) (text word rest : List ℕ) → IsColumnType kind
-    → is_quoted kind ≡ false → text ≡ word ++ drop (length word) text → EndsValue (drop (length word) text)
+    → ¬ (HoldsText kind) → text ≡ word ++ drop (length word) text → EndsValue (drop (length word) text)
     → HasNoEnd word → BeginsWith kind value text rest → IsWordOf kind value word
 word_begins kind value text word rest known plain cut ends lacks begins =
     let same = words_apart word (value_text kind value) (drop (length word) text) rest lacks

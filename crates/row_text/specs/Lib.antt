@@ -6,3 +6,4 @@ pub mod KeyText
 pub mod Reads
 pub mod Writer
 pub mod Laws
+pub mod calls

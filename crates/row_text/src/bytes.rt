@@ -51,7 +51,7 @@ fn letter_of(byte: u8) -> u8
 }
 
 /// Whether the byte stands behind a backslash.
-fn is_escaped(byte: u8) -> bool
+pub(crate) fn is_escaped(byte: u8) -> bool
     ensures { result ≡ is_escaped byte }
 {
     letter_of(byte) != 0
@@ -83,7 +83,7 @@ fn is_plain(run: &[u8]) -> bool
 }
 
 /// How many bytes at the front of a text were found to stand for themselves, by whole runs.
-fn plain_front(text: &[u8]) -> usize
+pub(crate) fn plain_front(text: &[u8]) -> usize
     ensures within { result ≤ length text.now }
     ensures plain { IsPlain (take result text.now) }
 {
@@ -109,7 +109,7 @@ fn first_by_bytes(text: &[u8]) -> Option<usize>
 }
 
 /// The same, by whole runs up to it.
-pub(crate) fn first_escaped(text: &[u8]) -> Option<usize>
+fn first_escaped(text: &[u8]) -> Option<usize>
     ensures place { result ≡ position is_escaped text.now }
     ensures none { IsNone result → IsPlain text.now }
 {

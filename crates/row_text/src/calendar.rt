@@ -3,7 +3,7 @@
 ghost use Rattle.std.specs.Prelude.{◌≡◌, ◌≢◌, ◌<◌, ◌≤◌, ℕ, pos, MatchOption};
 ghost use Rattle.jiff_core.specs.Calendar.{IsCivilDate};
 ghost use Rattle.jiff_core.specs.Date.{epoch_day};
-ghost use Rattle.row_text.specs.Reads.{IsDateOf};
+ghost use Rattle.row_text.specs.calls.Moments.{IsDateOf};
 ghost use Rattle.row_text.specs.Calendar.{year_of_day, month_of_day, day_of_day};
 
 use jiff_core::civil::Date;

@@ -1,7 +1,7 @@
 //! Numbers in a fixed number of digits.
 
-ghost use Rattle.std.specs.Prelude.{◌≡◌, ◌≤◌, length, take};
-ghost use Rattle.row_text.specs.Digits.{last_digits, two_digits, four_digits, behind_point};
+ghost use Rattle.std.specs.Prelude.{◌≡◌, length};
+ghost use Rattle.row_text.specs.Digits.{last_digits, two_digits, four_digits};
 
 /// The last two digits of a number.
 pub(crate) fn two_digits(number: u16) -> [u8; 2]

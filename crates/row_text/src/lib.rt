@@ -4,8 +4,10 @@
 mod bytes;
 mod calendar;
 mod digits;
+mod ends;
 pub mod laws;
 mod read;
+mod read_bytes;
 mod read_decimals;
 mod read_moments;
 mod read_numbers;

@@ -1,14 +1,16 @@
 //! Lines and texts of keys, value after value.
 
 ghost use Rattle.std.specs.Prelude.{◌≡◌, ◌≢◌, ℕ, ◌+◌, ◌<◌, ◌≤◌, ◌++◌, List, length, drop, slice_get, Some, IfOk, OnOk};
-ghost use Rattle.std.specs.Prelude.{IfSome, IsNone, IsTrue, ◌↔◌, All, codes};
+ghost use Rattle.std.specs.Prelude.{IfSome, IsNone, All, codes};
 ghost use Rattle.schema_text.specs.declared.table.Column.{Column};
 ghost use Rattle.column_values.specs.Types.{IsColumnType};
 ghost use Rattle.schema_text.specs.IndexFields.{clustered_positions};
 ghost use Rattle.row_text.specs.KeyText.{key_columns};
 ghost use Rattle.row_text.specs.Writer.{before_value, line_open};
-ghost use Rattle.row_text.specs.Reads.{HasRead, ReadsNext, FindsValues, FindsRow, FindsRowId, FindsKey};
+ghost use Rattle.row_text.specs.calls.Rows.{HasRead, ReadsNext, FindsValues, FindsRowId};
+ghost use Rattle.row_text.specs.Reads.{FindsRow, FindsKey};
 
+use crate::ends::{ahead, behind};
 use crate::read_numbers::unsigned;
 use crate::read_values::read_column;
 use crate::row::{Row, RowError};
@@ -70,45 +72,6 @@ fn read_columns(alloc: Global, columns: &[Column], text: &[u8]) -> Result<Row, R
         return Err(RowError::Refused);
     }
     Ok(row)
-}
-
-/// Whether two texts are one.
-pub(crate) fn are_same(text: &[u8], other: &[u8]) -> bool
-    ensures { IsTrue result ↔ (text.now ≡ other.now) }
-{
-    text == other
-}
-
-/// What follows a front of the text.
-pub(crate) fn behind<'a>(text: &'a [u8], front: &[u8]) -> Option<&'a [u8]>
-    ensures found { IfSome result (λ rest. text.now ≡ front.now ++ rest.now) }
-    ensures none { IsNone result → (rest : List ℕ) → text.now ≢ front.now ++ rest }
-{
-    if text.len() < front.len() {
-        return None;
-    }
-    let (start, rest) = text.split_at(front.len());
-    if are_same(start, front) {
-        Some(rest)
-    } else {
-        None
-    }
-}
-
-/// What goes before an end of the text.
-pub(crate) fn ahead<'a>(text: &'a [u8], end: &[u8]) -> Option<&'a [u8]>
-    ensures found { IfSome result (λ front. text.now ≡ front.now ++ end.now) }
-    ensures none { IsNone result → (front : List ℕ) → text.now ≢ front ++ end.now }
-{
-    if text.len() < end.len() {
-        return None;
-    }
-    let (front, rest) = text.split_at(text.len() - end.len());
-    if are_same(rest, end) {
-        Some(front)
-    } else {
-        None
-    }
 }
 
 /// What stands in the parentheses of a line.

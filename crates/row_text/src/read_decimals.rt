@@ -4,9 +4,9 @@ ghost use Rattle.std.specs.Prelude.{◌≡◌, ◌≢◌, ℕ, ◌+◌, ◌^◌,
 ghost use Rattle.column_values.specs.declared.kind.ColumnType.{ColumnType};
 ghost use Rattle.column_values.specs.Types.{IsColumnType};
 ghost use Rattle.row_text.specs.Digits.{last_digits, two_digits, four_digits, behind_point};
-ghost use Rattle.row_text.specs.Reads.{FindsNumber, unsigned_text};
+ghost use Rattle.row_text.specs.calls.Words.{FindsWord, unsigned_text};
 
-use crate::read::behind;
+use crate::ends::behind;
 use crate::read_numbers::wide;
 use column_values::{Value, ten_to};
 
@@ -104,7 +104,7 @@ fn units_of(p: u8, s: u8, text: &[u8]) -> Option<u128>
 /// The decimal that a word is, of `p` digits, `s` of them behind the point.
 pub(crate) fn decimal_value(p: u8, s: u8, word: &[u8]) -> Option<Value>
     requires { IsColumnType (ColumnType.Decimal p s) }
-    ensures { FindsNumber (ColumnType.Decimal p s) word.now result }
+    ensures { FindsWord (ColumnType.Decimal p s) word.now result }
 {
     match behind(word, b"-") {
         Some(text) => {

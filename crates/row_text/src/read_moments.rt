@@ -1,14 +1,15 @@
 //! Dates and moments.
 
-ghost use Rattle.std.specs.Prelude.{◌≡◌, ◌≢◌, ℕ, ◌+◌, ◌^◌, ◌<◌, ◌≤◌, ◌∷◌, ◌++◌, [], List, length, MatchOption, IfSome, IsNone, IsTrue, ◌↔◌, ◌-◌, ◌/◌};
+ghost use Rattle.std.specs.Prelude.{◌≡◌, ◌≢◌, ℕ, ◌+◌, ◌^◌, ◌<◌, ◌≤◌, ◌∷◌, List, length, MatchOption, IfSome, IsNone, IsTrue, ◌↔◌, ◌-◌, ◌/◌};
 ghost use Rattle.column_values.specs.declared.kind.ColumnType.{ColumnType};
-ghost use Rattle.row_text.specs.Reads.{FindsNumber, IsMomentWord, IsLowMoment, IsNoSecond, IsSecondOf};
+ghost use Rattle.row_text.specs.calls.Words.{FindsWord};
+ghost use Rattle.row_text.specs.calls.Moments.{IsMomentWord, IsLowMoment, IsNoSecond, IsSecondOf};
 ghost use Rattle.column_values.specs.Moments.{IsYear, IsFraction};
 ghost use Rattle.row_text.specs.Digits.{behind_point};
 ghost use Rattle.row_text.specs.Values.{quoted, date_text, clock_text, moment_text};
 
 use crate::calendar::day_of_date;
-use crate::read::{ahead, behind};
+use crate::ends::{ahead, behind};
 use crate::read_decimals::{behind_units, four, two};
 use column_values::{Value, ten_to};
 
@@ -53,7 +54,7 @@ fn is_year(year: u16) -> bool
 
 /// The year that a word is.
 pub(crate) fn year_value(word: &[u8]) -> Option<Value>
-    ensures { FindsNumber ColumnType.Year word.now result }
+    ensures { FindsWord ColumnType.Year word.now result }
 {
     if word.len() != 4 {
         return None;
@@ -74,7 +75,7 @@ fn is_low_date(month: u8, day: u8) -> bool
 
 /// The date that a word is.
 pub(crate) fn date_value(word: &[u8]) -> Option<Value>
-    ensures { FindsNumber ColumnType.Date word.now result }
+    ensures { FindsWord ColumnType.Date word.now result }
 {
     let inside = in_quotes(word)?;
     if inside.len() != 10 {
@@ -168,7 +169,7 @@ fn is_moment(date: DateParts, time: TimeParts) -> bool
 /// The moment that a word is, with `f` digits of a second's fraction.
 pub(crate) fn date_time_value(f: u8, word: &[u8]) -> Option<Value>
     requires { f ≤ 6 }
-    ensures { FindsNumber (ColumnType.DateTime f) word.now result }
+    ensures { FindsWord (ColumnType.DateTime f) word.now result }
 {
     let moment = moment_of(f, word)?;
     if !is_moment(moment.date, moment.time) {
@@ -230,7 +231,7 @@ fn is_no_second(moment: MomentParts) -> bool
 /// The moment in UTC that a word is.
 pub(crate) fn timestamp_value(f: u8, word: &[u8]) -> Option<Value>
     requires { f ≤ 6 }
-    ensures { FindsNumber (ColumnType.Timestamp f) word.now result }
+    ensures { FindsWord (ColumnType.Timestamp f) word.now result }
 {
     let moment = moment_of(f, word)?;
     if is_no_second(moment) {

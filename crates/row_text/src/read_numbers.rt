@@ -2,9 +2,8 @@
 
 ghost use Rattle.std.specs.Prelude.{◌≡◌, ◌<◌, ◌^◌, ℕ, ℤ, Some, IsTrue, IfSome, ◌↔◌, decimal};
 ghost use Rattle.std.specs.Fmt.{signed_decimal};
-ghost use Rattle.row_text.specs.Reads.{FitsLong};
+ghost use Rattle.row_text.specs.calls.Words.{FitsLong};
 
-use crate::read::are_same;
 use itoa::Buffer;
 use std::str;
 

@@ -1,19 +1,22 @@
-//! Texts in quotes.
+//! Texts in quotes, which are read in pieces and each once.
 
-ghost use Rattle.std.specs.Prelude.{◌≡◌, ◌≢◌, ℕ, ◌<◌, ◌≤◌, ◌↔◌, List, true, length, slice_index, MatchOption, IsTrue, IfOk};
+ghost use Rattle.std.specs.Prelude.{◌≡◌, ◌≢◌, ℕ, ◌<◌, ◌≤◌, ◌↔◌, ◌⊎◌, ◌++◌, true, length, take, drop, MatchOption, IsTrue, IfOk};
 ghost use Rattle.column_values.specs.declared.value.Value.{Value};
 ghost use Rattle.column_values.specs.Types.{IsColumnType};
 ghost use Rattle.column_values.specs.Spell.{IsTrimmed, IsValueOf};
-ghost use Rattle.page_source.specs.Pages.{AreBytes};
-ghost use Rattle.row_text.specs.Values.{escape_letter, is_escaped};
-ghost use Rattle.row_text.specs.Reads.{EndsValue, FindsText, FindsValue, IsStop, is_quoted};
+ghost use Rattle.row_text.specs.Values.{escape_letter, escaped_text};
+ghost use Rattle.row_text.specs.calls.Values.{EndsValue, FindsValue};
+ghost use Rattle.row_text.specs.calls.Texts.{FindsText, LeadsByte, LeadsNoByte, TakesText, is_quoted};
 
-use crate::bytes::first_escaped;
-use crate::read::behind;
+use crate::bytes::{is_escaped, plain_front};
+use crate::ends::behind;
 use crate::row::RowError;
 use column_values::{ColumnType, Value, is_value};
-use page_source::ByteList;
+use page_source::{ByteList, NoMemory};
 use std::alloc::Global;
+
+/// How many bytes of a text with escapes are read at a time.
+const PIECE: usize = 64;
 
 /// The byte that the letter stands for behind a backslash.
 fn byte_of(letter: u8) -> Option<u8>
@@ -30,33 +33,68 @@ fn byte_of(letter: u8) -> Option<u8>
     }
 }
 
-/// What stands where a byte doesn't stand for itself.
-#[derive(Clone, Copy)]
-enum Stop {
-    /// The quote that ends the text.
-    Quote,
-    /// The two bytes of another one.
-    Byte(u8),
-    /// Nothing that a text has.
-    Other,
-}
-
-/// What a text goes on with, where its first byte doesn't stand for itself.
-fn stop_at(text: &[u8]) -> Stop
-    requires some { 0 < length text.now }
-    requires escaped { is_escaped (slice_index text.now 0) ≡ true }
-    ensures { IsStop text.now result }
+/// The byte that a text begins with, and in how many bytes it stands there: in one, or in two behind a backslash; none
+/// where no byte of a text stands there.
+fn first_byte(text: &[u8]) -> Option<(u8, usize)>
+    ensures { MatchOption result (LeadsNoByte text.now) (λ first. LeadsByte first.0 first.1 text.now) }
 {
-    if text[0] == b'\'' {
-        return Stop::Quote;
+    if text.is_empty() {
+        return None;
+    }
+    if !is_escaped(text[0]) {
+        return Some((text[0], 1));
     }
     if text[0] != b'\\' || text.len() < 2 {
-        return Stop::Other;
+        return None;
     }
-    match byte_of(text[1]) {
-        Some(byte) => Stop::Byte(byte),
-        None => Stop::Other,
+    let byte = byte_of(text[1])?;
+    Some((byte, 2))
+}
+
+/// Fills the room with the bytes that a text begins with, one after another, as far as there are any; answers how many
+/// bytes of the text it read, and how many it wrote.
+fn write_text(text: &[u8], room: &mut [u8]) -> (usize, usize)
+    ensures read { result.0 ≤ length text.now }
+    ensures wrote { result.1 ≤ length room.new }
+    ensures same { length room.new ≡ length room.old }
+    ensures bytes { text.now ≡ escaped_text (take result.1 room.new) ++ drop result.0 text.now }
+    ensures least { result.1 ≤ result.0 }
+    ensures none { result.1 ≡ 0 → 0 < length room.old → LeadsNoByte text.now }
+{
+    let mut at = 0;
+    for n in 0..room.len() {
+        let (_, rest) = text.split_at(at);
+        let Some((byte, size)) = first_byte(rest) else {
+            return (at, n);
+        };
+        room[n] = byte;
+        at += size;
     }
+    (at, room.len())
+}
+
+/// Adds the bytes at the head of a text that stand for themselves, by whole runs, and answers what is left.
+fn add_plain<'a>(list: &mut ByteList, text: &'a [u8]) -> Result<&'a [u8], NoMemory>
+    ensures takes { IfOk result (λ rest. TakesText list.old list.new text.now rest.now) }
+    ensures most { IfOk result (λ rest. (length rest.now < length text.now) ⊎ (rest.now ≡ text.now)) }
+{
+    let (plain, rest) = text.split_at(plain_front(text));
+    list.extend(plain)?;
+    Ok(rest)
+}
+
+/// Adds the bytes that a text begins with, so many at the most and one at the least where there is one, and answers
+/// what is left.
+fn add_some<'a>(list: &mut ByteList, text: &'a [u8]) -> Result<&'a [u8], NoMemory>
+    ensures takes { IfOk result (λ rest. TakesText list.old list.new text.now rest.now) }
+    ensures some { IfOk result (λ rest. ¬ (LeadsNoByte text.now) → length rest.now < length text.now) }
+    ensures most { IfOk result (λ rest. length rest.now ≤ length text.now) }
+{
+    let mut room = [0; PIECE];
+    let (read, written) = write_text(text, &mut room);
+    list.extend(&room[..written])?;
+    let (_, rest) = text.split_at(read);
+    Ok(rest)
 }
 
 /// The text that stands in quotes at the head, and how many bytes it takes there.
@@ -68,17 +106,14 @@ fn unquoted(alloc: Global, text: &[u8]) -> Result<(ByteList, usize), RowError>
         return Err(RowError::Refused);
     };
     let mut list = ByteList::new(alloc);
-    while let Some(at) = first_escaped(rest) {
-        let (plain, more) = rest.split_at(at);
-        list.extend(plain)?;
-        match stop_at(more) {
-            Stop::Quote => return Ok((list, text.len() - more.len() + 1)),
-            Stop::Byte(byte) => list.push(byte)?,
-            Stop::Other => return Err(RowError::Refused),
-        }
-        (_, rest) = more.split_at(2);
+    while let Some(_) = first_byte(rest) {
+        let more = add_plain(&mut list, rest)?;
+        rest = add_some(&mut list, more)?;
     }
-    Err(RowError::Refused)
+    let Some(behind_quote) = behind(rest, b"'") else {
+        return Err(RowError::Refused);
+    };
+    Ok((list, text.len() - behind_quote.len()))
 }
 
 /// Whether the text has at most `n` bytes and doesn't end with a space.

@@ -1,10 +1,12 @@
 //! The value that a text begins with.
 
 ghost use Rattle.std.specs.Prelude.{◌≡◌, ◌↔◌, ◌++◌, ◌≤◌, ℕ, List, codes, length, IfOk, IsTrue};
-ghost use Rattle.column_values.specs.Types.{IsColumnType};
-ghost use Rattle.row_text.specs.Reads.{EndsValue, FindsValue, FindsColumn, is_quoted};
+ghost use Rattle.column_values.specs.Types.{IsColumnType, IsRaw};
+ghost use Rattle.row_text.specs.calls.Values.{EndsValue, FindsValue, FindsColumn};
+ghost use Rattle.row_text.specs.calls.Texts.{is_quoted};
 
-use crate::read::behind;
+use crate::ends::behind;
+use crate::read_bytes::read_bytes;
 use crate::read_texts::{ends_value, read_text};
 use crate::read_words::read_word;
 use crate::row::RowError;
@@ -36,6 +38,16 @@ fn is_quoted(kind: &ColumnType) -> bool
     )
 }
 
+/// Whether the values of the type are bytes.
+fn is_raw(kind: &ColumnType) -> bool
+    ensures { IsTrue result ↔ IsRaw kind.now }
+{
+    matches!(
+        kind,
+        ColumnType::Binary { .. } | ColumnType::Varbinary { .. } | ColumnType::Blob { .. }
+    )
+}
+
 /// The value of the type that the text begins with, and how many bytes it takes there.
 fn read_value(alloc: Global, kind: &ColumnType, text: &[u8]) -> Result<(Value, usize), RowError>
     requires known { IsColumnType kind.now }
@@ -44,8 +56,10 @@ fn read_value(alloc: Global, kind: &ColumnType, text: &[u8]) -> Result<(Value, u
 {
     if is_quoted(kind) {
         read_text(alloc, kind, text)
+    } else if is_raw(kind) {
+        read_bytes(alloc, kind, text)
     } else {
-        read_word(alloc, kind, text)
+        read_word(kind, text)
     }
 }
 

@@ -1,24 +1,18 @@
-//! Values that are words: no value may end within them.
+//! Words, which are the numbers and the moments: no value may end within them.
 
-ghost use Rattle.std.specs.Prelude.{◌≡◌, ◌≢◌, ℕ, ℤ, pos, ◌+◌, ◌-◌, ◌*◌, ◌^◌, ◌<◌, ◌≤◌, ◌↔◌, ◌++◌, List, true, false, length};
-ghost use Rattle.std.specs.Prelude.{[], drop, slice_index, position, MatchOption, IsTrue, IfOk, ◌+ℤ◌, ◌/◌, ◌%◌};
-ghost use Rattle.hex.specs.Hex.{lower_digits};
+ghost use Rattle.std.specs.Prelude.{◌≡◌, ℤ, pos, ◌+◌, ◌-◌, ◌*◌, ◌^◌, ◌<◌, ◌≤◌, ◌↔◌, ◌++◌, true, false, length, drop};
+ghost use Rattle.std.specs.Prelude.{position, IsTrue, IfOk, ◌+ℤ◌};
 ghost use Rattle.column_values.specs.declared.kind.ColumnType.{ColumnType};
-ghost use Rattle.column_values.specs.declared.value.Value.{Value};
-ghost use Rattle.column_values.specs.Types.{IsColumnType, IsWidth, IsRaw, HoldsText};
-ghost use Rattle.column_values.specs.Spell.{IsInRange, IsValueOf, IsSpelling};
-ghost use Rattle.row_text.specs.Reads.{EndsValue, HasNoEnd, FindsValue, FindsNumber, FindsWord, FindsBytes, is_end, is_binary};
-ghost use Rattle.row_text.specs.Reads.{is_quoted};
-ghost use Rattle.row_text.specs.Values.{quoted};
+ghost use Rattle.column_values.specs.Types.{IsColumnType, IsWidth, HoldsText};
+ghost use Rattle.column_values.specs.Spell.{IsInRange};
+ghost use Rattle.row_text.specs.calls.Values.{EndsValue, FindsValue};
+ghost use Rattle.row_text.specs.calls.Words.{HasNoEnd, FindsWord, is_end};
 
-use crate::read::{are_same, behind};
 use crate::read_decimals::decimal_value;
 use crate::read_moments::{date_time_value, date_value, timestamp_value, year_value};
 use crate::read_numbers::{signed, unsigned};
 use crate::row::RowError;
-use column_values::{ColumnType, Value, is_value};
-use page_source::ByteList;
-use std::alloc::Global;
+use column_values::{ColumnType, Value};
 
 fn is_end(byte: u8) -> bool
     ensures { result ≡ is_end byte }
@@ -94,7 +88,7 @@ fn is_unsigned_number(width: u8, number: u64) -> bool
 /// The value of a signed type.
 fn signed_value(width: u8, word: &[u8]) -> Option<Value>
     requires { IsWidth width }
-    ensures { FindsNumber (ColumnType.Int width true) word.now result }
+    ensures { FindsWord (ColumnType.Int width true) word.now result }
 {
     let number = signed(word)?;
     if !is_signed_number(width, number) {
@@ -106,7 +100,7 @@ fn signed_value(width: u8, word: &[u8]) -> Option<Value>
 /// The value of an unsigned type.
 fn unsigned_value(width: u8, word: &[u8]) -> Option<Value>
     requires { IsWidth width }
-    ensures { FindsNumber (ColumnType.Int width false) word.now result }
+    ensures { FindsWord (ColumnType.Int width false) word.now result }
 {
     let number = unsigned(word)?;
     if !is_unsigned_number(width, number) {
@@ -115,93 +109,11 @@ fn unsigned_value(width: u8, word: &[u8]) -> Option<Value>
     Some(Value::Unsigned(number))
 }
 
-/// The value of a hexadecimal digit in lower case.
-fn hex_digit(byte: u8) -> Option<u8>
-    ensures { MatchOption result ((digit : ℕ) → digit < 16 → slice_index lower_digits digit ≢ byte)
-        (λ digit. (digit < 16) × (slice_index lower_digits digit ≡ byte)) }
-{
-    match byte {
-        b'0'..=b'9' => Some(byte - b'0'),
-        b'a'..=b'f' => Some(byte - b'a' + 10),
-        _ => None,
-    }
-}
-
-/// The byte of two digits.
-fn hex_byte(high: u8, low: u8) -> Option<u8>
-    ensures { MatchOption result ((byte : ℕ) → byte < 256 → slice_index lower_digits (byte / 16) ≡ high
-        → slice_index lower_digits (byte % 16) ≢ low)
-        (λ byte. (byte < 256) × (slice_index lower_digits (byte / 16) ≡ high)
-        × (slice_index lower_digits (byte % 16) ≡ low)) }
-{
-    let high = hex_digit(high)?;
-    let low = hex_digit(low)?;
-    Some(high * 16 + low)
-}
-
-/// The bytes of a number in hexadecimal digits.
-fn hex_bytes(alloc: Global, digits: &[u8]) -> Result<ByteList, RowError>
-    ensures { FindsBytes digits.now result }
-{
-    if digits.len() % 2 == 1 {
-        return Err(RowError::Refused);
-    }
-    let mut list = ByteList::new(alloc);
-    for at in 0..digits.len() / 2 {
-        let Some(byte) = hex_byte(digits[2 * at], digits[2 * at + 1]) else {
-            return Err(RowError::Refused);
-        };
-        list.push(byte)?;
-    }
-    Ok(list)
-}
-
-/// Whether values of the type are bytes of fixed length, which are never an empty text.
-fn is_binary(kind: &ColumnType) -> bool
-    ensures { result ≡ is_binary kind.now }
-{
-    matches!(kind, ColumnType::Binary { .. })
-}
-
-/// Whether the word is that of no bytes.
-fn is_empty_word(kind: &ColumnType, word: &[u8]) -> bool
-    ensures { IsTrue result ↔ ((is_binary kind.now ≡ false) × (word.now ≡ quoted [])) }
-{
-    !is_binary(kind) && are_same(word, b"''")
-}
-
-/// Whether some bytes are a value of the type.
-fn are_raw(kind: &ColumnType, bytes: &[u8]) -> bool
-    requires { IsColumnType kind.now }
-    ensures { IsTrue result ↔ ((1 ≤ length bytes.now) × IsSpelling kind.now bytes.now) }
-{
-    !bytes.is_empty() && is_value(kind, bytes)
-}
-
-/// The bytes that a word is.
-fn raw_value(alloc: Global, kind: &ColumnType, word: &[u8]) -> Result<Value, RowError>
-    requires known { IsColumnType kind.now }
-    requires raw { IsRaw kind.now }
-    ensures { FindsWord kind.now word.now result }
-{
-    if is_empty_word(kind, word) {
-        return Ok(Value::Bytes(ByteList::new(alloc)));
-    }
-    let Some(digits) = behind(word, b"0x") else {
-        return Err(RowError::Refused);
-    };
-    let bytes = hex_bytes(alloc, digits)?;
-    if !are_raw(kind, bytes.bytes()) {
-        return Err(RowError::Refused);
-    }
-    Ok(Value::Bytes(bytes))
-}
-
 /// The number or the moment that a word is.
 fn number_value(kind: &ColumnType, word: &[u8]) -> Option<Value>
     requires known { IsColumnType kind.now }
     requires number { ¬ (HoldsText kind.now) }
-    ensures { FindsNumber kind.now word.now result }
+    ensures { FindsWord kind.now word.now result }
 {
     match *kind {
         ColumnType::Int { width, signed } => {
@@ -220,43 +132,16 @@ fn number_value(kind: &ColumnType, word: &[u8]) -> Option<Value>
     }
 }
 
-/// Whether values of the type are bytes.
-fn is_raw(kind: &ColumnType) -> bool
-    ensures { IsTrue result ↔ IsRaw kind.now }
-{
-    matches!(
-        kind,
-        ColumnType::Binary { .. } | ColumnType::Varbinary { .. } | ColumnType::Blob { .. }
-    )
-}
-
-/// The value that a word is, of a type whose values aren't texts in quotes.
-fn word_value(alloc: Global, kind: &ColumnType, word: &[u8]) -> Result<Value, RowError>
+/// The number or the moment that the text begins with, and how many bytes it takes there.
+pub(crate) fn read_word(kind: &ColumnType, text: &[u8]) -> Result<(Value, usize), RowError>
     requires known { IsColumnType kind.now }
-    requires unquoted { is_quoted kind.now ≡ false }
-    ensures { FindsWord kind.now word.now result }
-{
-    if is_raw(kind) {
-        return raw_value(alloc, kind, word);
-    }
-    match number_value(kind, word) {
-        Some(value) => Ok(value),
-        None => Err(RowError::Refused),
-    }
-}
-
-/// The value that the text begins with, of such a type, and how many bytes it takes there.
-pub(crate) fn read_word(
-    alloc: Global,
-    kind: &ColumnType,
-    text: &[u8],
-) -> Result<(Value, usize), RowError>
-    requires known { IsColumnType kind.now }
-    requires unquoted { is_quoted kind.now ≡ false }
+    requires number { ¬ (HoldsText kind.now) }
     ensures found { FindsValue kind.now text.now result }
     ensures within { IfOk result (λ found. found.1 ≤ length text.now) }
 {
     let word = word_of(text);
-    let value = word_value(alloc, kind, word)?;
-    Ok((value, word.len()))
+    match number_value(kind, word) {
+        Some(value) => Ok((value, word.len())),
+        None => Err(RowError::Refused),
+    }
 }

@@ -1,6 +1,7 @@
-//! Values with the bytes that spell them and the text that a line has for them.
+//! Values with the bytes that spell them and the text that a line has for them, one of each kind; others are lines of
+//! the crate `cases`.
 
-ghost use Rattle.std.specs.Prelude.{◌≡◌, ◌≤◌, length, true};
+ghost use Rattle.std.specs.Prelude.{◌≡◌, ◌≤◌, true};
 ghost use Rattle.row_text.specs.Writer.{is_long};
 
 use crate::writer::RowWriter;
@@ -45,96 +46,18 @@ fn line_of(alloc: Global, kind: &str, bytes: &[u8]) -> Result<MemorySink, Fail> 
 }
 
 #[test]
-fn writes_numbers(rt: HostRuntime) -> Result<(), Fail> {
-    let values: [(&str, &[u8], &[u8]); 10] = [
-        ("bigint", &[0, 0, 0, 0, 0, 0, 0, 0], b"-9223372036854775808"),
-        ("mediumint", &[0, 0, 0], b"-8388608"),
-        ("mediumint", &[0xFF, 0xFF, 0xFF], b"8388607"),
+fn writes_values(rt: HostRuntime) -> Result<(), Fail> {
+    let values: [(&str, &[u8], &[u8]); 6] = [
         ("smallint unsigned", &[0xFF, 0xFF], b"65535"),
-        ("year", &[0], b"0000"),
-        ("year", &[0x70], b"2012"),
-        (
-            "decimal 14 4",
-            &[0x81, 0x0D, 0xFB, 0x38, 0xD2, 0x04, 0xD2],
-            b"1234567890.1234",
-        ),
-        (
-            "decimal 14 4",
-            &[0x7E, 0xF2, 0x04, 0xC7, 0x2D, 0xFB, 0x2D],
-            b"-1234567890.1234",
-        ),
         ("decimal 5 2", &[0x7F, 0xFF, 0xFA], b"-0.05"),
-        ("decimal 3 0", &[0x80, 0x07], b"7"),
-    ];
-    for (kind, bytes, text) in values {
-        let line = line_of(rt.alloc(), kind, bytes)?;
-        assert_eq!(rt; values_in(line.bytes()), Some(text), "{kind}");
-    }
-    Ok(())
-}
-
-#[test]
-fn writes_moments(rt: HostRuntime) -> Result<(), Fail> {
-    let values: [(&str, &[u8], &[u8]); 9] = [
         ("date", &[0x8F, 0xB8, 0x21], b"'2012-01-01'"),
-        ("date", &[0x80, 0, 0], b"'0000-00-00'"),
-        (
-            "datetime 0",
-            &[0x99, 0x8B, 0x42, 0xD3, 0x8F],
-            b"'2012-01-01 13:14:15'",
-        ),
-        (
-            "datetime 3",
-            &[0x99, 0x8B, 0x42, 0, 0, 0x09, 0xC4],
-            b"'2012-01-01 00:00:00.250'",
-        ),
-        (
-            "timestamp 0",
-            &[0x4E, 0xFF, 0xA2, 0],
-            b"'2012-01-01 00:00:00'",
-        ),
-        (
-            "timestamp 0",
-            &[0x7F, 0xFF, 0xFF, 0xFF],
-            b"'2038-01-19 03:14:07'",
-        ),
-        ("timestamp 0", &[0, 0, 0, 1], b"'1970-01-01 00:00:01'"),
-        ("timestamp 2", &[0, 0, 0, 0, 0], b"'0000-00-00 00:00:00.00'"),
         (
             "timestamp 6",
             &[0x38, 0xBB, 0xC9, 0xF0, 0, 0, 0x01],
             b"'2000-02-29 13:30:24.000001'",
         ),
-    ];
-    for (kind, bytes, text) in values {
-        let line = line_of(rt.alloc(), kind, bytes)?;
-        assert_eq!(rt; values_in(line.bytes()), Some(text), "{kind}");
-    }
-    Ok(())
-}
-
-#[test]
-fn writes_texts(rt: HostRuntime) -> Result<(), Fail> {
-    let values: [(&str, &[u8], &[u8]); 11] = [
-        (
-            "varchar 20",
-            &[0x00, 0x0A, 0x0D, 0x5C, 0x27, 0x22, 0x1A],
-            br#"'\0\n\r\\\'\"\Z'"#,
-        ),
-        (
-            "varchar 20",
-            b"it's \xFF\x80\t%_`",
-            b"'it\\'s \xFF\x80\t%_`'",
-        ),
-        ("varchar 20", b"", b"''"),
-        ("varchar 20", b"a  ", b"'a  '"),
-        ("varchar 2 utf8mb4", b"\xC3\xA9", b"'\xC3\xA9'"),
-        ("char 4", b"ab  ", b"'ab'"),
-        ("char 4", b"    ", b"''"),
-        ("varbinary 20", b"", b"''"),
+        ("varchar 20", b"it's \xFF", b"'it\\'s \xFF'"),
         ("varbinary 20", b"\x00\xFF", b"0x00ff"),
-        ("binary 2", b"  ", b"0x2020"),
-        ("tinyblob", b"", b"''"),
     ];
     for (kind, bytes, text) in values {
         let line = line_of(rt.alloc(), kind, bytes)?;

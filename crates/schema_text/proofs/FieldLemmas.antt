@@ -298,10 +298,6 @@ key_kept t j is = by_test (j == 0)
 index_key : (t : TableDef) (j : ℕ) → IsTable t → j < length t.indexes → IsKeyOf t (index_at t j)
 index_key t j is within = is.keys j _ within
 
-pub known_positions : (t : TableDef) (j : ℕ) → IsTable t → j < length t.indexes
-    → All (λ i. i < length t.columns) (index_at t j).columns
-known_positions t j is within = (index_key t j is within).known
-
 pub key_few : (t : TableDef) (j : ℕ) → IsTable t → j < length t.indexes → length (key_fields t j) ≤ 32
 key_few t j is within = by_test (j == 0)
   where
@@ -393,15 +389,6 @@ not_first j h = grind (arith, nat_tests)
 
 pub key_first : (t : TableDef) (j : ℕ) → j ≡ 0 → key_fields t j ≡ clustered_key t
 key_first t j e = rw e refl
-
-pub key_other : (t : TableDef) (j : ℕ) → 0 < j → key_fields t j ≡ secondary_fields t (index_at t j).columns
-key_other t j h = rw (not_first j h) refl
-
-pub rest_first : (t : TableDef) (j : ℕ) → j ≡ 0 → rest_fields t j ≡ clustered_rest t
-rest_first t j e = rw e refl
-
-pub rest_other : (t : TableDef) (j : ℕ) → 0 < j → rest_fields t j ≡ []
-rest_other t j h = rw (not_first j h) refl
 
 -- the list of leaf records, and of node pointers, from its parts
 pub are_leaf : (t : TableDef) (j : ℕ) (key fields : List Field) (nullable keys : ℕ) → key ≡ key_fields t j

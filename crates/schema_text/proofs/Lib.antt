@@ -13,6 +13,7 @@ pub mod ReadLemmas
 pub mod TextLemmas
 pub mod ReadingLemmas
 pub mod FieldLemmas
+pub mod ColumnFields
 pub mod PrintLemmas
 pub mod GoodLines
 pub mod WordsBack

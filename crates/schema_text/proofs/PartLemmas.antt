@@ -149,9 +149,6 @@ map_push f (y ∷ ys) x = ap (λ rest. f y ∷ rest) (map_push f ys x)
 abbrev heads : TableDef → List Line
 heads t = table_words t ∷ map column_words t.columns
 
-indexes_words : (hs : List Line) (f g : IndexDef → Line) (xs : List IndexDef) → List Line
-indexes_words hs f g xs = hs ++ map f (take 1 xs) ++ map g (drop 1 xs)
-
 no_words : (hs : List Line) (f g : IndexDef → Line) (xs : List IndexDef) → length xs ≡ 0
     → hs ++ map f (take 1 xs) ++ map g (drop 1 xs) ≡ hs
 no_words hs f g [] h = append-nil (hs ++ []) ∙ append-nil hs

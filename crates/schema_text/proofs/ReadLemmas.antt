@@ -56,9 +56,6 @@ pub clustered_name : (t : TableDef) (line : Line) → HasClusteredForm t line �
 unfolding ClusteredLineChecks
 clustered_name t line form bad = inr (form, inl (bad, refl))
 
-abbrev AreKeysRead : TableDef → IndexLine → ℕ → Type 0
-AreKeysRead t line root = IsRoot root × (line.root ≡ decimal root) × KeyChecks t line None
-
 pub clustered_result : (t : TableDef) (line : Line) (number : List ℕ) (r : Result ℕ SchemaWhy) → IsPart t
     → HasClusteredForm t line → All IsName (drop 3 line) → number ≡ word line 2
     → MatchResult r (λ root. IsRoot root × (number ≡ decimal root) × KeyChecks t (record {

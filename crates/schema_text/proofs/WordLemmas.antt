@@ -21,30 +21,6 @@ use Rattle.std.specs.Fmt.{decimal}
 use Rattle.std.specs.Bool.{then_some}
 use Rattle.std.specs.Borrow.{Bor}
 
--- from the cases of `strip_prefix`
-pub behind_found : (s p : List ℕ) (r : Option (Bor (List ℕ)))
-    → MatchOption r ((rest : List ℕ) → s ≢ p ++ rest) (λ x. s ≡ p ++ x.now) → IfSome r (λ x. s ≡ p ++ x.now)
-behind_found s p None h = tt
-behind_found s p (Some x) h = h
-
-pub behind_only : (s p : List ℕ) (r : Option (Bor (List ℕ)))
-    → MatchOption r ((rest : List ℕ) → s ≢ p ++ rest) (λ x. s ≡ p ++ x.now) → (rest : List ℕ) → s ≡ p ++ rest
-    → IsSomeAnd r (λ x. x.now ≡ rest)
-behind_only s p None h rest e = absurd (h rest e)
-behind_only s p (Some x) h rest e = append_cancel_left p x.now rest (sym h ∙ e)
-
--- from the cases of `strip_suffix`
-pub ahead_found : (s p : List ℕ) (r : Option (Bor (List ℕ)))
-    → MatchOption r ((front : List ℕ) → s ≢ front ++ p) (λ x. s ≡ x.now ++ p) → IfSome r (λ x. s ≡ x.now ++ p)
-ahead_found s p None h = tt
-ahead_found s p (Some x) h = h
-
-pub ahead_only : (s p : List ℕ) (r : Option (Bor (List ℕ)))
-    → MatchOption r ((front : List ℕ) → s ≢ front ++ p) (λ x. s ≡ x.now ++ p) → (front : List ℕ) → s ≡ front ++ p
-    → IsSomeAnd r (λ x. x.now ≡ front)
-ahead_only s p None h front e = absurd (h front e)
-ahead_only s p (Some x) h front e = append_cancel_right x.now front p (sym h ∙ e)
-
 -- the first such byte stands behind what lacks it
 pub place_between : (byte : ℕ) (first rest : List ℕ) → Lacks byte first
     → position (λ b. eqb b byte) (first ++ byte ∷ rest) ≡ Some (length first)

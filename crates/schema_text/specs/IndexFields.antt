@@ -105,3 +105,7 @@ field_of_column table column =
     if list_any (λ i. i == column) (clustered_positions table)
     then position_or_len (λ i. i == column) (clustered_positions table)
     else length (clustered_key table) + 2 + position_or_len (λ i. i == column) (other_positions table)
+
+-- the fields of the columns of a table, in its order
+abbrev pub fields_of_columns : TableDef → List ℕ
+fields_of_columns table = map (field_of_column table) (range_with_len 0 (length table.columns))

@@ -2,27 +2,23 @@
 #![tactic(auto)]
 
 mod checks;
-#[cfg(test)]
-mod counts;
+mod columns;
 mod errors;
 mod fields;
 mod keys;
 pub mod laws;
 mod line;
 mod names;
-#[cfg(test)]
-mod orders;
 mod part;
 mod print;
 mod read;
-#[cfg(test)]
-mod refusals;
 mod table;
 #[cfg(test)]
 mod tests;
 mod types;
 mod words;
 
+pub use columns::column_fields;
 pub use errors::{SchemaError, SchemaWhy};
 pub use table::{Column, ColumnList, Format, IndexDef, Schema};
 pub use words::decimal_number;

@@ -89,23 +89,6 @@ lists_stop file (stops.Broken fault) h = inl h
 lists_stop file stops.Source h = tt
 lists_stop file stops.Memory h = tt
 
-pub owners_stop : (file : List ℕ) (stop : Stop) → Stops stop (OwnershipChecks file) → Stops stop (PagesChecks file)
-owners_stop file (stops.Broken fault) h = inl h
-owners_stop file stops.Source h = tt
-owners_stop file stops.Memory h = tt
-
-pub frames_stop : (file : List ℕ) (stop : Stop) → OwnershipChecks file None → Stops stop (FrameChecks file)
-    → Stops stop (PagesChecks file)
-frames_stop file (stops.Broken fault) a h = inr (a, h)
-frames_stop file stops.Source a h = tt
-frames_stop file stops.Memory a h = tt
-
-pub extents_stop : (file : List ℕ) (stop : Stop) → Stops stop (AllDescriptorChecks file)
-    → Stops stop (SpaceChecks file)
-extents_stop file (stops.Broken fault) h = inl h
-extents_stop file stops.Source h = tt
-extents_stop file stops.Memory h = tt
-
 pub inodes_stop : (file : List ℕ) (stop : Stop) → AllDescriptorChecks file None
     → Stops stop (AllInodeChecks file (is_fragment_page file)) → Stops stop (SpaceChecks file)
 inodes_stop file (stops.Broken fault) a h = inr (a, inl h)

@@ -133,9 +133,6 @@ state_is : (file : List ℕ) (e : ℕ) (x : Extent) → extent_of file e ≡ x �
     → extent_state file e ≡ state
 state_is file e x is state s = ap (λ (y : Extent). y.state) is ∙ s
 
-test_is : (a b : ℕ) → a ≡ b → (k : ℕ) → (b == k) ≡ false → (a == k) ≡ false
-test_is a b e k t = ap (λ m. m == k) e ∙ t
-
 pub found_free : (file : List ℕ) (extents : List Extent) (inodes : InodesView) (homes : List ℕ) (n : ℕ) (x : Extent)
     → IsOwned file extents inodes homes
     → slice_get extents (n / 64) ≡ Some x → x.state ≡ 1 → FreeExtent ≡ owner_of file n

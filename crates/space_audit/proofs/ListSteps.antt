@@ -40,13 +40,6 @@ then_map x y z w f g (Some fault) h = elim h [
       (f None b.0, g (Some fault) b.1)
 ]
 
-pub answers_map : {A : Type 0} (r : Result A Stop) (x y : Option Fault → Type 0) → ((v : Option Fault) → x v → y v)
-    → Answers r x → Answers r y
-answers_map (Ok a) x y f h = f None h
-answers_map (Err (stops.Broken fault)) x y f h = f (Some fault) h
-answers_map (Err stops.Source) x y f h = tt
-answers_map (Err stops.Memory) x y f h = tt
-
 pub stops_map : (stop : Stop) (x y : Option Fault → Type 0) → ((v : Option Fault) → x v → y v) → Stops stop x
     → Stops stop y
 stops_map (stops.Broken fault) x y f h = f (Some fault) h

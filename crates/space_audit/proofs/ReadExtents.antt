@@ -77,10 +77,6 @@ home_is file e x ids used is same all =
     ∙ ap (λ (y : Extent). home_by y.state (position_or_len (λ place. segment_id file place == y.id) (segments file))
     (used_count file e)) (sym is))
 
-pub uses_length : (file : List ℕ) → length (uses_of file) ≡ extent_count file
-unfolding uses_of
-uses_length file = length-map-range_with_len (used_count file) 0 (extent_count file)
-
 pub use_at : (file : List ℕ) (e d : ℕ) → e < extent_count file → get_or (uses_of file) e d ≡ used_count file e
 unfolding uses_of
 use_at file e d h = get_or-map-range_with_len (used_count file) 0 (extent_count file) e e d h (omega arith)

@@ -12,9 +12,10 @@ use Rattle.schema_text.specs.TableDef.{TableDef, column_at}
 use Rattle.schema_text.specs.Grammar.{IsTable}
 use Rattle.schema_text.specs.IndexFields.{field_of_column}
 use Rattle.sql_dump.specs.Cells.{RowView, CellView, AreCells, HavePlaces, IsNear, IsSound, ReadsValue}
-use Rattle.sql_dump.specs.Cells.{ReadsRow, cell_of_column, fields_of_columns, pages_of_cell}
+use Rattle.schema_text.specs.IndexFields.{fields_of_columns}
+use Rattle.sql_dump.specs.Cells.{ReadsRow, cell_of_column, pages_of_cell}
 use Rattle.sql_dump.specs.Cells.{place_in}
-use Rattle.sql_dump.proofs.ColumnFields.{holds_column}
+use Rattle.schema_text.proofs.ColumnFields.{holds_column}
 
 -- a value that is read may be written
 pub sound_value : (file : List ℕ) (cell : CellView) (value : Value) → ReadsValue file cell value → IsSound cell

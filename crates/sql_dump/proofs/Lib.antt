@@ -1,4 +1,3 @@
-pub mod ColumnFields
 pub mod Written
 pub mod Chains
 pub mod Longs
@@ -13,3 +12,5 @@ pub mod TableLines
 pub mod Soundness
 pub mod Dumps
 pub mod OneDump
+pub mod SomeValues
+pub mod SomeRows

@@ -19,7 +19,7 @@ use Rattle.page_source.proofs.Texts.{grows_on, grows_part}
 use Rattle.sql_dump.specs.declared.stop.WriteStop.{WriteStop}
 use Rattle.sql_dump.specs.Stops.{Writes}
 use Rattle.column_values.specs.declared.kind.ColumnType.{ColumnType}
-use Rattle.sql_dump.proofs.ColumnFields.{range_at}
+use Rattle.schema_text.proofs.ColumnFields.{range_at}
 use Rattle.sql_dump.proofs.Written.{part_more, ends_in_piece}
 
 before_suc : (n : ℕ) → before_value (suc n) ≡ comma ∷ []
@@ -51,7 +51,7 @@ zip_size (a ∷ xs) [] same = absurd (omega arith)
 zip_size (a ∷ xs) (b ∷ ys) same = ap suc (zip_size xs ys (omega arith))
 
 -- one value more
-joined_more : (columns : List Column) (row : List Value) (column : Column) (value : Value)
+pub joined_more : (columns : List Column) (row : List Value) (column : Column) (value : Value)
     → length columns ≡ length row
     → joined_values (columns ++ column ∷ []) (row ++ value ∷ [])
     ≡ joined_values columns row ++ (before_value (length row) ++ value_text column.kind value)

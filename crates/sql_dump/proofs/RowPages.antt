@@ -10,7 +10,7 @@ use Rattle.schema_text.specs.Grammar.{IsTable}
 use Rattle.schema_text.specs.IndexFields.{field_of_column, leaf_fields}
 use Rattle.table_check.specs.Values.{pages_of_field, pages_of_record}
 use Rattle.sql_dump.specs.Cells.{row_on, place_in, cell_of_column, pages_of_cell, pages_of_columns, pages_of_all}
-use Rattle.sql_dump.proofs.ColumnFields.{holds_column, one_column}
+use Rattle.schema_text.proofs.ColumnFields.{holds_column, one_column}
 use Rattle.sql_dump.proofs.Totals.{length_is_total, total_same, total_part}
 
 -- the place of a column is that of its field

@@ -40,7 +40,7 @@ use Rattle.table_check.specs.Rows.{IsWholeValue, HasValue, place_of_column, IsRo
 use Rattle.sql_dump.specs.Long.{chain_bytes, stated_length}
 use Rattle.sql_dump.specs.Cells.{IsWholeLong, ReadsValue, row_on, cell_of_column}
 use Rattle.sql_dump.specs.Lines.{ReadsRecord, ReadsRows}
-use Rattle.sql_dump.proofs.ColumnFields.{holds_column}
+use Rattle.schema_text.proofs.ColumnFields.{holds_column}
 use Rattle.sql_dump.proofs.RowPages.{place_is}
 
 -- the laws of chains, and the size of the file

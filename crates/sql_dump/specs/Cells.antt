@@ -13,7 +13,7 @@ use Rattle.compact_record.specs.Keys.{LiesBelow}
 use Rattle.compact_record.specs.Reading.{places_of}
 use Rattle.offpage_chain.specs.Reference.{reference_of}
 use Rattle.schema_text.specs.TableDef.{TableDef, column_at}
-use Rattle.schema_text.specs.IndexFields.{field_of_column, leaf_fields}
+use Rattle.schema_text.specs.IndexFields.{field_of_column, fields_of_columns, leaf_fields}
 use Rattle.table_check.specs.Values.{bytes_at, pages_of_field}
 use Rattle.sql_dump.specs.Long.{CanFollow, FitsLong, whole_bytes, stated_length}
 
@@ -42,10 +42,6 @@ place_in table places c =
 abbrev pub cell_of_column : RowView → ℕ → CellView
 cell_of_column row c =
     record { kind = (column_at row.table c).kind; page = row.page; place = place_in row.table row.places c }
-
--- the fields of the columns of a table, in its order
-abbrev pub fields_of_columns : TableDef → List ℕ
-fields_of_columns table = map (field_of_column table) (range_with_len 0 (length table.columns))
 
 -- each field has its place on a page
 pub record HavePlaces (table : TableDef) (places : List Place) : Type 0 where

@@ -6,3 +6,4 @@ pub mod Reader
 pub mod Lines
 pub mod Buffer
 pub mod Laws
+pub mod SomeRows

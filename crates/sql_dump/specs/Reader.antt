@@ -4,7 +4,7 @@ use Rattle.column_values.specs.Types.{Fields}
 use Rattle.compact_record.specs.declared.places.Place.{Place}
 use Rattle.schema_text.specs.TableDef.{TableDef}
 use Rattle.schema_text.specs.IndexFields.{leaf_fields}
-use Rattle.sql_dump.specs.Cells.{fields_of_columns}
+use Rattle.schema_text.specs.IndexFields.{fields_of_columns}
 
 -- its table, and where the fields of the record lie that was read last
 pub record ReaderView : Type 0 where

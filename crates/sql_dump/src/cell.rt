@@ -6,6 +6,7 @@ ghost use Rattle.column_values.specs.declared.value.Value.{Value};
 ghost use Rattle.row_text.specs.Values.{value_text};
 ghost use Rattle.row_text.specs.Writer.{before_value};
 ghost use Rattle.sql_dump.specs.Stops.{Writes, WritesOver};
+ghost use Rattle.sql_dump.specs.SomeRows.{PutsSomeValue};
 ghost use Rattle.sql_dump.specs.Cells.{IsNear, IsSound, ReadsValue, CanReadCell, local_bytes, pages_of_cell};
 
 use crate::long::{ChainRoom, fits_long, put_long};
@@ -78,6 +79,7 @@ pub(crate) fn put_value<S: PageSource, O: ByteSink, L: Ledger>(
     ensures puts { OfFile S.PageSource source.old (λ file. (value : Value) → ReadsValue file cell.now value
         → Writes result (O.written sink.old) (O.written sink.new)
         (before_value writer.old.came ++ value_text cell.now.kind value)) }
+    ensures some { PutsSomeValue cell.now.kind writer.old.came result (O.written sink.old) (O.written sink.new) }
     ensures left { OnOk result (OfFile S.PageSource source.old (λ file.
         room.new.left + length (pages_of_cell file cell.now) ≡ room.old.left)) }
     ensures came { OnOk result (writer.new.came ≡ writer.old.came + 1) }

@@ -3,7 +3,6 @@
 
 mod buffer;
 mod cell;
-mod columns;
 pub mod laws;
 mod line;
 mod long;
@@ -16,7 +15,6 @@ mod tests;
 mod text;
 
 pub use buffer::Buffer;
-pub use columns::column_fields;
 pub use long::ChainRoom;
 pub use reader::RowReader;
 pub use row::{Row, put_row};

@@ -9,6 +9,7 @@ ghost use Rattle.row_text.specs.Line.{line_of};
 ghost use Rattle.sql_dump.specs.Stops.{WritesOver};
 ghost use Rattle.sql_dump.specs.Cells.{ReadsRow, CanReadRow, pages_of_all};
 ghost use Rattle.sql_dump.specs.Buffer.{IsSent, Keeps, LeavesOf, Moves};
+ghost use Rattle.sql_dump.specs.SomeRows.{KeepsSomeRow, MovesSomeRow};
 
 use crate::buffer::Buffer;
 use crate::long::ChainRoom;
@@ -45,6 +46,7 @@ fn keep_line<S: PageSource, L: Ledger>(
     ensures keeps { OfFile S.PageSource source.old (λ file. (row_values : List Value)
         → ReadsRow file row.now row_values
         → Keeps result buffer.old.bytes buffer.new.bytes (line_of row.now.table row_values)) }
+    ensures some { KeepsSomeRow row.now.table result buffer.old.bytes buffer.new.bytes }
     ensures left { IfOk result (λ kept. OfFile S.PageSource source.old (λ file.
         LeavesOf kept room.old.left room.new.left (length (pages_of_all file row.now)))) }
     ensures cost { steps.new + room.new.left ≡ steps.old + room.old.left }
@@ -82,6 +84,8 @@ pub(crate) fn put_line<S: PageSource, O: ByteSink, L: Ledger>(
         → ReadsRow file row.now row_values
         → Moves result (O.written sink.old) (O.written sink.new) buffer.old.bytes buffer.new.bytes
         (line_of row.now.table row_values)) }
+    ensures some { OnOk result (MovesSomeRow row.now.table (O.written sink.old) (O.written sink.new)
+        buffer.old.bytes buffer.new.bytes) }
     ensures left { OnOk result (OfFile S.PageSource source.old (λ file.
         room.new.left + length (pages_of_all file row.now) ≡ room.old.left)) }
     ensures cost { steps.new + room.new.left ≡ steps.old + room.old.left }

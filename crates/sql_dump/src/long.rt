@@ -6,6 +6,7 @@ ghost use Rattle.offpage_chain.specs.Chain.{chain_pages};
 ghost use Rattle.offpage_chain.specs.Reference.{reference_of};
 ghost use Rattle.row_text.specs.Writer.{Writer, before_value, with_value, is_long, long_part};
 ghost use Rattle.sql_dump.specs.Stops.{Writes, WritesOver};
+ghost use Rattle.sql_dump.specs.SomeRows.{PutsSomeBytes, PutsSomeValue};
 ghost use Rattle.sql_dump.specs.Long.{CanFollowIn, FitsLong, IsSplit, chain_bytes, long_text};
 
 use crate::buffer::Buffer;
@@ -116,6 +117,7 @@ fn put_chain<S: PageSource, O: ByteSink, L: Ledger>(
     requires told { OfFile S.PageSource source.old (λ file. CanFollowIn file reference.now room.old.left) }
     ensures puts { OfFile S.PageSource source.old (λ file. Writes result (O.written sink.old) (O.written sink.new)
         (long_part kind.now (chain_bytes file reference.now))) }
+    ensures some { PutsSomeBytes kind.now reference.now.length result (O.written sink.old) (O.written sink.new) }
     ensures left { OnOk result (OfFile S.PageSource source.old (λ file.
         room.new.left + length (chain_pages file reference.now) ≡ room.old.left)) }
     ensures came { OnOk result (writer.new ≡ record { came = writer.old.came; lacks = 0 }) }
@@ -148,6 +150,7 @@ pub(crate) fn put_long<S: PageSource, O: ByteSink, L: Ledger>(
     requires told { OfFile S.PageSource source.old (λ file. CanFollowIn file (reference_of local.now) room.old.left) }
     ensures puts { OfFile S.PageSource source.old (λ file. Writes result (O.written sink.old) (O.written sink.new)
         (before_value writer.old.came ++ long_text file kind.now local.now)) }
+    ensures some { PutsSomeValue kind.now writer.old.came result (O.written sink.old) (O.written sink.new) }
     ensures left { OnOk result (OfFile S.PageSource source.old (λ file.
         room.new.left + length (chain_pages file (reference_of local.now)) ≡ room.old.left)) }
     ensures came { OnOk result (writer.new ≡ with_value writer.old 0) }

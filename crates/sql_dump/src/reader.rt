@@ -1,18 +1,18 @@
 //! The reading of rows.
 
 ghost use Rattle.std.specs.Prelude.{◌≡◌, ◌≢◌, ◌≤◌, length, All, IfOk, OnOk, Ok, Err};
+ghost use Rattle.page_source.specs.declared.rule.Fault.{Fault};
 ghost use Rattle.compact_record.specs.Keys.{LiesBelow};
 ghost use Rattle.compact_record.specs.Reading.{IsHeapOrigin, IsReading, IsSpelled, places_of, record_end};
 ghost use Rattle.schema_text.specs.IndexFields.{leaf_fields};
 ghost use Rattle.sql_dump.specs.Cells.{HavePlaces};
 
-use crate::columns::column_fields;
 use crate::row::Row;
 use crate::stop::WriteStop;
 use column_values::FieldList;
 use compact_record::Located;
 use page_source::{NoMemory, PAGE_SIZE, Page, Rule};
-use schema_text::Schema;
+use schema_text::{Schema, column_fields};
 use std::alloc::Global;
 use std::marker::Model;
 
@@ -54,6 +54,8 @@ fn read_record(
     ensures readable { IsSpelled page.now origin fields.now → record_end page.now origin fields.now ≤ 16384
         → result ≡ Ok tt }
     ensures found { result ≢ Err WriteStop.Source × result ≢ Err WriteStop.Sink }
+    ensures broken { (fault : Fault) → result ≡ Err (WriteStop.Broken fault)
+        → fault ≡ record { rule = Rule.RecordSpelling; page = number } }
 {
     if !located.again(page, origin, fields) || located.end() > PAGE_SIZE {
         return Err(WriteStop::Broken(Rule::RecordSpelling.at(number)));
@@ -86,6 +88,8 @@ impl<'a> RowReader<'a> {
         ensures readable { IsSpelled page.now origin (leaf_fields self.old.table 0)
             → record_end page.now origin (leaf_fields self.old.table 0) ≤ 16384 → result ≡ Ok tt }
         ensures found { result ≢ Err WriteStop.Source × result ≢ Err WriteStop.Sink }
+        ensures broken { (fault : Fault) → result ≡ Err (WriteStop.Broken fault)
+            → fault ≡ record { rule = Rule.RecordSpelling; page = number } }
     {
         read_record(&mut self.located, page, number, origin, &self.fields)
     }

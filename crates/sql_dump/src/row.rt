@@ -5,6 +5,7 @@ ghost use Rattle.page_source.specs.Calls.{OfFile};
 ghost use Rattle.column_values.specs.declared.value.Value.{Value};
 ghost use Rattle.row_text.specs.Line.{line_of};
 ghost use Rattle.sql_dump.specs.Stops.{Writes, WritesOver};
+ghost use Rattle.sql_dump.specs.SomeRows.{PutsSomeRow};
 ghost use Rattle.sql_dump.specs.Cells.{IsNear, ReadsRow, CanReadRow, cell_of_column, pages_of_all};
 
 use crate::cell::{Cell, put_value};
@@ -73,6 +74,7 @@ pub fn put_row<S: PageSource, O: ByteSink, L: Ledger>(
     ensures puts { OfFile S.PageSource source.old (λ file. (row_values : List Value)
         → ReadsRow file row.now row_values
         → Writes result (O.written sink.old) (O.written sink.new) (line_of row.now.table row_values)) }
+    ensures some { PutsSomeRow row.now.table result (O.written sink.old) (O.written sink.new) }
     ensures left { OnOk result (OfFile S.PageSource source.old (λ file.
         room.new.left + length (pages_of_all file row.now) ≡ room.old.left)) }
     ensures near { All IsNear row.now.places → room.new.left ≡ room.old.left }

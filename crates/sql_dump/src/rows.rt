@@ -1,12 +1,13 @@
 //! The lines of all rows.
 
-ghost use Rattle.std.specs.Prelude.{◌≡◌, ◌+◌, ◌≤◌, List, [], false};
+ghost use Rattle.std.specs.Prelude.{◌≡◌, ◌+◌, ◌≤◌, List, [], false, OnOk};
 ghost use Rattle.page_source.specs.Calls.{OfFile};
 ghost use Rattle.column_values.specs.declared.value.Value.{Value};
 ghost use Rattle.schema_text.specs.Grammar.{IsTable};
 ghost use Rattle.row_text.specs.Line.{text_of};
 ghost use Rattle.sql_dump.specs.Stops.{Writes, WritesOver};
 ghost use Rattle.sql_dump.specs.Lines.{CanWrite, ReadsRows};
+ghost use Rattle.sql_dump.specs.SomeRows.{GrowsByRows};
 
 use crate::buffer::Buffer;
 use crate::line::put_line;
@@ -34,6 +35,8 @@ pub(crate) fn put_rows<S: PageSource, O: ByteSink, L: Ledger>(
     ensures puts { OfFile S.PageSource source.old (λ file. (all : List (List Value))
         → ReadsRows file reader.old.table all
         → Writes result (O.written sink.old) (O.written sink.new) (text_of reader.old.table all)) }
+    ensures some { OnOk result
+        (GrowsByRows reader.old.table (O.written sink.old) (O.written sink.new) rows.old.live) }
     ensures cost { steps.new ≤ steps.old + rows.old.leaf.may_fetch + room.old.left }
     ensures over { WritesOver S.PageSource O.ByteSink source.old source.new sink.old sink.new result }
 {

@@ -4,6 +4,7 @@ ghost use Rattle.std.specs.Prelude.{◌≤◌, ◌+◌, IfOk};
 ghost use Rattle.page_source.specs.Calls.{OfFile};
 ghost use Rattle.table_check.specs.First.{TakesSteps, dump_steps};
 ghost use Rattle.sql_dump.specs.Dump.{Dumps, DumpsOver};
+ghost use Rattle.sql_dump.specs.SomeRows.{GrowsByRows};
 
 use crate::buffer::Buffer;
 use crate::laws::{checked_can_be_read, schema_is_table};
@@ -19,8 +20,9 @@ use table_check::laws::checks_are_validity;
 use table_check::{Checked, LiveRows, check_table};
 
 /// Checks a tablespace by the rules 1 to 51, and then writes one line for each row of its table that has no delete
-/// mark, in the order of the clustered index. `Broken` names the first broken rule and its page, `Source` and `Sink`
-/// come where an object's count of faults rose, `Memory` where memory ran out, before the first line.
+/// mark, in the order of the clustered index: at `Ok` as many lines as rows were counted, over a file that changes too.
+/// `Broken` names the first broken rule and its page, `Source` and `Sink` come where an object's count of faults rose,
+/// `Memory` where memory ran out, before the first line.
 pub fn dump<S: PageSource, O: ByteSink, L: Ledger>(
     alloc: Global,
     source: &mut S,
@@ -30,6 +32,8 @@ pub fn dump<S: PageSource, O: ByteSink, L: Ledger>(
 ) -> Result<Checked, DumpStop>
     ensures told { OfFile S.PageSource source.old (λ file.
         Dumps file schema.now result (O.written sink.old) (O.written sink.new)) }
+    ensures lines { IfOk result (λ checked.
+        GrowsByRows schema.now (O.written sink.old) (O.written sink.new) checked.rows) }
     ensures over { DumpsOver S.PageSource O.ByteSink source.old source.new sink.old sink.new result }
     ensures steps { TakesSteps S.PageSource source.old dump_steps steps.old steps.new }
     ensures sized { IfOk result (λ checked. steps.new ≤ steps.old + dump_steps checked.pages) }

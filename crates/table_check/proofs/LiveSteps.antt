@@ -115,6 +115,22 @@ none_behind index rows j leaf has f =
           all,
     )
 
+-- nor is there one due
+pub record AreDone (rows : LiveView) : Type 0 where
+  pub live : rows.live ≡ 0
+  pub deleted : rows.deleted ≡ 0
+
+pub none_due : (index : Index) (rows : LiveView) (j : ℕ) (leaf : Leaf) (has : HasGivenLive index rows j)
+    → FindsRow index has.passed (Ok None) leaf → AreDone rows
+none_due index rows j leaf has f =
+    let all = take_all has.passed (leaf_rows index) f in
+    let live = ap (count_by (is_live_row index)) all in
+    let deleted = ap (count_by (is_deleted_row index)) all in
+    record {
+      live = omega (arith, has.given, has.live, live);
+      deleted = omega (arith, has.deleted, deleted);
+    }
+
 -- the walk never breaks off
 pub never_breaks : (index : Index) (j passed : ℕ) (leaf : Leaf) (rows : LiveView) (halt : Halt)
     → FindsRow index passed (Err halt) leaf → FindsLive index j (Err halt) rows

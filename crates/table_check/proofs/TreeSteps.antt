@@ -37,11 +37,6 @@ use Rattle.table_check.specs.Taken.{AreExactly, AreTaken, AreWalked, AreEnds, le
 use Rattle.table_check.proofs.Progress.{is_in_append}
 use Rattle.table_check.proofs.RecordSteps.{flat_map_more, range_more, below_more}
 
--- a halt of these checks, as a stop
-pub stops_at : (halt : Halt) (checks : Option Fault → Type 0) → HaltsAt halt checks → Stops (stop_of halt) checks
-stops_at (Broken fault) checks at = at
-stops_at Source checks at = tt
-
 -- more numbers were marked
 pub exactly_more : (old new : List Bool) (list more : List ℕ) → AreExactly old list → Marked (is_set old) new more
     → AreExactly new (list ++ more)

@@ -85,6 +85,11 @@ pub record IsChecked (file : List ℕ) (table : TableDef) (checked : Checked) : 
   pub has_deleted : checked.deleted ≡ length (deleted_rows (clustered_tree file table))
   pub has_unreached : checked.unreached ≡ length (filter (is_unreached file table) (range_with_len 0 (size_of file)))
 
+-- the numbers of rows are those of the clustered tree
+pub record HasCounts (found : Table) : Type 0 where
+  pub rows : found.checked.rows ≡ found.clustered.live
+  pub deleted : found.checked.deleted ≡ found.clustered.deleted
+
 -- and what a dump needs besides
 pub record IsCheckedTable (file : List ℕ) (table : TableDef) (found : Table) : Type 0 where
   pub is_checked : IsChecked file table found.checked

@@ -1,5 +1,5 @@
 -- A cursor over the rows without the delete mark (btr0cur).
-use Rattle.std.specs.Prelude.{◌≡◌, ℕ, ◌+◌, ◌<◌, ◌≤◌, ◌⊎◌, ⊤, Bool, List, length, take, count_by, Option, Some, None}
+use Rattle.std.specs.Prelude.{◌≡◌, ℕ, ◌+◌, ◌<◌, ◌≤◌, ◌⊎◌, ⊤, Bool, true, false, List, length, take, count_by, Option, Some, None}
 use Rattle.std.specs.Prelude.{Result, Ok, Err}
 use Rattle.page_source.specs.declared.rule.Rule.TheVariants.{RecordChain}
 use Rattle.page_source.specs.declared.rule.Fault.{Fault}
@@ -51,11 +51,23 @@ FindsLive index j (Ok (Some origin)) rows = IsRowInHand index rows.leaf j origin
 FindsLive index j (Err (Broken fault)) rows = ⊥
 FindsLive index j (Err Source) rows = ⊤
 
--- it breaks off where the walk along the leaves does, or at a row too many of its kind
+-- as many leaves and rows of either kind came as were counted, in the calls up to this last one
+pub record HaveAllCome (old new : LiveView) : Type 0 where
+  pub leaves : new.leaf.may_fetch ≡ 0
+  pub live : old.live ≡ 0
+  pub deleted : new.deleted ≡ 0
+
+-- there is a row too many of its kind, or the leaves ended and rows are missing
+abbrev pub AreMiscounted : LiveView → Type 0
+AreMiscounted rows =
+    ((rows.ended ≡ false) × ((rows.live ≡ 0) ⊎ (rows.deleted ≡ 0)))
+    ⊎ ((rows.ended ≡ true) × ((0 < rows.live) ⊎ (0 < rows.deleted)))
+
+-- it breaks off where the walk along the leaves does, or where the rows aren't as many as were counted
 abbrev pub CutsOff : LiveView → Fault → Type 0
 CutsOff rows fault =
     BreaksOff rows.leaf fault
-    ⊎ ((fault ≡ record { rule = RecordChain; page = rows.leaf.number }) × ((rows.live ≡ 0) ⊎ (rows.deleted ≡ 0)))
+    ⊎ ((fault ≡ record { rule = RecordChain; page = rows.leaf.number }) × AreMiscounted rows)
 
 -- a cursor before the first row of a walked tree, whose leaves this segment uses
 pub record GivesAll (index : Index) (rows : LiveView) (segment : ℕ) : Type 0 where

@@ -7,7 +7,7 @@ ghost use Rattle.column_values.specs.Types.{Fields};
 ghost use Rattle.tree_walk.specs.Index.{Index, index_of};
 ghost use Rattle.tree_walk.specs.Walk.{IsEndsOf};
 ghost use Rattle.tree_walk.specs.Leaf.{IsWalked, Ends};
-ghost use Rattle.table_check.specs.Live.{HasGivenLive, CanGiveLive, FindsLive, CutsOff};
+ghost use Rattle.table_check.specs.Live.{HasGivenLive, CanGiveLive, FindsLive, HaveAllCome, CutsOff};
 
 use compact_record::deleted;
 use page_source::{Halt, NoMemory, Page, PageSource, Rule, Steps};
@@ -16,8 +16,8 @@ use std::marker::Model;
 use std::sync::ledger::Ledger;
 use tree_walk::{LeafCursor, TreeEnds};
 
-/// A cursor over the rows of a checked table that have no delete mark. It gives at most as many as the check counted,
-/// so that it ends over a file that changes too.
+/// A cursor over the rows of a checked table that have no delete mark. It gives as many as the check counted, over a
+/// file that changes too, or breaks off.
 #[derive(Debug, Drop)]
 pub struct LiveRows {
     cursor: LeafCursor,
@@ -55,10 +55,11 @@ impl LiveRows {
         })
     }
 
-    /// The origin of the next row on the page in hand; none behind the last. `Source` comes where the file's count of
-    /// faults rose. `Broken` never comes over a source that tells its content; over another it names the leaf in hand,
-    /// whose record chain isn't whole or too long (rule 35), or whose next field doesn't fit the number of leaves
-    /// (rule 31). After none it has ended, and after an error it isn't used again.
+    /// The origin of the next row on the page in hand; none behind the last, once as many leaves, rows and marked rows
+    /// came as were counted. `Source` comes where the file's count of faults rose. `Broken` never comes over a source
+    /// that tells its content; over another it names the leaf in hand, whose record chain isn't whole, too long, or
+    /// the last one and too short (rule 35), or whose next field doesn't fit the number of leaves (rule 31). After none
+    /// it has ended, and after an error it isn't used again.
     pub fn next<S: PageSource, L: Ledger>(
         &mut self,
         source: &mut S,
@@ -71,6 +72,7 @@ impl LiveRows {
             → FindsLive (index_of file root fields node) j result self.new) }
         ensures goes_on { IfOk result (λ found. IfSome found (λ _. self.new.ended ≡ false)) }
         ensures ended { result ≡ Ok None → self.new.ended ≡ true }
+        ensures all { result ≡ Ok None → HaveAllCome self.old self.new }
         ensures origin { IfOk result (λ found. IfSome found (λ origin. (125 ≤ origin) × (origin < 16384))) }
         ensures fewer { IfOk result (λ found. IfSome found (λ _. self.new.live + 1 ≡ self.old.live)) }
         ensures broken { (fault : Fault) → result ≡ Err (Halt.Broken fault) → CutsOff self.new fault }
@@ -88,6 +90,9 @@ impl LiveRows {
                 return Ok(Some(origin));
             }
             self.deleted = left - 1;
+        }
+        if self.live > 0 || self.deleted > 0 {
+            return Err(Halt::Broken(Rule::RecordChain.at(self.cursor.number())));
         }
         Ok(None)
     }

@@ -1,6 +1,6 @@
 //! The values of all rows of a table.
 
-ghost use Rattle.std.specs.Prelude.{◌≡◌, ◌+◌, ◌≤◌, false, length, IfOk, OnOk};
+ghost use Rattle.std.specs.Prelude.{◌≡◌, ◌+◌, ◌≤◌, false, length, IfOk, OnOk, Err};
 ghost use Rattle.page_source.specs.Lists.{unmarked};
 ghost use Rattle.page_source.specs.Checks.{Answers};
 ghost use Rattle.page_source.specs.Calls.{OfFile, StopsOver};
@@ -49,6 +49,8 @@ fn check_row<S: PageSource, L: Ledger>(
     ensures checks { ChecksPages S.PageSource source.old source.new marks.old marks.new steps.old steps.new result
         (λ file. RecordChecksOn file leaf.now origin (is_set marks.old))
         (λ file. pages_of_record_on file leaf.now origin) }
+    ensures unread { ¬ (IsRecord leaf.now.page.now leaf.now.leaves.fields.now origin)
+        → result ≡ Err (Halt.Broken (record { rule = Rule.RecordSpelling; page = leaf.now.number })) }
     ensures room { located.new.members ≡ located.old.members }
 {
     if !located.again(leaf.page, origin, leaf.leaves.fields) || located.end() > PAGE_SIZE {

@@ -3,7 +3,8 @@
 ghost use Rattle.std.specs.Prelude.{◌≡◌, IfOk, ◌+◌, ◌≤◌, length};
 ghost use Rattle.page_source.specs.Checks.{Answers};
 ghost use Rattle.page_source.specs.Calls.{OfFile, StopsOver};
-ghost use Rattle.table_check.specs.First.{First, IsChecked, IsCheckedTable, TakesSteps, LeavesSteps, LeavesAllSteps, check_steps};
+ghost use Rattle.table_check.specs.First.{First, IsChecked, IsCheckedTable, HasCounts, TakesSteps, LeavesSteps};
+ghost use Rattle.table_check.specs.First.{LeavesAllSteps, check_steps};
 ghost use Rattle.table_check.specs.Trees.{index_count};
 ghost use Rattle.table_check.specs.Valid.{TellsValid};
 ghost use Rattle.table_check.specs.Whole.{IsCheckedWhole};
@@ -51,6 +52,7 @@ pub fn check_table<S: PageSource, L: Ledger>(
     ensures exact { OfFile S.PageSource source.old (λ file. Answers result (First file schema.now)) }
     ensures table { IfOk result (λ table. OfFile S.PageSource source.old (λ file.
         IsCheckedTable file schema.now table)) }
+    ensures counts { IfOk result (λ table. HasCounts table) }
     ensures steps { TakesSteps S.PageSource source.old check_steps steps.old steps.new }
     ensures leaves { IfOk result (λ table. LeavesSteps steps.old steps.new table) }
     ensures over { StopsOver S.PageSource source.old source.new result }
@@ -69,6 +71,7 @@ pub fn check_whole<S: PageSource, L: Ledger>(
     ensures whole { IfOk result (λ whole. OfFile S.PageSource source.old (λ file.
         IsCheckedWhole file schema.now whole)) }
     ensures count { IfOk result (λ whole. length whole.ends ≡ index_count schema.now) }
+    ensures counts { IfOk result (λ whole. HasCounts whole.table) }
     ensures steps { TakesSteps S.PageSource source.old check_steps steps.old steps.new }
     ensures leaves { IfOk result (λ whole. LeavesAllSteps steps.old steps.new whole) }
     ensures over { StopsOver S.PageSource source.old source.new result }

@@ -37,18 +37,6 @@ pub root_within : (file : List ℕ) (space : SpaceView) (taken : Bool) (n : ℕ)
     file taken n → n < page_count file
 root_within file space taken n a p = let s = (audit_size file space a).within in let b = p.page.1.below in omega arith
 
--- the same of a root
-pub root_iff : (b : Bool) (file : List ℕ) (taken : Bool) (segment n : ℕ) → Used segment ≡ owner_of file n
-    → (IsTrue b ↔ IsPagePlace file taken segment n) → IsTrue b ↔ IsRootPlace file taken n
-root_iff b file taken segment n e i = (
-  (λ t. let p = i.0 t in record { page = (segment, p.page); new = p.new }),
-  (λ p. i.1 (record {
-    page = record { below = p.page.1.below; used = sym e; has_kind = p.page.1.has_kind };
-    new =
-        p.new;
-  })),
-)
-
 -- the segments that a root names
 module _ (file : List ℕ) (tree : Tree) (page : List ℕ) (named : ℕ → Bool) (l t : ℕ)
     (a : IsAuditOf file tree.space.now) (p : page ≡ page_of file tree.root)

@@ -287,15 +287,6 @@ follows_child index depth (Ahead c) page ahead j f = next_is' index depth c ahea
 follows_child index depth End page ahead j f = sym (get_or_past (children index (places index depth)) (j + 1)
     fil_null (rw length-map f))
 
-pub follows_record : (index : Index) (fields : Fields) (depth : ℕ) (next : Next) (page ahead : List ℕ) (j : ℕ) →
-    LevelFacts index fields depth → Follows index depth next page ahead j
-    → IfSome (origin_after next) (λ origin. IsRecord (page_after next page ahead) fields origin)
-follows_record index fields depth (Here c) page ahead j facts f = stands_record index depth c page (j + 1) fields
-    facts f
-follows_record index fields depth (Ahead c) page ahead j facts f = stands_record index depth c ahead (j + 1) fields
-    facts f
-follows_record index fields depth End page ahead j facts f = tt
-
 low_is : (b : Bool) (page : List ℕ) (fields : Fields) (o : ℕ) (k : Key) → k ≡ key_of page o fields → cond b None
     (Some k) ≡ held_key page fields (cond b None (Some o))
 low_is true page fields o k e = refl

@@ -4,9 +4,6 @@ use Rattle.column_values.specs.Types.{Fields}
 use Rattle.tree_walk.specs.declared.walk.Walk.{Walk}
 use Rattle.tree_walk.specs.Room.{HasRoom, HasSameRoom, CanWalk}
 
-pub same_room : (walk : Walk) → HasSameRoom walk walk
-same_room walk = record { scratch = refl; low = refl; high = refl; first = refl; last = refl }
-
 pub room_join : (a b c : Walk) → HasSameRoom a b → HasSameRoom b c → HasSameRoom a c
 room_join a b c x y = record {
   scratch = y.scratch ∙ x.scratch;
@@ -23,12 +20,4 @@ has_room old new n s r = record {
   high = rw s.high r.high;
   first = rw s.first r.first;
   last = rw s.last r.last;
-}
-
-pub can_walk : (old new : Walk) (leaf node : Fields) → HasSameRoom old new → CanWalk old leaf node → CanWalk new
-    leaf node
-can_walk old new leaf node s c = record {
-  lists = c.lists;
-  leaf_room = has_room old new (length leaf.fields) s c.leaf_room;
-  node_room = has_room old new (length node.fields) s c.node_room;
 }

@@ -61,13 +61,6 @@ module _ (page : List ℕ) (fields : Fields) (f : PageFacts page fields) (k at l
         most = omega arith;
       }
 
-pub counted_all : (page : List ℕ) (k at live deleted : ℕ) → record_count page ≤ k → HasCounted page k at live
-    deleted → IsTally page (record { live = live; deleted = deleted })
-counted_all page k at live deleted h c =
-    let n = length-records page in
-    let e : take k (records_of page) ≡ records_of page = take_all k (records_of page) (omega arith) in
-    record { live = rw (← e) c.live_is; deleted = rw (← e) c.deleted_is }
-
 -- over all leaves
 
 count-rows : (p : Row → Bool) (n : ℕ) (os : List ℕ) → count_by p (rows_at n os) ≡ count_by

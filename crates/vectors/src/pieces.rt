@@ -7,14 +7,14 @@ pub type Piece<'a> = (u32, usize, &'a [u8]);
 const ALONE: &[u8] = b"\xFF\xFF\xFF\xFF\0\0\xFF\xFF\xFF\xFF\0\0";
 
 /// The base of an empty list.
-pub(crate) const EMPTY: &[u8] = b"\0\0\0\0\xFF\xFF\xFF\xFF\0\0\xFF\xFF\xFF\xFF\0\0";
+const EMPTY: &[u8] = b"\0\0\0\0\xFF\xFF\xFF\xFF\0\0\xFF\xFF\xFF\xFF\0\0";
 
 /// The three of an inode.
-pub(crate) const THREE_EMPTY: &[u8] =
+const THREE_EMPTY: &[u8] =
     b"\0\0\0\0\xFF\xFF\xFF\xFF\0\0\xFF\xFF\xFF\xFF\0\0\0\0\0\0\xFF\xFF\xFF\xFF\0\0\xFF\xFF\xFF\xFF\0\0\0\0\0\0\xFF\xFF\xFF\xFF\0\0\xFF\xFF\xFF\xFF\0\0";
 
 /// The magic number of an inode.
-pub(crate) const MAGIC: &[u8] = b"\x05\xD6\x69\xD2";
+const MAGIC: &[u8] = b"\x05\xD6\x69\xD2";
 
 /// The slots of an inode without pages.
 const NO_SLOTS: &[u8] = &[0xFF; 128];

@@ -1,9 +1,8 @@
-//! Tables of bytes and their values.
+//! Bytes and their values, one of each type; all others are lines of the crate `cases`.
 
-mod moments;
-mod numbers;
 mod refusals;
 mod texts;
+mod values;
 
 ghost use Rattle.std.specs.Prelude.{IsTrue};
 ghost use Rattle.column_values.specs.Types.{IsColumnType};

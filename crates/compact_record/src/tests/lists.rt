@@ -13,24 +13,15 @@ use std::alloc::Global;
 pub enum Shape {
     /// Rows with a `varchar 300`.
     Wide,
-    /// Rows with nine `tinyint` that may be null.
-    Tens,
-    /// Node pointers to such rows.
-    TensNode,
     /// Rows with a `varchar 20` and a `text` that may be null.
     Notes,
-    /// Entries of an index over a `varchar 300`.
-    ByWide,
 }
 
 impl Shape {
     pub fn fields(self, alloc: Global) -> Result<FieldList, NoMemory> {
         match self {
             Shape::Wide => wide(alloc),
-            Shape::Tens => tens(alloc),
-            Shape::TensNode => tens_node(alloc),
             Shape::Notes => notes(alloc),
-            Shape::ByWide => by_wide(alloc),
         }
     }
 }
@@ -62,15 +53,6 @@ const CHILD: Field = Field {
     may_leave: false,
 };
 
-const TINY: Field = Field {
-    kind: FieldType::Column(ColumnType::Int {
-        width: 1,
-        signed: true,
-    }),
-    nullable: true,
-    may_leave: false,
-};
-
 const TAG: Field = Field {
     kind: FieldType::Column(ColumnType::Varchar { n: 20 }),
     nullable: true,
@@ -96,30 +78,6 @@ fn wide(alloc: Global) -> Result<FieldList, NoMemory> {
     Ok(fields)
 }
 
-fn tens(alloc: Global) -> Result<FieldList, NoMemory> {
-    let mut fields = FieldList::new(alloc, 9, 1);
-    fields.push(ID)?;
-    fields.push(TRX_ID)?;
-    fields.push(ROLL_POINTER)?;
-    fields.push(TINY)?;
-    fields.push(TINY)?;
-    fields.push(TINY)?;
-    fields.push(TINY)?;
-    fields.push(TINY)?;
-    fields.push(TINY)?;
-    fields.push(TINY)?;
-    fields.push(TINY)?;
-    fields.push(TINY)?;
-    Ok(fields)
-}
-
-fn tens_node(alloc: Global) -> Result<FieldList, NoMemory> {
-    let mut fields = FieldList::new(alloc, 9, 1);
-    fields.push(ID)?;
-    fields.push(CHILD)?;
-    Ok(fields)
-}
-
 fn notes(alloc: Global) -> Result<FieldList, NoMemory> {
     let mut fields = FieldList::new(alloc, 2, 1);
     fields.push(ID)?;
@@ -127,17 +85,6 @@ fn notes(alloc: Global) -> Result<FieldList, NoMemory> {
     fields.push(ROLL_POINTER)?;
     fields.push(TAG)?;
     fields.push(NOTE)?;
-    Ok(fields)
-}
-
-fn by_wide(alloc: Global) -> Result<FieldList, NoMemory> {
-    let mut fields = FieldList::new(alloc, 0, 2);
-    fields.push(Field {
-        kind: FieldType::Column(ColumnType::Varchar { n: 300 }),
-        nullable: false,
-        may_leave: false,
-    })?;
-    fields.push(ID)?;
     Ok(fields)
 }
 

@@ -16,7 +16,7 @@ use crate::{
 use column_values::FieldList;
 use lists::{id_leaf, id_node};
 use page_source::Page;
-use records::{OTHERS, ROWS, Record};
+use records::{RECORDS, Record};
 use std::alloc::Global;
 use std::cmp::Ordering;
 use std::process::Abort;
@@ -69,18 +69,9 @@ fn reads_record(
 }
 
 #[test]
-fn reads_rows(rt: HostRuntime) -> Result<(), Fail> {
+fn reads_records(rt: HostRuntime) -> Result<(), Fail> {
     let mut page = Page::zeroed(rt.alloc())?;
-    for record in &ROWS {
-        reads_record(&rt, rt.alloc(), &mut page, record)?;
-    }
-    Ok(())
-}
-
-#[test]
-fn reads_other_records(rt: HostRuntime) -> Result<(), Fail> {
-    let mut page = Page::zeroed(rt.alloc())?;
-    for record in &OTHERS {
+    for record in &RECORDS {
         reads_record(&rt, rt.alloc(), &mut page, record)?;
     }
     Ok(())
@@ -148,23 +139,11 @@ fn header(page: &Page, origin: usize) -> Header
 
 #[test]
 fn reads_headers(rt: HostRuntime) -> Result<(), Fail> {
-    let cases: [(usize, [u8; 5], Header); 8] = [
-        (99, [1, 0, 2, 0, 0x1A], (26, 125, 0, 2, 1, false, false)),
-        (112, [4, 0, 0x0B, 0, 0], (0, 0, 1, 3, 4, false, false)),
-        (
-            169,
-            [0, 0, 0x20, 0xFF, 0xC7],
-            (65479, 112, 4, 0, 0, false, false),
-        ),
+    let cases: [(usize, [u8; 5], Header); 4] = [
         (
             147,
             [0x24, 0, 0x18, 0, 0x16],
             (22, 169, 3, 0, 4, true, false),
-        ),
-        (
-            125,
-            [0x10, 0, 0x11, 0, 0x0D],
-            (13, 138, 2, 1, 0, false, true),
         ),
         // A next field that leads around the end of the page, and one to its first byte.
         (

@@ -7,7 +7,7 @@ use Rattle.table_check.specs.Trees.{index_in, clustered_tree, index_count}
 use Rattle.table_check.specs.Taken.{AreEnds}
 use Rattle.table_check.specs.Valid.{IsValid}
 use Rattle.table_check.specs.Values.{all_chain_pages}
-use Rattle.sql_dump.specs.Cells.{fields_of_columns}
+use Rattle.schema_text.specs.IndexFields.{fields_of_columns}
 use Rattle.cross_index.specs.declared.crossed.CrossStop.{CrossStop}
 use Rattle.cross_index.specs.declared.crossed.CrossStop.TheVariants as stops
 use Rattle.cross_index.specs.declared.gathered.Gathered.{Gathered}

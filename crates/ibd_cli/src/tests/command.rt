@@ -5,15 +5,14 @@ ghost use Rattle.std.specs.Prelude.{◌≡◌, ◌<◌};
 use crate::{Status, Words, run};
 use itoa::Buffer;
 use page_source::{
-    ByteList, Fails, MemoryBytes, MemoryPages, MemorySink, MemoryStore, NoMemory, PageSource, Rule,
-    Steps,
+    ByteList, Fails, MemoryBytes, MemoryPages, MemorySink, MemoryStore, NoMemory, PageSource, Steps,
 };
 use std::alloc::Global;
 use std::marker::Brand;
 use std::process::Abort;
 use std::sync::ledger::{Blank, Ledger};
 use std::test::Fail;
-use vectors::{Broken, Piece, Which, edited, schema};
+use vectors::{Which, schema};
 
 /// More than any text that is written here.
 const ROOM: usize = 1000;
@@ -210,75 +209,6 @@ pub fn expect_both(
     expect(rt, alloc, check, wants[1])
 }
 
-/// The named file that a file is made from, what is put on that, and its schema text.
-pub type Table = (Which, &'static [Piece<'static>], &'static str);
-
-/// The answers of a dump and of a check of the file with these edits.
-fn answers(
-    alloc: Global,
-    table: Table,
-    edits: &'static [Piece<'static>],
-) -> Result<(ByteList, ByteList), NoMemory> {
-    let (which, pieces, schema) = table;
-    let file = edited(alloc, which, &[pieces, edits])?;
-    let dump = Command {
-        schema: schema.as_bytes(),
-        ..Command::dump(file.bytes())
-    };
-    let check = Command {
-        words: &CHECK,
-        ..dump
-    };
-    Ok((dump.answer(alloc)?, check.answer(alloc)?))
-}
-
-/// Fails the test where a dump of the file with these edits doesn't write these lines, or a check not these numbers:
-/// the pages, the used ones, the rows, those with the delete mark, and the unreached pages.
-pub fn expect_sound(
-    rt: &impl Abort,
-    alloc: Global,
-    table: Table,
-    edits: &'static [Piece<'static>],
-    numbers: [u32; 5],
-    lines: &str,
-) -> Result<(), Fail> {
-    let (dumped, checked) = answers(alloc, table, edits)?;
-    let want = joined(alloc, &["0|", lines, "|"])?;
-    assert_eq!(rt; dumped.bytes(), want.bytes(), "{edits:?}");
-    let want = numbers_text(alloc, numbers)?;
-    assert_eq!(rt; checked.bytes(), want.bytes(), "{edits:?}");
-    Ok(())
-}
-
-/// Fails the test where they don't answer that this rule is broken first, at this page.
-fn expect_broken(
-    rt: &impl Abort,
-    alloc: Global,
-    table: Table,
-    edits: &'static [Piece<'static>],
-    rule: Rule,
-    page: u32,
-) -> Result<(), Fail> {
-    let (dumped, checked) = answers(alloc, table, edits)?;
-    let want = broken_text(alloc, rule, page)?;
-    assert_eq!(rt; dumped.bytes(), want.bytes(), "{edits:?}");
-    assert_eq!(rt; checked.bytes(), want.bytes(), "{edits:?}");
-    Ok(())
-}
-
-/// The same for each of these edits.
-pub fn expect_each_broken(
-    rt: &impl Abort,
-    alloc: Global,
-    table: Table,
-    cases: &[Broken],
-) -> Result<(), Fail> {
-    for (edits, rule, page) in cases {
-        expect_broken(rt, alloc, table, edits, *rule, *page)?;
-    }
-    Ok(())
-}
-
 /// These bytes one after another.
 pub fn concat(alloc: Global, parts: &[&[u8]]) -> Result<ByteList, NoMemory> {
     let mut whole = ByteList::new(alloc);
@@ -286,51 +216,4 @@ pub fn concat(alloc: Global, parts: &[&[u8]]) -> Result<ByteList, NoMemory> {
         whole.extend(part)?;
     }
     Ok(whole)
-}
-
-/// These texts one after another.
-pub fn joined(alloc: Global, texts: &[&str]) -> Result<ByteList, NoMemory> {
-    let mut whole = ByteList::new(alloc);
-    for text in texts {
-        whole.extend(text.as_bytes())?;
-    }
-    Ok(whole)
-}
-
-/// Puts a number behind this text.
-pub fn put_number(text: &mut ByteList, before: &str, number: u32) -> Result<(), NoMemory> {
-    text.extend(before.as_bytes())?;
-    text.extend(Buffer::new().format(number).as_bytes())
-}
-
-/// The answer of a check in which no rule is broken.
-fn numbers_text(alloc: Global, numbers: [u32; 5]) -> Result<ByteList, NoMemory> {
-    let mut text = ByteList::new(alloc);
-    put_number(&mut text, "0|pages=", numbers[0])?;
-    put_number(&mut text, " used=", numbers[1])?;
-    put_number(&mut text, " rows=", numbers[2])?;
-    put_number(&mut text, " deleted=", numbers[3])?;
-    put_number(&mut text, " unreached=", numbers[4])?;
-    text.extend(b"\n|")?;
-    Ok(text)
-}
-
-/// The answer where this rule is broken first.
-fn broken_text(alloc: Global, rule: Rule, page: u32) -> Result<ByteList, NoMemory> {
-    let mut number = Buffer::new();
-    let mut place = Buffer::new();
-    let number = number.format(rule.number());
-    let place = place.format(page);
-    joined(
-        alloc,
-        &[
-            "3||broken ",
-            number,
-            " ",
-            rule.name(),
-            " page ",
-            place,
-            "\n",
-        ],
-    )
 }

@@ -1,35 +1,33 @@
-//! The named files, and edits of them.
+//! The named files.
 
-use super::command::{CHECK, Command, concat, expect, expect_each_broken, expect_sound};
+use super::command::{CHECK, Command, concat, expect, expect_both};
 use page_source::{ByteList, NoMemory};
 use std::alloc::Global;
 use std::process::Abort;
 use std::test::Fail;
-use vectors::{BROKEN, Piece, SOUND, Which, file, schema};
+use vectors::{Which, edited, file, schema};
 
 /// What a dump of the file with three rows answers.
 pub const ALL: &str =
     "0|INSERT INTO `t` VALUES (-1);\nINSERT INTO `t` VALUES (0);\nINSERT INTO `t` VALUES (2147483647);\n|";
 
-/// What is put on a named file as it is.
-const NOTHING: &[Piece<'static>] = &[];
-
 #[test]
-fn serves_sound_files(rt: HostRuntime) -> Result<(), Fail> {
-    for (which, edits, numbers, lines) in SOUND {
-        let table = (which, NOTHING, schema(which));
-        expect_sound(&rt, rt.alloc(), table, edits, numbers, lines)?;
-    }
-    Ok(())
+fn serves_named_files(rt: HostRuntime) -> Result<(), Fail> {
+    let alloc = rt.alloc();
+    let rows = file(alloc, Which::B)?;
+    let wants = [ALL, "0|pages=6 used=4 rows=3 deleted=0 unreached=0\n|"];
+    expect_both(&rt, alloc, Command::dump(rows.bytes()), wants)?;
+    let none = file(alloc, Which::A)?;
+    let wants = ["0||", "0|pages=6 used=4 rows=0 deleted=0 unreached=0\n|"];
+    expect_both(&rt, alloc, Command::dump(none.bytes()), wants)
 }
 
+/// The supremum owns a record less.
 #[test]
-fn names_the_first_broken_rule(rt: HostRuntime) -> Result<(), Fail> {
-    for (which, cases) in BROKEN {
-        let table = (which, NOTHING, schema(which));
-        expect_each_broken(&rt, rt.alloc(), table, cases)?;
-    }
-    Ok(())
+fn names_a_broken_rule(rt: HostRuntime) -> Result<(), Fail> {
+    let file = edited(rt.alloc(), Which::B, &[&[(3, 107, b"\x03")]])?;
+    let wants = ["3||broken 38 directory page 3\n"; 2];
+    expect_both(&rt, rt.alloc(), Command::dump(file.bytes()), wants)
 }
 
 /// The line with a value of 40,000 bytes, which is on three pages.

@@ -1,11 +1,8 @@
-//! The whole program over objects in memory.
+//! The whole program over objects in memory: its words and statuses. What it answers of files stands in lines of the
+//! crate `cases`.
 
 mod command;
 mod failing;
 mod fetches;
 mod files;
-mod frames;
-mod sparse;
-mod tables;
-mod values;
 mod words;

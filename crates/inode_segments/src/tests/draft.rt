@@ -5,7 +5,7 @@ ghost use Rattle.std.specs.Prelude.{◌≡◌, ◌+◌, ◌*◌, ◌<◌, ◌≤
 use crate::{Inode, Inodes, read_inodes, write_inode};
 use fil_frame::seal;
 use page_source::{
-    Fails, NoMemory, Page, PageMap, PageSource, Rule, SparsePages, Steps, Stop, read_be, write_be,
+    Fails, NoMemory, Page, PageMap, PageSource, Rule, SparsePages, Steps, Stop, read_be,
 };
 use space_header::{Address, Base, Node, SpaceHeader, write_node};
 use std::alloc::Global;
@@ -155,29 +155,4 @@ pub fn read<S: PageSource, L: Ledger>(
         return Err(Rule::HeadSize.at(0).into());
     }
     read_inodes(alloc, source, &header, fragments, &mut steps)
-}
-
-/// The answer to these pages is that rule, broken at that page.
-pub fn breaks<L: Ledger>(
-    alloc: Global,
-    draft: Draft,
-    fragments: &[bool],
-    rule: Rule,
-    page: u32,
-    blank: Blank,
-) -> Result<bool, NoMemory>
-    requires name { blank.name ≡ L.name }
-    requires parts { blank.parts ≡ L.parts }
-    requires shared { 0 < blank.parts }
-{
-    let mut file = draft.sealed(alloc, 6, &[])?;
-    let answer = read::<SparsePages, L>(alloc, &mut file, fragments, blank);
-    Ok(matches!(answer, Err(stop) if stop == Stop::Broken(rule.at(page))))
-}
-
-pub fn put_address(page: &mut Page, at: usize, address: Address)
-    requires { at + 6 ≤ 16384 }
-{
-    write_be::<4>(page, at, u64::from(address.page));
-    write_be::<2>(page, at + 4, u64::from(address.offset));
 }

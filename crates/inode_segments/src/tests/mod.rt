@@ -1,5 +1,4 @@
-//! Inode lists and inodes that are sound, and one edit after another that breaks a rule.
+//! Inode lists that are sound, and the inodes on their pages. What breaks a rule stands in lines of the crate `cases`.
 
 mod draft;
 mod reading;
-mod refusals;

@@ -60,14 +60,6 @@ pub fn extent(state: u32, used: u64) -> Extent {
     }
 }
 
-/// The node of an extent below 256.
-pub fn node_of(extent: u16) -> Address {
-    Address {
-        page: 0,
-        offset: extent.wrapping_mul(40).wrapping_add(158),
-    }
-}
-
 /// A segment with one page in a slot, or none.
 pub fn segment(id: u64, slot: u32) -> Inode {
     let mut slots = [0xFFFF_FFFF; 32];
@@ -83,13 +75,12 @@ pub fn segment(id: u64, slot: u32) -> Inode {
     }
 }
 
-/// A tablespace of four pages that are used: page 0, the bitmap page, the inode page and a page of segment 1. These are
-/// their types, and of the second and the last nothing else is written.
+/// A tablespace of four pages that are used: page 0, the bitmap page, the inode page and an index page of segment 1. Of
+/// the second and the last nothing but the frame is written.
 #[derive(Drop)]
 pub struct Draft {
     pub head: Page,
     pub inodes: Page,
-    pub kinds: [u16; 4],
 }
 
 impl Draft {
@@ -97,7 +88,6 @@ impl Draft {
         Ok(Draft {
             head: head_of(alloc, header)?,
             inodes: inodes(alloc)?,
-            kinds: [8, 5, 3, 17855],
         })
     }
 
@@ -113,12 +103,11 @@ impl Draft {
 
     /// The pages, sealed.
     pub fn pages(self, alloc: Global) -> Result<PageMap, NoMemory> {
-        let kinds = self.kinds;
         let mut held = PageMap::new(alloc);
-        put_sealed(&mut held, 0, self.head, kinds[0])?;
-        put_sealed(&mut held, 2, self.inodes, kinds[2])?;
-        put_page(alloc, &mut held, 1, kinds[1])?;
-        put_page(alloc, &mut held, 3, kinds[3])?;
+        put_sealed(&mut held, 0, self.head, 8)?;
+        put_sealed(&mut held, 2, self.inodes, 3)?;
+        put_page(alloc, &mut held, 1, 5)?;
+        put_page(alloc, &mut held, 3, 17855)?;
         Ok(held)
     }
 
@@ -151,17 +140,6 @@ pub fn put_sealed(held: &mut PageMap, n: u32, mut page: Page, kind: u16) -> Resu
 /// Puts a page of this type on which nothing but its frame is written.
 pub fn put_page(alloc: Global, held: &mut PageMap, n: u32, kind: u16) -> Result<(), NoMemory> {
     put_sealed(held, n, Page::zeroed(alloc)?, kind)
-}
-
-/// Changes one bit of the second checksum of a page that is held.
-pub fn flip(alloc: Global, held: &mut PageMap, n: u32) -> Result<(), NoMemory> {
-    let mut page = Page::zeroed(alloc)?;
-    if let Some(found) = held.get(n) {
-        page.put_bytes(0, found.bytes());
-    }
-    let byte = page.bytes()[16376];
-    page.put_bytes(16376, &[byte ^ 1]);
-    held.put(n, page)
 }
 
 /// A file of so many pages with these in it, whose calls with these numbers fail.

@@ -1,8 +1,7 @@
-//! Tablespaces that are sound, and one edit after another that breaks a rule.
+//! Tablespaces that are sound, and how the calls of the file fail. What breaks a rule stands in lines of the crate
+//! `cases`.
 
 mod answers;
-mod descriptors;
 mod draft;
 mod extents;
 mod small;
-mod tablespaces;

@@ -15,7 +15,7 @@ use Rattle.schema_text.specs.TableDef.{TableDef, column_at}
 use Rattle.schema_text.specs.Grammar.{IsTable}
 use Rattle.schema_text.specs.IndexFields.{leaf_fields, field_of_column}
 use Rattle.schema_text.proofs.FieldLemmas.{leaf_good}
-use Rattle.sql_dump.proofs.ColumnFields.{holds_column}
+use Rattle.schema_text.proofs.ColumnFields.{holds_column}
 use Rattle.space_builder.specs.values.StoredRow.{Stored, stored_at, stored_row, is_too_long}
 use Rattle.space_builder.specs.values.Fitting.{IsFieldOf, AreFieldsOf}
 use Rattle.space_builder.specs.values.HoldsValues.{AreFitted, stored_in}

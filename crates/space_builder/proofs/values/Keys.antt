@@ -26,7 +26,7 @@ use Rattle.schema_text.specs.TableDef.{TableDef}
 use Rattle.schema_text.specs.Grammar.{IsTable}
 use Rattle.schema_text.specs.IndexFields.{leaf_fields, clustered_key, clustered_positions, other_positions}
 use Rattle.schema_text.specs.IndexFields.{row_id_field, kept_at, key_fields, rest_fields}
-use Rattle.sql_dump.proofs.ColumnFields.{key_size}
+use Rattle.schema_text.proofs.ColumnFields.{key_size}
 use Rattle.compact_record.specs.declared.parts.Part.TheVariants as parts
 use Rattle.compact_record.specs.Writing.{part_cell}
 use Rattle.space_builder.specs.Entries.{Entry, key_of_entry}

@@ -21,7 +21,7 @@ use Rattle.schema_text.specs.declared.table.Format.{Format}
 use Rattle.schema_text.specs.TableDef.{TableDef, column_at}
 use Rattle.schema_text.specs.IndexFields.{leaf_fields, field_of_column}
 use Rattle.row_text.specs.Line.{FitsColumn}
-use Rattle.sql_dump.proofs.ColumnFields.{holds_column}
+use Rattle.schema_text.proofs.ColumnFields.{holds_column}
 use Rattle.tree_walk.specs.Index.{Index, Row, no_row, page_in}
 use Rattle.tree_walk.specs.Segments.{leaf_segment}
 use Rattle.table_check.specs.Trees.{clustered_tree, index_in}

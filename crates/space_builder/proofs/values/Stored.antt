@@ -22,9 +22,9 @@ use Rattle.schema_text.specs.IndexFields.{columns_at, kept_field, leaving_field,
 use Rattle.schema_text.specs.IndexFields.{leaf_fields, clustered_key, clustered_rest}
 use Rattle.schema_text.specs.IndexFields.{row_id_field, kept_at, field_of_column}
 use Rattle.row_text.specs.Line.{FitsColumn, IsTableRow}
-use Rattle.sql_dump.proofs.ColumnFields.{key_count}
+use Rattle.schema_text.proofs.ColumnFields.{key_count}
 use Rattle.page_source.proofs.Members.{all_members, filter_contains, range_contains}
-use Rattle.sql_dump.proofs.ColumnFields.{key_size}
+use Rattle.schema_text.proofs.ColumnFields.{key_size}
 use Rattle.space_builder.proofs.values.Columns.{placed, any_contains, has_column, is_other, field_in_key, field_behind}
 use Rattle.space_builder.proofs.values.Columns.{place_among, key_known}
 use Rattle.space_builder.specs.values.StoredRow.{Stored, stored_at, stored_value, stored_column, stored_key, stored_row, kept}

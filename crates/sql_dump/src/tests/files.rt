@@ -1,11 +1,10 @@
-//! Dumps of whole files, that are sound or not, that change, and whose calls fail, into sinks of any room.
+//! Dumps of whole files, that are sound or not, and whose calls fail. Other files are lines of the crate `cases`.
 
 ghost use Rattle.std.specs.Prelude.{◌≡◌, ◌<◌};
 
 use crate::{DumpStop, dump};
 use page_source::{
-    ByteList, ChangingPages, Fails, LoggedPages, MemoryPages, MemorySink, NoMemory, PageSource,
-    Steps,
+    ByteList, Fails, LoggedPages, MemoryPages, MemorySink, NoMemory, PageSource, Rule, Steps,
 };
 use schema_text::Schema;
 use std::alloc::Global;
@@ -14,7 +13,7 @@ use std::process::Abort;
 use std::sync::ledger::{Blank, Ledger};
 use std::test::Fail;
 use table_check::Checked;
-use vectors::{BROKEN, CHANGES, SOUND, Which, edited, file, schema};
+use vectors::{Which, edited, file, schema};
 
 /// More than any text but the long one.
 const ROOM: usize = 1000;
@@ -78,32 +77,33 @@ fn expect_lines(
     Ok(())
 }
 
+/// The dump of a file of one page of rows, and of one of two.
 #[test]
 fn writes_the_rows_of_a_sound_file(rt: HostRuntime) -> Result<(), Fail> {
     let alloc = rt.alloc();
-    for (which, edits, numbers, lines) in SOUND {
+    let three =
+        "INSERT INTO `t` VALUES (-1);\nINSERT INTO `t` VALUES (0);\nINSERT INTO `t` VALUES (2147483647);\n";
+    for (which, numbers, lines) in [
+        (Which::B, [6, 4, 3, 0, 0], three),
+        (Which::C, [6, 6, 4, 0, 0], LINES),
+    ] {
         let table = table_of(alloc, which)?;
-        let bytes = edited(alloc, which, &[edits])?;
-        expect_lines(&rt, alloc, bytes, &table, numbers, lines)?;
+        expect_lines(&rt, alloc, file(alloc, which)?, &table, numbers, lines)?;
     }
     Ok(())
 }
 
+/// The file of two leaves, of which the second leads back to the first.
 #[test]
 fn writes_nothing_of_a_broken_file(rt: HostRuntime) -> Result<(), Fail> {
     let alloc = rt.alloc();
-    for (which, cases) in BROKEN {
-        let table = table_of(alloc, which)?;
-        for (edits, rule, page) in cases {
-            let bytes = edited(alloc, which, &[edits])?;
-            let mut file = MemoryPages::new(bytes, Fails::of(alloc, &[])?);
-            let mut sink = sink_of(alloc, ROOM, &[])?;
-            let found = dump_of(alloc, &mut file, &table, &mut sink);
-            let want = Err(DumpStop::Broken(rule.at(*page)));
-            assert_eq!(rt; found, want, "{which:?} {edits:?}");
-            assert!(rt; sink.bytes().is_empty(), "{which:?} {edits:?}");
-        }
-    }
+    let table = table_of(alloc, Which::C)?;
+    let bytes = edited(alloc, Which::C, &[&[(5, 12, b"\0\0\0\x04")]])?;
+    let mut file = MemoryPages::new(bytes, Fails::of(alloc, &[])?);
+    let mut sink = sink_of(alloc, ROOM, &[])?;
+    let found = dump_of(alloc, &mut file, &table, &mut sink);
+    assert_eq!(rt; found, Err(DumpStop::Broken(Rule::Sibling.at(5))));
+    assert!(rt; sink.bytes().is_empty());
     Ok(())
 }
 
@@ -130,12 +130,12 @@ fn fails_with(
     Ok(())
 }
 
-/// Each room below the length of the lines, each call of the file (that of the size, and those of the fetches), and the
-/// one call of the sink.
+/// A sink that is full at once, and one that is full at the end, each call of the file (that of the size, and those of
+/// the fetches), and the one call of the sink.
 #[test]
 fn stops_at_each_call_that_fails(rt: HostRuntime) -> Result<(), Fail> {
     let alloc = rt.alloc();
-    for room in 0..LINES.len() {
+    for room in [0, LINES.len().saturating_sub(1)] {
         fails_with(&rt, alloc, &[], room, &[], DumpStop::Sink)?;
     }
     let table = table_of(alloc, Which::C)?;
@@ -148,25 +148,4 @@ fn stops_at_each_call_that_fails(rt: HostRuntime) -> Result<(), Fail> {
         fails_with(&rt, alloc, &[call], ROOM, &[], DumpStop::Source)?;
     }
     fails_with(&rt, alloc, &[], ROOM, &[1], DumpStop::Sink)
-}
-
-/// Whenever the file changes, the dump ends, with numbers or with a broken rule. Where it changes behind the last call
-/// of a dump it is as if it didn't, and before the first as if it was another file.
-#[test]
-fn answers_over_a_file_that_changes(rt: HostRuntime) -> Result<(), Fail> {
-    let alloc = rt.alloc();
-    for (which, later, edits) in CHANGES {
-        let table = table_of(alloc, which)?;
-        for at in 1..=40 {
-            let second = edited(alloc, later, &[edits])?;
-            let mut changing = ChangingPages::new(file(alloc, which)?, second, at);
-            let mut sink = sink_of(alloc, 50_000, &[])?;
-            let found = dump_of(alloc, &mut changing, &table, &mut sink);
-            assert!(rt;
-                matches!(found, Ok(_) | Err(DumpStop::Broken(_))),
-                "{which:?} at {at}: {found:?}"
-            );
-        }
-    }
-    Ok(())
 }

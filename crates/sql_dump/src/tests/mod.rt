@@ -1,4 +1,6 @@
 //! Dumps of whole files, and the lines of crafted records.
 
+mod faults;
 mod files;
 mod lines;
+mod lost;

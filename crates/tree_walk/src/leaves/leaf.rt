@@ -1,6 +1,6 @@
 //! The leaf in hand, and the search for its next row.
 
-ghost use Rattle.std.specs.Prelude.{◌≡◌, ℕ, ◌+◌, ◌<◌, ◌≤◌, IfOk, IfSome, OnOk, Err};
+ghost use Rattle.std.specs.Prelude.{◌≡◌, ℕ, ◌+◌, ◌<◌, ◌≤◌, IfOk, IfSome, OnOk, Ok, Err, None};
 ghost use Rattle.page_source.specs.Pages.{page_of, page_count};
 ghost use Rattle.page_source.specs.Faults.{HasCause};
 ghost use Rattle.page_source.specs.Calls.{OfFile, HaltsOver};
@@ -69,6 +69,7 @@ fn search<S: PageSource, L: Ledger>(
     ensures along { IfOk result (λ found. IfSome found (λ origin. IsAlong leaf.new.page origin)) }
     ensures origin { IfOk result (λ found. IfSome found (λ origin. (125 ≤ origin) × (origin < 16384))) }
     ensures broken { (fault : Fault) → result ≡ Err (Halt.Broken fault) → BreaksOff leaf.new fault }
+    ensures all { result ≡ Ok None → leaf.new.may_fetch ≡ 0 }
     ensures moves { IfOk result (λ found. HasMoved leaf.old leaf.new) }
     ensures near { OfFile S.PageSource source.old (λ file. (root : ℕ) (fields node : Fields) (j : ℕ)
         → IsWalked (index_of file root fields node) → IsBefore (index_of file root fields node) leaf.old from j
@@ -116,6 +117,7 @@ pub(crate) fn seek<S: PageSource, L: Ledger>(
     ensures along { IfOk result (λ found. IfSome found (λ origin. IsAlong leaf.new.page origin)) }
     ensures origin { IfOk result (λ found. IfSome found (λ origin. (125 ≤ origin) × (origin < 16384))) }
     ensures broken { (fault : Fault) → result ≡ Err (Halt.Broken fault) → BreaksOff leaf.new fault }
+    ensures all { result ≡ Ok None → leaf.new.may_fetch ≡ 0 }
     ensures moves { IfOk result (λ found. 125 ≤ last → HasMoved leaf.old leaf.new) }
     ensures near { OfFile S.PageSource source.old (λ file. (root : ℕ) (fields node : Fields) (j : ℕ)
         → IsWalked (index_of file root fields node) → HasGiven (index_of file root fields node) leaf.old last j

@@ -1,6 +1,6 @@
 //! The rows of a tree that was walked, leaf by leaf by next fields.
 
-ghost use Rattle.std.specs.Prelude.{◌≡◌, ℕ, ◌+◌, ◌<◌, ◌≤◌, IfOk, IfSome, Err, false};
+ghost use Rattle.std.specs.Prelude.{◌≡◌, ℕ, ◌+◌, ◌<◌, ◌≤◌, IfOk, IfSome, Ok, Err, None, false};
 ghost use Rattle.page_source.specs.Calls.{OfFile, HaltsOver};
 ghost use Rattle.page_source.specs.declared.rule.Fault.{Fault};
 ghost use Rattle.column_values.specs.Types.{Fields};
@@ -56,10 +56,10 @@ impl LeafCursor {
         })
     }
 
-    /// The origin of the next row on the page in hand, delete-marked or not; none behind the last. `Source` comes where
-    /// the file's count of faults rose. `Broken` never comes over a source that tells its content; over another it
-    /// names the leaf in hand, whose record chain isn't whole (rule 35), or whose next field doesn't fit the number of
-    /// leaves (rule 31). After none or an error it has ended.
+    /// The origin of the next row on the page in hand, delete-marked or not; none behind the last, once all leaves
+    /// came. `Source` comes where the file's count of faults rose. `Broken` never comes over a source that tells its
+    /// content; over another it names the leaf in hand, whose record chain isn't whole (rule 35), or whose next field
+    /// doesn't fit the number of leaves (rule 31). After none or an error it has ended.
     pub fn next<S: PageSource, L: Ledger>(
         &mut self,
         source: &mut S,
@@ -73,6 +73,7 @@ impl LeafCursor {
             → FindsRow (index_of file root fields node) j result self.new.leaf) }
         ensures last { IfOk result (λ found. IfSome found (λ origin. self.new.last ≡ origin)) }
         ensures ended { Ends result self.new.ended }
+        ensures all { result ≡ Ok None → self.new.leaf.may_fetch ≡ 0 }
         ensures origin { IfOk result (λ found. IfSome found (λ origin. (125 ≤ origin) × (origin < 16384))) }
         ensures broken { (fault : Fault) → result ≡ Err (Halt.Broken fault) → BreaksOff self.new.leaf fault }
         ensures moves { IfOk result (λ found. 125 ≤ self.old.last → HasMoved self.old.leaf self.new.leaf) }

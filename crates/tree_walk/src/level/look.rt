@@ -66,6 +66,8 @@ pub(crate) fn look<S: PageSource, L: Ledger>(
     ensures exact { OfIndex S.PageSource source.old aim.now.tree (λ index.
         FindsNext index aim.now.depth place.j walk.old.parent walk.new.after result) }
     ensures walk { walk.new ≡ record walk.old { after = walk.new.after } }
+    ensures broken { (fault : Fault) → result ≡ Err (Halt.Broken fault)
+        → fault ≡ record { rule = Rule.Sibling; page = place.cursor.number } }
     ensures keeps { HaltsOver S.PageSource source.old source.new result }
     ensures spent { IfOk result (λ next. steps.new + more_after next ≤ steps.old + place.cursor.more) }
     ensures steps { steps.new ≤ steps.old + 1 }

@@ -1,11 +1,8 @@
-//! Walks over small trees, and a cursor over leaves, of files that tell nothing.
+//! Walks over small trees: their ends, the pages that are fetched, and the rows.
 
 mod fetches;
 mod file;
-mod indexes;
 mod leaves;
-mod nulls;
 mod plan;
-mod sweeps;
 mod trees;
 mod walks;

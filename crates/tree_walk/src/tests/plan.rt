@@ -1,16 +1,9 @@
 //! Small tablespaces with trees, piece by piece.
 
-use page_source::Rule;
-
 /// Bytes from a byte of a page on.
 pub type Piece<'a> = (usize, &'a [u8]);
 
 pub const INFIMUM: Piece<'static> = (94, b"\x01\x00\x02\x00\x1Ainfimum\x00");
-
-/// The infimum, whose first record has its origin two bytes and one byte further on.
-pub const TWO_BYTES_AHEAD: Piece<'static> = (94, b"\x01\x00\x02\x00\x1Cinfimum\x00");
-
-pub const ONE_BYTE_AHEAD: Piece<'static> = (94, b"\x01\x00\x02\x00\x1Binfimum\x00");
 
 pub const ABOVE_ONE: Piece<'static> = (107, b"\x02\x00\x0B\x00\x00supremum");
 
@@ -43,12 +36,6 @@ pub const LEVEL_2: Piece<'static> = (64, b"\x00\x02\x00\x00\x00\x00\x00\x00\x00\
 
 /// The pages before and after, where there is none.
 pub const ALONE_IN_LEVEL: Piece<'static> = (8, b"\xFF\xFF\xFF\xFF\xFF\xFF\xFF\xFF");
-
-/// Edits of the pages from 3 on, and how many rows are live and deleted, or the first broken rule.
-pub type Case = (
-    &'static [(u32, Piece<'static>)],
-    Result<(u64, u64), (Rule, u32)>,
-);
 
 /// A tablespace whose pages are all used: their number, the pages of each segment, and the pages from 3 on. Of an
 /// index the segment of the pages above the leaves comes first, and then that of the leaves.

@@ -1,7 +1,6 @@
 //! Walks over the files of the plans.
 
-ghost use Rattle.std.specs.Prelude.{◌≡◌, ◌<◌, ◌≤◌, ◌∷◌, [], length, IfOk, true, false};
-ghost use Rattle.column_values.specs.Types.{AreOfOneIndex};
+ghost use Rattle.std.specs.Prelude.{◌≡◌, ◌<◌, ◌∷◌, [], IfOk, true, false};
 ghost use Rattle.column_values.specs.declared.kind.ColumnType.TheVariants as types;
 ghost use Rattle.column_values.specs.declared.field.FieldType.TheVariants as fields;
 
@@ -12,7 +11,7 @@ use space_audit::{Marks, Space, audit};
 use std::alloc::Global;
 use std::sync::ledger::{Blank, Ledger};
 
-pub const KEY: Field = Field {
+const KEY: Field = Field {
     kind: FieldType::Column(ColumnType::Int {
         width: 4,
         signed: true,
@@ -21,7 +20,7 @@ pub const KEY: Field = Field {
     may_leave: false,
 };
 
-pub fn hidden(kind: FieldType) -> Field
+fn hidden(kind: FieldType) -> Field
     ensures { result ≡ record { kind = kind; nullable = false; may_leave = false } }
 {
     Field {
@@ -74,32 +73,7 @@ pub fn node_list(alloc: Global) -> Result<FieldList, NoMemory>
     Ok(list)
 }
 
-/// The answer of a walk from page 3 over records of these fields, with nothing taken before.
-pub fn walked_as<L: Ledger>(
-    alloc: Global,
-    space: &Space,
-    file: &mut ChangingPages,
-    leaf: &FieldList,
-    node: &FieldList,
-    blank: Blank,
-) -> Result<Result<TreeEnds, Halt>, NoMemory>
-    requires lists { AreOfOneIndex leaf.now node.now }
-    requires leaf_few { length leaf.now.fields ≤ 12 }
-    requires node_few { length node.now.fields ≤ 12 }
-    requires name { blank.name ≡ L.name }
-    requires parts { blank.parts ≡ L.parts }
-    requires shared { 0 < blank.parts }
-{
-    let mut walk = Walk::new(alloc, 12)?;
-    let mut named = Marks::new(alloc, space.segment_count())?;
-    let mut marks = Marks::new(alloc, space.size())?;
-    let mut steps = Steps::<L>::new(blank);
-    Ok(walk_tree(
-        &mut walk, file, space, 3, leaf, node, &mut named, &mut marks, &mut steps,
-    ))
-}
-
-/// The same of the index of the plans.
+/// The answer of a walk from page 3, with nothing taken before.
 pub fn walked<L: Ledger>(
     alloc: Global,
     space: &Space,
@@ -112,5 +86,11 @@ pub fn walked<L: Ledger>(
 {
     let leaf = leaf_list(alloc)?;
     let node = node_list(alloc)?;
-    walked_as::<L>(alloc, space, file, &leaf, &node, blank)
+    let mut walk = Walk::new(alloc, 3)?;
+    let mut named = Marks::new(alloc, space.segment_count())?;
+    let mut marks = Marks::new(alloc, space.size())?;
+    let mut steps = Steps::<L>::new(blank);
+    Ok(walk_tree(
+        &mut walk, file, space, 3, &leaf, &node, &mut named, &mut marks, &mut steps,
+    ))
 }

@@ -10,9 +10,13 @@ use Rattle.schema_text.specs.IndexFields.{leaf_fields}
 use Rattle.tree_walk.specs.Records.{IsRecord}
 use Rattle.sql_dump.specs.Stops.{Writes}
 use Rattle.sql_dump.specs.Cells.{ReadsRow, CanReadRow, row_on}
-use Rattle.key_lookup.proofs.GetSteps.{stopped, readable, written, cut_off, takes_fewer, not_answered, cut_unanswered}
-use Rattle.key_lookup.proofs.GetSteps.{over_stop, over_absent, over_cut, over_done}
+use Rattle.key_lookup.proofs.GetSteps.{stopped, readable, written, cut_off, takes_fewer}
+use Rattle.key_lookup.proofs.GetSteps.{not_refused, write_refused, over_stop, over_absent, over_cut, over_done}
 use Rattle.key_lookup.proofs.by_key.get_by_key.Goals as goal
+
+pub returns-in_err-leaf-clause-few : goal.returns-in_err-leaf-clause-few
+returns-in_err-leaf-clause-few g c =
+    told0 (g.S.PageSource.content c.args.source.now) (λ file. omega arith)
 
 pub returns-in_err-found-clause-told : goal.returns-in_err-found-clause-told
 returns-in_err-found-clause-told g c =
@@ -27,11 +31,14 @@ returns-in_err-found-clause-over g c =
     rw (r.1, r.2) (over_stop g.S.PageSource g.O.ByteSink c.args.source.now c.find.new.source c.find.new.source
     c.args.sink.now c.args.sink.now c.in_err-found.field-0.0 c.in_err-found.ensures.over)
 
+pub returns-in_err-found-clause-knows : goal.returns-in_err-found-clause-knows
+returns-in_err-found-clause-knows g c =
+    let r = err_from_is_err_and c.from_residual-in_err-found.result c.from_residual-in_err-found.ensures.1 in
+    rw (r.1, r.2) (not_refused c.in_err-found.field-0.0)
+
 pub returns-in_err-found-clause-few : goal.returns-in_err-found-clause-few
 returns-in_err-found-clause-few g c =
-    let r = err_from_is_err_and c.from_residual-in_err-found.result c.from_residual-in_err-found.ensures.1 in
-    rw (r.1, r.2) (told0 (g.S.PageSource.content c.args.source.now)
-    (λ file a. absurd (not_answered c.in_err-found.field-0.0 a)))
+    told1 (g.S.PageSource.content c.args.source.now) (λ file few. omega (arith, few)) c.find.ensures.told
 
 pub returns-in_err-found-clause-steps : goal.returns-in_err-found-clause-steps
 returns-in_err-found-clause-steps g c = c.in_err-found.ensures.cost
@@ -49,8 +56,7 @@ returns-in_default-clause-over g c =
 
 pub returns-in_default-clause-few : goal.returns-in_default-clause-few
 returns-in_default-clause-few g c =
-    let told = rw c.in_default.is at c.in_ok-found.ensures.told in
-    told1 (g.S.PageSource.content c.args.source.now) (λ file few answered. omega (arith, few)) told
+    told1 (g.S.PageSource.content c.args.source.now) (λ file few. omega (arith, few)) c.find.ensures.told
 
 pub returns-in_default-clause-steps : goal.returns-in_default-clause-steps
 returns-in_default-clause-steps g c = c.in_ok-found.ensures.cost
@@ -92,11 +98,16 @@ returns-in_err-write_row-clause-over g c =
     c.args.sink.now c.write_row.new.sink c.in_ok-found.found c.in_err-write_row.field-0.0 c.in_ok-found.ensures.over
     c.in_err-write_row.ensures.over)
 
+pub returns-in_err-write_row-clause-knows : goal.returns-in_err-write_row-clause-knows
+returns-in_err-write_row-clause-knows g c =
+    let r = err_from_is_err_and c.from_residual-in_err-write_row.result c.from_residual-in_err-write_row.ensures.1 in
+    rw (r.1, r.2) (write_refused c.in_err-write_row.field-0.0)
+
 pub returns-in_err-write_row-clause-few : goal.returns-in_err-write_row-clause-few
 returns-in_err-write_row-clause-few g c =
-    let r = err_from_is_err_and c.from_residual-in_err-write_row.result c.from_residual-in_err-write_row.ensures.1 in
-    rw (r.1, r.2) (told0 (g.S.PageSource.content c.args.source.now)
-    (λ file a. absurd (cut_unanswered c.in_err-write_row.field-0.0 a)))
+    let found = rw c.in-Some.is at c.in_ok-found.ensures.found in
+    told2 (g.S.PageSource.content c.args.source.now)
+    (λ file few at. let p = at.pages in omega (arith, few, p, c.in_err-write_row.ensures.cost)) c.find.ensures.told found
 
 pub returns-in_err-write_row-clause-steps : goal.returns-in_err-write_row-clause-steps
 returns-in_err-write_row-clause-steps g c =
@@ -127,10 +138,9 @@ returns-clause-over g c =
 
 pub returns-clause-few : goal.returns-clause-few
 returns-clause-few g c =
-    let told = rw c.in-Some.is at c.in_ok-found.ensures.told in
     let found = rw c.in-Some.is at c.in_ok-found.ensures.found in
     told2 (g.S.PageSource.content c.args.source.now)
-    (λ file few at answered. let p = at.pages in omega (arith, few, p, c.in_ok-write_row.ensures.cost)) told found
+    (λ file few at. let p = at.pages in omega (arith, few, p, c.in_ok-write_row.ensures.cost)) c.find.ensures.told found
 
 pub returns-clause-steps : goal.returns-clause-steps
 returns-clause-steps g c =

@@ -23,6 +23,14 @@ returns-then-not-refers_here-clause-exact g c =
     (iff_false (c.refers_here.ensures file header) c.if-not-refers_here.true)))
     c.requires.header
 
+pub returns-then-reference-eq0-clause-told : goal.returns-then-reference-eq0-clause-told
+returns-then-reference-eq0-clause-told g c =
+    told0 (g.S.PageSource.content c.args.source.now) (λ file. omega arith)
+
+pub returns-then-not-refers_here-clause-told : goal.returns-then-not-refers_here-clause-told
+returns-then-not-refers_here-clause-told g c =
+    told0 (g.S.PageSource.content c.args.source.now) (λ file. omega arith)
+
 pub returns-in_err-count-clause-exact : goal.returns-in_err-count-clause-exact
 returns-in_err-count-clause-exact g c =
     let r = err_from_is_err_and c.from_residual.result c.from_residual.ensures.1 in

@@ -1,9 +1,9 @@
-use Rattle.std.proofs.Common.{ap, subst, arith}
+use Rattle.std.proofs.Common.{subst, arith}
 use Rattle.std.proofs.lemmas.Result.{err_from_is_err_and}
-use Rattle.page_source.proofs.Told.{told1, told2}
-use Rattle.tree_walk.specs.Index.{Index, index_of, root_level}
+use Rattle.page_source.proofs.Told.{told0, told1, told2}
+use Rattle.tree_walk.specs.Index.{Index, index_of}
 use Rattle.key_lookup.specs.LookUp.{IsFound}
-use Rattle.key_lookup.proofs.Finds.{index_same, in_head, in_look_up, holds}
+use Rattle.key_lookup.proofs.Finds.{index_same, in_head, in_look_up, holds, all_steps}
 use Rattle.key_lookup.proofs.find.find.Goals as goal
 
 pub returns-in_err-header-clause-exact : goal.returns-in_err-header-clause-exact
@@ -45,12 +45,32 @@ returns-clause-found g c =
     c.requires.leaf c.requires.node) found)
     at
 
+pub returns-in_err-header-clause-told : goal.returns-in_err-header-clause-told
+returns-in_err-header-clause-told g c =
+    told0 (g.S.PageSource.content c.args.source.now) (λ file. omega (arith, c.check_head.ensures.cost))
+
+pub returns-in_err-marks-clause-told : goal.returns-in_err-marks-clause-told
+returns-in_err-marks-clause-told g c =
+    told0 (g.S.PageSource.content c.args.source.now) (λ file. omega (arith, c.check_head.ensures.cost))
+
+pub returns-in_err-look_up-clause-told : goal.returns-in_err-look_up-clause-told
+returns-in_err-look_up-clause-told g c =
+    let few = rw c.in_ok-header.ensures.over.same at c.look_up.ensures.told in
+    told1 (g.S.PageSource.content c.args.source.now)
+    (λ file few. all_steps file c.args.schema.now c.args.key.now
+    (index_of file c.root_of.result c.args.leaf.now c.args.node.now) c.args.steps.now c.check_head.new.steps
+    c.look_up.new.steps
+    (index_same file c.args.schema.now c.root_of.result c.args.leaf.now c.args.node.now c.root_of.ensures
+    c.requires.leaf c.requires.node) c.check_head.ensures.cost few)
+    few
+
 pub returns-clause-told : goal.returns-clause-told
 returns-clause-told g c =
-    let at = rw c.in_ok-header.ensures.over.same at c.in_ok-look_up.ensures.told in
+    let few = rw c.in_ok-header.ensures.over.same at c.look_up.ensures.told in
     told1 (g.S.PageSource.content c.args.source.now)
-    (λ file few.
-    let same = ap root_level (index_same file c.args.schema.now c.root_of.result c.args.leaf.now c.args.node.now
-    c.root_of.ensures c.requires.leaf c.requires.node) in
-    omega (arith, few, same, c.in_ok-header.ensures.cost))
-    at
+    (λ file few. all_steps file c.args.schema.now c.args.key.now
+    (index_of file c.root_of.result c.args.leaf.now c.args.node.now) c.args.steps.now c.check_head.new.steps
+    c.look_up.new.steps
+    (index_same file c.args.schema.now c.root_of.result c.args.leaf.now c.args.node.now c.root_of.ensures
+    c.requires.leaf c.requires.node) c.check_head.ensures.cost few)
+    few

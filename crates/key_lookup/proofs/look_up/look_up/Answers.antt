@@ -1,9 +1,9 @@
-use Rattle.std.proofs.Common.{refl}
+use Rattle.std.proofs.Common.{refl, arith}
 use Rattle.std.proofs.lemmas.Result.{err_from_is_err_and}
-use Rattle.page_source.proofs.Told.{told4}
+use Rattle.page_source.proofs.Told.{told1, told4, told5}
 use Rattle.key_lookup.specs.Tree.{index_in}
 use Rattle.key_lookup.proofs.Down.{held_by}
-use Rattle.key_lookup.proofs.LookUps.{look_halts, look_holds}
+use Rattle.key_lookup.proofs.LookUps.{look_pages, look_halts, look_holds}
 use Rattle.key_lookup.proofs.look_up.look_up.Goals as goal
 
 pub returns-in_err-pages-clause-exact : goal.returns-in_err-pages-clause-exact
@@ -20,6 +20,44 @@ returns-in_err-pages-clause-exact g c =
     c.find_leaf.new.walk.child c.args.marks.now all leaf page (c.in-Some.ensures.exact index c.in_ok-number.number page
     refl) held.stands c.requires.fresh c.in_err-pages.field-0.0 x)
     way.exact way.leaf way.page checks)
+
+pub returns-in_err-number-clause-told : goal.returns-in_err-number-clause-told
+returns-in_err-number-clause-told g c =
+    told1 (g.S.PageSource.content c.args.source.now) (λ file few. omega (arith, few)) c.find_leaf.ensures.told
+
+pub returns-in_default-clause-told : goal.returns-in_default-clause-told
+returns-in_default-clause-told g c =
+    told1 (g.S.PageSource.content c.args.source.now) (λ file few. omega (arith, few)) c.find_leaf.ensures.told
+
+pub returns-in_err-pages-clause-told : goal.returns-in_err-pages-clause-told
+returns-in_err-pages-clause-told g c =
+    let way = c.in_ok-number.ensures in
+    let held = held_by c.find_leaf.new.walk.child c.args.tree.now.leaf.now c.in-Some.origin c.again.new.self
+    c.again.result c.in-Some.ensures.record c.again.ensures.exact.1 c.again.ensures.read in
+    let few = rw way.over.same at c.check_record.ensures.told in
+    told5 (g.S.PageSource.content c.args.source.now)
+    (λ file all leaf page most few.
+    let index = index_in file c.args.tree.now in
+    let pages = look_pages index c.args.key.now c.in_ok-number.number c.in-Some.origin c.again.new.self.origin
+    c.find_leaf.new.walk.child c.args.marks.now all leaf page (c.in-Some.ensures.exact index c.in_ok-number.number page
+    refl) held.stands c.requires.fresh in
+    omega (arith, pages, most, few))
+    way.exact way.leaf way.page c.find_leaf.ensures.told few
+
+pub returns-clause-told : goal.returns-clause-told
+returns-clause-told g c =
+    let way = c.in_ok-number.ensures in
+    let held = held_by c.find_leaf.new.walk.child c.args.tree.now.leaf.now c.in-Some.origin c.again.new.self
+    c.again.result c.in-Some.ensures.record c.again.ensures.exact.1 c.again.ensures.read in
+    let few = rw way.over.same at c.check_record.ensures.told in
+    told5 (g.S.PageSource.content c.args.source.now)
+    (λ file all leaf page most few.
+    let index = index_in file c.args.tree.now in
+    let pages = look_pages index c.args.key.now c.in_ok-number.number c.in-Some.origin c.again.new.self.origin
+    c.find_leaf.new.walk.child c.args.marks.now all leaf page (c.in-Some.ensures.exact index c.in_ok-number.number page
+    refl) held.stands c.requires.fresh in
+    omega (arith, pages, most, few))
+    way.exact way.leaf way.page c.find_leaf.ensures.told few
 
 pub returns-clause-exact : goal.returns-clause-exact
 returns-clause-exact g c =

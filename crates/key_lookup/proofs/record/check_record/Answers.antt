@@ -1,13 +1,17 @@
 use Rattle.std.proofs.Common.{length, ◌<◌, ap, ◌∙◌, arith}
 use Rattle.std.proofs.lemmas.Result.{err_from_is_err_and}
 use Rattle.compact_record.specs.Reading.{field_count}
+use Rattle.page_source.proofs.Told.{told0}
 use Rattle.table_check.proofs.Progress.{unmarked_most}
 use Rattle.table_check.proofs.RecordMarks.{count_of_places, place_read, field_read}
-use Rattle.key_lookup.proofs.RecordMarks.{none_held, field_breaks, field_holds, all_held}
+use Rattle.key_lookup.proofs.RecordMarks.{none_held, field_breaks, field_holds, all_held, field_steps, all_steps, steps_held}
 use Rattle.key_lookup.proofs.record.check_record.Goals as goal
 
 pub loop-i-init : goal.loop-i-init
-loop-i-init g c = record { have = none_held c.args.marks.now c.args.steps.now; few = omega arith }
+loop-i-init g c = record {
+  have = none_held c.args.marks.now c.args.steps.now;
+  told = told0 (g.S.PageSource.content c.args.source.now) (λ file. omega arith);
+}
 
 pub bounds-places-i : goal.bounds-places-i
 bounds-places-i g c =
@@ -41,6 +45,18 @@ returns-in_err-count-clause-checks g c =
     (c.places.ensures ∙ c.requires.whole.read.holds) within)
     _ _ _ c.in_err-count.field-0.0 c.in_err-count.ensures.checks)
 
+pub returns-in_err-count-clause-told : goal.returns-in_err-count-clause-told
+returns-in_err-count-clause-told g c =
+    let leaf = c.args.leaf.now in
+    let fields = leaf.fields.now in
+    let within : c.loop-i.i < field_count fields =
+    omega (arith, ap length c.fields-field-items.ensures.same, c.loop-i-test.true) in
+    all_steps c.loop-i.invariant.have within _ _
+    (field_read fields c.fields-field-items.result.now c.loop-i.i _ c.fields-field-items.ensures.same within)
+    (place_read leaf.page.now c.args.located.now.origin fields c.places.result.now c.loop-i.i _
+    (c.places.ensures ∙ c.requires.whole.read.holds) within)
+    c.check_field.new.source c.check_field.new.marks _ c.loop-i.invariant.told c.check_field.ensures.told
+
 pub overflow_add-count : goal.overflow_add-count
 overflow_add-count g c =
     omega (
@@ -64,8 +80,19 @@ loop-i-preserved g c =
           (place_read leaf.page.now c.args.located.now.origin fields c.places.result.now c.loop-i.i _
           (c.places.ensures ∙ c.requires.whole.read.holds) within)
           _ _ _ c.in_ok-count.field-0 c.in_ok-count.ensures.checks;
-      few = omega (arith, c.loop-i.invariant.few, c.in_ok-count.ensures.few);
+      told =
+          field_steps c.loop-i.invariant.have within _ _
+          (field_read fields c.fields-field-items.result.now c.loop-i.i _ c.fields-field-items.ensures.same within)
+          (place_read leaf.page.now c.args.located.now.origin fields c.places.result.now c.loop-i.i _
+          (c.places.ensures ∙ c.requires.whole.read.holds) within)
+          c.check_field.new.source c.check_field.new.marks _ c.loop-i.invariant.told c.check_field.ensures.told;
     }
+
+pub returns-clause-told : goal.returns-clause-told
+returns-clause-told g c =
+    steps_held g.S.PageSource c.args.source.now c.args.steps.now c.loop-i.steps c.loop-i.i c.args.leaf.now
+    c.args.located.now.origin c.loop-i.invariant.told
+    (omega (arith, ap length c.fields-field-items.ensures.same, c.loop-i-test.false, c.loop-i.auto.i-end))
 
 pub returns-clause-checks : goal.returns-clause-checks
 returns-clause-checks g c =

@@ -1,8 +1,8 @@
-use Rattle.std.proofs.Common.{◌≡◌, ◌+◌, ◌-◌, List, ℕ, [], ◌++◌, length, ap, sym, ◌∙◌, subst, arith}
+use Rattle.std.proofs.Common.{◌≡◌, ◌≤◌, ◌+◌, ◌-◌, List, ℕ, [], ◌++◌, length, ap, sym, ◌∙◌, subst, arith}
 use Rattle.std.specs.Prelude.{IfOk, OnOk}
 use Rattle.page_source.specs.Checks.{Halts}
 use Rattle.page_source.specs.Calls.{OfFile}
-use Rattle.page_source.proofs.Told.{told1}
+use Rattle.page_source.proofs.Told.{told0, told1}
 use Rattle.column_values.specs.Utf8Reader.{TakesText, WasFed, IsFed}
 use Rattle.space_audit.specs.Marks.{is_set, Marked}
 use Rattle.offpage_chain.specs.declared.reference.Reference.{Reference}
@@ -18,6 +18,16 @@ check_chain-requires-clause-count g c =
     counts_most c.feed.new.self (0 + length c.cut.result.0.now) 16384 (omega
     (arith, c.cut.ensures.size, c.requires.most))
     (c.feed.ensures.counts 0 c.text_of-text.ensures.count)
+
+pub returns-then-front-reference-clause-told : goal.returns-then-front-reference-clause-told
+returns-then-front-reference-clause-told g c =
+    told0 (g.S.PageSource.content c.args.source.now) (λ file. omega arith)
+
+pub returns-clause-told : goal.returns-clause-told
+returns-clause-told g c =
+    told1 (g.S.PageSource.content c.args.source.now)
+    (λ file few. subst (λ (r : Reference). c.check_chain.new.steps ≤ c.args.steps.now + length (chain_pages file r))
+    c.cut.ensures.reference few) c.check_chain.ensures.told
 
 pub returns-clause-checks : goal.returns-clause-checks
 returns-clause-checks g c =

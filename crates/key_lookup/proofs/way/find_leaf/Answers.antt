@@ -1,5 +1,5 @@
 use Rattle.std.proofs.Common.{refl, ◌∙◌, arith}
-use Rattle.page_source.proofs.Told.{told1, told3, told4}
+use Rattle.page_source.proofs.Told.{told0, told1, told3, told4}
 use Rattle.tree_walk.proofs.Rooms.{room_join}
 use Rattle.key_lookup.specs.Tree.{index_in}
 use Rattle.key_lookup.proofs.OnWay.{level_most, facts_above, facts_leaf, some_pointer, on_root, on_next, all_hold, leaf_is}
@@ -57,6 +57,15 @@ loop-due-preserved g c =
       spent = told1 (g.S.PageSource.content c.args.source.now)
           (λ file spent. omega (arith, spent, e.cost, down.level)) inv.spent;
     }
+
+pub returns-in_err-due-clause-told : goal.returns-in_err-due-clause-told
+returns-in_err-due-clause-told g c =
+    told0 (g.S.PageSource.content c.args.source.now) (λ file. omega (arith, c.check_root.ensures.cost))
+
+pub returns-in_err-check_next-clause-told : goal.returns-in_err-check_next-clause-told
+returns-in_err-check_next-clause-told g c =
+    told1 (g.S.PageSource.content c.args.source.now)
+    (λ file spent. omega (arith, spent, c.check_next.ensures.cost, c.loop-due-test.true)) c.loop-due.invariant.spent
 
 pub returns-clause-exact : goal.returns-clause-exact
 returns-clause-exact g c =

@@ -1,4 +1,4 @@
-use Rattle.std.proofs.Common.{◌≡◌, ℕ, ◌+◌, length, take, drop}
+use Rattle.std.proofs.Common.{◌≡◌, ◌+◌, length, take, drop}
 use Rattle.row_text.specs.Values.{IsPlain}
 use Rattle.row_text.proofs.bytes.plain_front.Given as goal
 

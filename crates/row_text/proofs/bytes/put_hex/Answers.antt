@@ -1,6 +1,5 @@
-use Rattle.std.proofs.Common.{◌≡◌, ℕ, List, [], ◌++◌, ◌*◌, length, take, drop, subst, sym, ap, ◌∙◌, refl, append_assoc}
-use Rattle.std.proofs.Common.{arith}
-use Rattle.std.proofs.lemmas.List.{take-append-drop, length-take-le}
+use Rattle.std.proofs.Common.{◌≡◌, ℕ, List, [], ◌++◌, take, drop, subst, sym, ap, ◌∙◌, refl, append_assoc}
+use Rattle.std.proofs.lemmas.List.{take-append-drop}
 use Rattle.page_source.specs.Calls.{Puts}
 use Rattle.hex.specs.Hex.{encode_lower, encode_with, lower_digits}
 use Rattle.row_text.proofs.Hex.{encode_append}

@@ -3,7 +3,7 @@ use Rattle.std.proofs.lemmas.List.{drop_all}
 use Rattle.schema_text.specs.IndexFields.{clustered_positions}
 use Rattle.row_text.specs.declared.row.RowError.{RowError}
 use Rattle.row_text.specs.KeyText.{key_columns}
-use Rattle.row_text.specs.Reads.{ReadsNext}
+use Rattle.row_text.specs.calls.Rows.{ReadsNext}
 use Rattle.row_text.proofs.Errors.{values_failed}
 use Rattle.row_text.proofs.Keys.{key_next, key_size}
 use Rattle.row_text.proofs.Reading.{read_over, read_all, some_left}

@@ -4,7 +4,8 @@ use Rattle.column_values.specs.declared.value.Value.{Value}
 use Rattle.row_text.specs.declared.row.RowError.{RowError}
 use Rattle.row_text.specs.declared.row.RowError.TheVariants.{Refused}
 use Rattle.row_text.specs.Writer.{before_value}
-use Rattle.row_text.specs.Reads.{BeginsColumn, FindsColumn, HasRead}
+use Rattle.row_text.specs.calls.Values.{BeginsColumn, FindsColumn}
+use Rattle.row_text.specs.calls.Rows.{HasRead}
 use Rattle.row_text.proofs.Errors.{next_failed}
 use Rattle.row_text.proofs.Reading.{next_found, next_none, next_unled}
 use Rattle.row_text.proofs.read.read_next.Goals as goal

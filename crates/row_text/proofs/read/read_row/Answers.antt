@@ -1,7 +1,7 @@
 use Rattle.std.proofs.Common.{refl, subst, List}
 use Rattle.schema_text.specs.declared.table.Column.{Column}
 use Rattle.row_text.specs.Line.{values_of}
-use Rattle.row_text.specs.Reads.{FindsValues}
+use Rattle.row_text.specs.calls.Rows.{FindsValues}
 use Rattle.row_text.proofs.WholeLine.{line_is, row_found}
 use Rattle.row_text.proofs.read.read_row.Goals as goal
 

@@ -4,7 +4,7 @@ use mir.Syntax.{w128}
 use mir.Val.{SFits, to_z, of_z}
 use Rattle.std.proofs.Math.Facts.{to_z_pos}
 use Rattle.std.proofs.lemmas.Int.{ints, to_z-of_z, fits_signed_from_abs}
-use Rattle.row_text.specs.Reads.{IsWordOf, unsigned_text}
+use Rattle.row_text.specs.calls.Words.{IsWordOf, unsigned_text}
 use Rattle.column_values.specs.declared.kind.ColumnType.TheVariants as types
 use Rattle.column_values.specs.declared.value.Value.TheVariants as values
 use Rattle.row_text.proofs.DecimalWords.{plus_word, minus_word, no_plus, no_minus, one_units, most_power}

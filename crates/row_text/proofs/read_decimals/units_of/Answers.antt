@@ -1,7 +1,7 @@
 use Rattle.std.proofs.Common.{◌≡◌, length, drop, ◌<◌, ◌≤◌, ◌+◌, ◌-◌, ◌*◌, ◌/◌, ◌^◌, ℕ, List, ◌++◌, Option, Some, None, sym, ap, ◌∙◌, arith}
 use Rattle.std.specs.Fmt.{decimal}
 use Rattle.std.proofs.lemmas.List.{take-append-drop}
-use Rattle.row_text.specs.Reads.{unsigned_text}
+use Rattle.row_text.specs.calls.Words.{unsigned_text}
 use Rattle.row_text.proofs.DecimalWords.{units_text, units_low, unit_parts, whole_low, most_power}
 use Rattle.row_text.proofs.read_decimals.units_of.Goals as goal
 

@@ -3,7 +3,7 @@ use Rattle.std.proofs.lemmas.Bool.{iff_false}
 use Rattle.std.proofs.lemmas.List.{take_rest}
 use Rattle.column_values.specs.declared.value.Value.TheVariants as values
 use Rattle.column_values.specs.Spell.{IsValueOf}
-use Rattle.row_text.specs.Reads.{EndsValue}
+use Rattle.row_text.specs.calls.Values.{EndsValue}
 use Rattle.row_text.proofs.QuotedValues.{no_text}
 use Rattle.row_text.proofs.read_texts.read_text.Goals as goal
 

@@ -1,4 +1,4 @@
-use Rattle.std.proofs.Common.{◌≡◌, ℕ, length}
+use Rattle.std.proofs.Common.{◌≡◌, length}
 use Rattle.row_text.proofs.tests.put_parts.Given as goal
 
 abbrev pub invariant-loop-rest : goal.invariant-loop-rest

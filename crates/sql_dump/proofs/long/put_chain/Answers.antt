@@ -5,6 +5,7 @@ use Rattle.page_source.specs.Objects.{GrowsBy, GrowsByPart}
 use Rattle.row_text.specs.Writer.{Writer, long_part}
 use Rattle.offpage_chain.specs.Reader.{ChainRest}
 use Rattle.sql_dump.proofs.Chains.{chain_start, part_size, chain_breaks, chain_ends, chain_more, chain_cut}
+use Rattle.sql_dump.proofs.SomeValues.{no_bytes, more_bytes, bytes_end, bytes_break, bytes_cut}
 use Rattle.sql_dump.proofs.long.put_chain.Goals as goal
 
 pub loop-length-init : goal.loop-length-init
@@ -14,6 +15,8 @@ loop-length-init g c = record {
   sink_later = omega arith;
   cost = refl;
   came = refl;
+  some = no_bytes c.args.kind.now (g.O.ByteSink.written c.args.sink.now) c.args.reference.now.length
+      c.args.writer.now.lacks c.parts_are_the_value.ensures.none c.requires.lacks;
   lacks = c.requires.lacks ∙ sym (ap (λ (r : ChainRest). r.lacks) c.new-reader.ensures);
   told = told1 (g.S.PageSource.content c.args.source.now)
       (λ file can. chain_start file c.args.reference.now c.args.kind.now c.new-reader.result
@@ -52,6 +55,17 @@ loop-length-preserved g c =
       sink_later = omega (arith, i.sink_later, c.in_ok-put_part.ensures.puts.cause.later);
       cost = c.in_ok-length.ensures.cost ∙ i.cost;
       came = ap (λ (w : Writer). w.came) counts ∙ i.came;
+      some = more_bytes c.args.kind.now (g.O.ByteSink.written c.args.sink.now) (g.O.ByteSink.written
+          c.loop-length.sink) (g.O.ByteSink.written c.put_part.new.sink) c.args.reference.now.length
+          c.loop-length.writer.lacks c.put_part.new.writer.lacks _
+          c.parts_are_the_value.ensures.join i.some c.in_ok-put_part.ensures.puts.ok (omega (
+            arith,
+            ap (λ (w : Writer). w.lacks) counts,
+            size,
+            i.lacks,
+            gives.0,
+            gives.1.part.1,
+          ));
       lacks = omega (
         arith,
         ap (λ (w : Writer). w.lacks) counts,
@@ -98,3 +112,20 @@ returns-clause-puts g c =
     (g.O.ByteSink.written c.args.sink.now) (g.O.ByteSink.written c.loop-length.sink) c.args.room.now.left
     c.loop-length.room.left c.part.new.page so next).0)
     i.told next
+
+pub returns-in_err-length-clause-some : goal.returns-in_err-length-clause-some
+returns-in_err-length-clause-some g c =
+    let r = err_from_is_err_and c.from_residual.result c.from_residual.ensures.1 in
+    rw r.1 (bytes_break c.args.kind.now _ _ _ _ c.loop-length.invariant.some)
+
+pub returns-in_err-put_part-clause-some : goal.returns-in_err-put_part-clause-some
+returns-in_err-put_part-clause-some g c =
+    let r = err_from_is_err_and c.from_residual-in_err-put_part.result c.from_residual-in_err-put_part.ensures.1 in
+    rw r.1
+    (bytes_cut c.args.kind.now _ _ _ _ _ _ c.loop-length.invariant.some c.in_err-put_part.ensures.puts.failed)
+
+pub returns-clause-some : goal.returns-clause-some
+returns-clause-some g c =
+    let i = c.loop-length.invariant in
+    let gives = rw c.in_default.is at c.in_ok-length.ensures.gives in
+    bytes_end c.args.kind.now _ _ _ _ i.some (omega (arith, i.lacks, gives.0))

@@ -1,5 +1,6 @@
 use Rattle.std.proofs.Common.{◌≡◌, ◌+◌, ◌≤◌, IfSome}
 use Rattle.sql_dump.proofs.Chains.{ChainSoFar}
+use Rattle.sql_dump.proofs.SomeValues.{SomeSoFar}
 use Rattle.sql_dump.proofs.long.put_chain.Given as goal
 
 abbrev pub invariant-loop-length : goal.invariant-loop-length
@@ -13,6 +14,7 @@ invariant-loop-length g l =
       cost : l.steps + l.room.left ≡ l.fn.steps + l.fn.room.left;
       came : l.writer.came ≡ l.fn.writer.came;
       lacks : l.writer.lacks ≡ l.reader.lacks;
+      some : SomeSoFar l.fn.kind (written l.fn.sink) (written l.sink) l.fn.reference.length l.writer.lacks;
       told : IfSome (content l.fn.source) (λ file.
           ChainSoFar file l.fn.reference l.fn.kind l.reader (written l.fn.sink) (written l.sink) l.fn.room.left
           l.room.left);

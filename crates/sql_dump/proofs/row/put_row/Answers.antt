@@ -9,6 +9,8 @@ use Rattle.sql_dump.specs.Cells.{RowView, CellView, HavePlaces}
 use Rattle.sql_dump.proofs.Cells.{cell_reads, cell_pages, cell_near, column_count, sound_value}
 use Rattle.sql_dump.proofs.RowLines.{line_begins, line_cut, line_more, line_ends, line_closes, close_cut, pages_none}
 use Rattle.sql_dump.proofs.RowLines.{pages_more, pages_within}
+use Rattle.sql_dump.proofs.SomeValues.{part_grows}
+use Rattle.sql_dump.proofs.SomeRows.{row_begins, row_goes_on, row_breaks, row_stops, row_closes}
 use Rattle.sql_dump.proofs.row.put_row.Goals as goal
 
 pub returns-in_err-writer-clause-puts : goal.returns-in_err-writer-clause-puts
@@ -20,6 +22,41 @@ returns-in_err-writer-clause-puts g c =
     (λ file row_values reads. line_cut c.args.row.now.table row_values (g.O.ByteSink.written c.args.sink.now)
     (g.O.ByteSink.written c.begin.new.sink) reads.count part))
 
+pub returns-in_err-writer-clause-some : goal.returns-in_err-writer-clause-some
+returns-in_err-writer-clause-some g c =
+    let r = err_from_is_err_and c.from_residual.result c.from_residual.ensures.1 in
+    rw r.1 (part_grows _ _ _ c.in_err-writer.ensures.puts.failed)
+
+pub returns-then-not-is_sound-clause-some : goal.returns-then-not-is_sound-clause-some
+returns-then-not-is_sound-clause-some g c =
+    row_breaks c.args.row.now.table _ _ c.loop-c.c c.loop-c.invariant.some
+
+pub returns-in_err-put_value-clause-some : goal.returns-in_err-put_value-clause-some
+returns-in_err-put_value-clause-some g c =
+    let r = err_from_is_err_and c.from_residual-in_err-put_value.result c.from_residual-in_err-put_value.ensures.1 in
+    rw r.1
+    (row_stops c.args.row.now.table _ _ _ c.loop-c.c c.loop-c.invariant.some c.in_err-put_value.ensures.some)
+
+pub returns-in_err-end-clause-some : goal.returns-in_err-end-clause-some
+returns-in_err-end-clause-some g c =
+    let r = err_from_is_err_and c.from_residual-in_err-end.result c.from_residual-in_err-end.ensures.1 in
+    rw r.1
+    (row_stops c.args.row.now.table _ _ _ c.loop-c.c c.loop-c.invariant.some
+    (part_grows _ _ _ c.in_err-end.ensures.failed))
+
+pub returns-clause-some : goal.returns-clause-some
+returns-clause-some g c =
+    let table = c.args.row.now.table in
+    let last : c.loop-c.c ≡ length table.columns =
+    omega (
+      arith,
+      column_count c.row.view_is c.columns-c-end.ensures.same,
+      c.loop-c-test.false,
+      c.loop-c.auto.c-end,
+    ) in
+    row_closes table (g.O.ByteSink.written c.args.sink.now) (g.O.ByteSink.written c.loop-c.sink)
+    (g.O.ByteSink.written c.end.new.sink) c.loop-c.c c.loop-c.invariant.some last c.in_ok-end.ensures.ok
+
 pub loop-c-init : goal.loop-c-init
 loop-c-init g c =
     let row = c.args.row.now in
@@ -30,6 +67,7 @@ loop-c-init g c =
       sink_later = c.in_ok-writer.ensures.puts.cause.later;
       cost = refl;
       came = ap (λ (w : Writer). w.came) c.in_ok-writer.ensures.fresh;
+      some = row_begins row.table (g.O.ByteSink.written c.args.sink.now) (g.O.ByteSink.written c.begin.new.sink) grown;
       near = λ _. refl;
       used = told0 (g.S.PageSource.content c.args.source.now) (λ file. omega (arith, pages_none file row));
       text = told0 (g.S.PageSource.content c.args.source.now)
@@ -114,6 +152,9 @@ loop-c-preserved g c =
       sink_later = omega (arith, i.sink_later, c.in_ok-put_value.ensures.over.sink_later);
       cost = c.in_ok-put_value.ensures.cost ∙ i.cost;
       came = omega (arith, c.in_ok-put_value.ensures.came, i.came);
+      some = row_goes_on row.table (g.O.ByteSink.written c.args.sink.now) (g.O.ByteSink.written c.loop-c.sink)
+          (g.O.ByteSink.written c.put_value.new.sink) c.loop-c.c c.loop-c.writer.came cell.kind i.some within i.came
+          (ap (λ (x : CellView). x.kind) c.cell-cell.ensures) c.in_ok-put_value.ensures.some;
       near = λ all. c.in_ok-put_value.ensures.near (cell_near row c.loop-c.c cell table placed c.cell-cell.ensures
           within all) ∙ i.near all;
       used = told2 (g.S.PageSource.content c.args.source.now)

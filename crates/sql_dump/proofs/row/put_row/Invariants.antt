@@ -3,6 +3,7 @@ use Rattle.column_values.specs.declared.value.Value.{Value}
 use Rattle.page_source.specs.Objects.{GrowsBy}
 use Rattle.sql_dump.specs.Cells.{IsNear, ReadsRow, pages_of_columns}
 use Rattle.sql_dump.proofs.RowLines.{line_so_far}
+use Rattle.sql_dump.proofs.SomeRows.{SomeValues}
 use Rattle.sql_dump.proofs.row.put_row.Given as goal
 
 abbrev pub invariant-loop-c : goal.invariant-loop-c
@@ -15,6 +16,7 @@ invariant-loop-c g l =
       sink_later : g.O.ByteSink.faults l.fn.sink ≤ g.O.ByteSink.faults l.sink;
       cost : l.steps + l.room.left ≡ l.fn.steps + l.fn.room.left;
       came : l.writer.came ≡ l.c;
+      some : SomeValues l.fn.row.table (written l.fn.sink) (written l.sink) l.c;
       near : All IsNear l.fn.row.places → l.room.left ≡ l.fn.room.left;
       used : IfSome (content l.fn.source) (λ file.
           l.room.left + length (pages_of_columns file l.fn.row l.c) ≡ l.fn.room.left);

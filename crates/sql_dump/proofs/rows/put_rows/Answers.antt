@@ -1,10 +1,11 @@
-use Rattle.std.proofs.Common.{◌≡◌, ◌∙◌, Some, None, Ok, Err, arith}
+use Rattle.std.proofs.Common.{◌≡◌, ◌∙◌, Some, None, Ok, Err, refl, arith}
 use Rattle.std.proofs.lemmas.Result.{err_from_is_err_and}
 use Rattle.page_source.proofs.Told.{told2, told3, told4, told5}
 use Rattle.sql_dump.specs.Cells.{row_on}
 use Rattle.sql_dump.proofs.TableLines.{can_give, found_here, rows_halt, rows_more, rows_end, rows_last, row_here}
 use Rattle.sql_dump.proofs.TableLines.{can_read_row, pages_here, row_given}
 use Rattle.sql_dump.proofs.Sends.{all_sent, sent_cut}
+use Rattle.sql_dump.proofs.SomeRows.{no_rows, one_more, all_rows}
 use Rattle.sql_dump.proofs.rows.put_rows.Goals as goal
 
 pub next-requires-clause-reads : goal.next-requires-clause-reads
@@ -79,6 +80,10 @@ loop-origin-preserved g c =
       cost = omega (arith, i.cost, c.in_ok-origin.ensures.steps, c.in_ok-put_line.ensures.cost);
       goes_on = goes_on;
       table = c.in_ok-read.ensures.table ∙ i.table;
+      some = one_more table (g.O.ByteSink.written c.args.sink.now) (g.O.ByteSink.written c.loop-origin.sink)
+          (g.O.ByteSink.written c.put_line.new.sink) c.loop-origin.buffer.bytes c.put_line.new.buffer.bytes
+          c.args.rows.now.live c.loop-origin.rows.live c.next.new.self.live i.some
+          (rw row at c.in_ok-put_line.ensures.some) (rw c.in-Some.is at c.in_ok-origin.ensures.fewer);
       told = told5 (g.S.PageSource.content c.args.source.now)
           (λ file can so finds puts left.
           let hand = found_here (Ok (Some c.in-Some.origin)) c.next.new.self can.walked so finds in
@@ -132,3 +137,11 @@ returns-clause-puts g c =
     (rows_last all so (found_here (Ok None) c.next.new.self can.walked so finds) reads)
     c.in_ok-flush.ensures.puts.ok)
     c.requires.told i.told finds
+
+pub returns-clause-some : goal.returns-clause-some
+returns-clause-some g c =
+    let i = c.loop-origin.invariant in
+    let all = rw c.in_default.is at c.in_ok-origin.ensures.all in
+    all_rows c.args.reader.now.table (g.O.ByteSink.written c.args.sink.now) (g.O.ByteSink.written c.loop-origin.sink)
+    (g.O.ByteSink.written c.flush.new.sink) c.loop-origin.buffer.bytes c.args.rows.now.live c.loop-origin.rows.live
+    i.some (all refl).live c.in_ok-flush.ensures.puts.ok

@@ -1,5 +1,6 @@
 use Rattle.std.proofs.Common.{◌≡◌, ◌+◌, ◌≤◌, IfSome, false}
 use Rattle.sql_dump.proofs.TableLines.{RowsSoFar}
+use Rattle.sql_dump.proofs.SomeRows.{SomeSoFar}
 use Rattle.sql_dump.proofs.rows.put_rows.Given as goal
 
 abbrev pub invariant-loop-origin : goal.invariant-loop-origin
@@ -13,6 +14,8 @@ invariant-loop-origin g l =
       cost : l.steps + l.rows.leaf.may_fetch + l.room.left ≡ l.fn.steps + l.fn.rows.leaf.may_fetch + l.fn.room.left;
       goes_on : l.rows.ended ≡ false;
       table : l.reader.table ≡ l.fn.reader.table;
+      some : SomeSoFar l.fn.reader.table (written l.fn.sink) (written l.sink) l.buffer.bytes l.fn.rows.live
+          l.rows.live;
       told : IfSome (content l.fn.source) (λ file.
           RowsSoFar file l.fn.reader.table l.rows l.room.left (written l.fn.sink) (written l.sink) l.buffer.bytes);
     }

@@ -2,6 +2,3 @@ use Rattle.inode_segments.proofs.tests.reading.follows_two_pages.Given as goal
 
 abbrev pub ghosts-read : goal.ghosts-read
 ghosts-read g a = record { name = a.blank.name; parts = a.blank.parts }
-
-abbrev pub ghosts-breaks : goal.ghosts-breaks
-ghosts-breaks g a = record { name = a.blank.name; parts = a.blank.parts }

@@ -5,9 +5,11 @@ use Rattle.page_source.proofs.Told.{told0, told1, told2}
 use Rattle.tree_walk.specs.Index.{index_of}
 use Rattle.table_check.specs.Live.{LiveView, CanGiveLive}
 use Rattle.table_check.proofs.Progress.{over_both, halt_as}
-use Rattle.table_check.proofs.LiveSteps.{passes_over, gives, none_behind, never_breaks}
+use Rattle.table_check.proofs.LiveSteps.{passes_over, gives, none_behind, none_due, never_breaks}
 use Rattle.table_check.proofs.rows.LiveRows.next.Goals as goal
 use Rattle.table_check.proofs.rows.LiveRows.next.Goals.{then-is_deleted, else-is_deleted}
+use Rattle.table_check.proofs.rows.LiveRows.next.Goals.{then-self-gt0-via-then-self-gt0}
+use Rattle.table_check.proofs.rows.LiveRows.next.Goals.{then-self-gt0-via-else-self-gt0+then-self-gt0-2}
 
 pub loop-origin-init : goal.loop-origin-init
 loop-origin-init g c =
@@ -175,6 +177,21 @@ loop-origin-preserved g c =
           }
       | else-is_deleted b ↦ absurd (cc (b.if-is_deleted.false, c.if-not-is_deleted.false))
     ]
+
+pub returns-then-self-gt0-clause-exact : goal.returns-then-self-gt0-clause-exact
+returns-then-self-gt0-clause-exact g c =
+    let i = c.loop-origin.invariant in
+    let found = rw (c.in_default.is, i.same) at c.in_ok-origin.ensures.exact in
+    told2 (g.S.PageSource.content c.args.source.now)
+    (λ file t f root fields node j w h.
+    let has = t root fields node j w h in
+    let done = none_due (index_of file root fields node) _ j c.next.new.self.leaf has (f root fields node has.passed w
+    has.has) in
+    elim c.then-self-gt0.branch [
+      | then-self-gt0-via-then-self-gt0 b ↦ absurd (omega (arith, done.live, b.if-self-gt0.true))
+      | then-self-gt0-via-else-self-gt0+then-self-gt0-2 b ↦ absurd (omega (arith, done.deleted, b.if-self-gt0-2.true))
+    ])
+    i.told found
 
 pub returns-clause-exact : goal.returns-clause-exact
 returns-clause-exact g c =

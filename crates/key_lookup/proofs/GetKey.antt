@@ -1,0 +1,81 @@
+-- What a look-up by the text of a key comes to, from that by the key.
+use Rattle.std.proofs.Common.{◌≡◌, ℕ, ◌≤◌, List, Option, Result, Ok, Err, inl, inr, refl, sym, ap, ◌∙◌, arith}
+use Rattle.page_source.specs.declared.objects.PageSource.{Ghosts as FileOf}
+use Rattle.page_source.specs.declared.objects.ByteSink.{Ghosts as SinkOf}
+use Rattle.page_source.proofs.Told.{told0}
+use Rattle.column_values.specs.Order.{Key}
+use Rattle.schema_text.specs.TableDef.{TableDef}
+use Rattle.row_text.specs.declared.row.RowError.{RowError}
+use Rattle.row_text.specs.declared.row.RowError.TheVariants as errors
+use Rattle.row_text.specs.KeyText.{key_of_values}
+use Rattle.row_text.specs.Laws.{HasOneKey}
+use Rattle.table_check.specs.First.{TakesSteps}
+use Rattle.key_lookup.specs.declared.stop.GetStop.{GetStop}
+use Rattle.key_lookup.specs.declared.stop.GetStop.TheVariants as gets
+use Rattle.key_lookup.specs.Get.{GetsByKey, Gets, GetsOver, TouchesNothing, get_steps}
+use Rattle.key_lookup.specs.KeyOfText.{SpellsKey, IsNoKey, FindsSearchKey}
+use Rattle.key_lookup.specs.Laws.{SpellsOneKey}
+use Rattle.key_lookup.specs.Stops.{get_stop_of_row}
+
+-- the answer for a key is that for its text
+pub gets_of : (file : List ℕ) (table : TableDef) (text : List ℕ) (key : Key) (result : Result (Unit {0}) GetStop)
+    (old new : Option (List ℕ)) → SpellsKey table text key → GetsByKey file table key result old new
+    → Gets file table text result old new
+gets_of file table text key (Ok done) old new spells x = (key, spells, x)
+gets_of file table text key (Err gets.Refused) old new spells x = absurd x
+gets_of file table text key (Err gets.Absent) old new spells x = (key, spells, x)
+gets_of file table text key (Err (gets.Broken fault)) old new spells x = (key, spells, x)
+gets_of file table text key (Err gets.Source) old new spells x = (key, spells, x)
+gets_of file table text key (Err gets.Sink) old new spells x = (key, spells, x)
+gets_of file table text key (Err gets.Memory) old new spells x = x
+
+-- a text spells one key
+pub one_spelled : HasOneKey → SpellsOneKey
+one_spelled one table text a b is x y =
+    x.key_is ∙ ap (key_of_values table) (one table x.key_values y.key_values text is x.text_is y.text_is) ∙ sym y.key_is
+
+-- where there is no key
+pub gets_none : (file : List ℕ) (table : TableDef) (text : List ℕ) (error : RowError) (old : Option (List ℕ))
+    → FindsSearchKey table text (Err error) → Gets file table text (Err (get_stop_of_row error)) old old
+gets_none file table text errors.Refused old none = (none, refl)
+gets_none file table text errors.Memory old none = refl
+
+pub touches_nothing : {S O : Type 0} (old : S) (sink : O) (steps : ℕ) (error : RowError)
+    → TouchesNothing old old sink sink steps steps (Err (get_stop_of_row error))
+touches_nothing old sink steps errors.Refused =
+    record { ends = inl refl; file = refl; out = refl; steps_same = refl }
+touches_nothing old sink steps errors.Memory =
+    record { ends = inr refl; file = refl; out = refl; steps_same = refl }
+
+pub over_no_key : {S O : Type 0} (g : FileOf S) (o : SinkOf O) (old : S) (sink : O) (error : RowError)
+    → GetsOver g o old old sink sink (Err (get_stop_of_row error))
+over_no_key g o old sink errors.Refused = record {
+  same = refl;
+  source_later = omega arith;
+  sink_later = omega arith;
+  source_rose = λ e. absurd (cc);
+  sink_rose = λ e. absurd (cc);
+  absent = λ e. refl;
+  unwritten = λ e. refl;
+}
+over_no_key g o old sink errors.Memory = record {
+  same = refl;
+  source_later = omega arith;
+  sink_later = omega arith;
+  source_rose = λ e. absurd (cc);
+  sink_rose = λ e. absurd (cc);
+  absent = λ e. refl;
+  unwritten = λ e. refl;
+}
+
+-- only such a text is refused
+pub no_key : (table : TableDef) (text : List ℕ) (error : RowError) → FindsSearchKey table text (Err error)
+    → ◌≡◌ {A = Result (Unit {0}) GetStop} (Err (get_stop_of_row error)) (Err gets.Refused) → IsNoKey table text
+no_key table text errors.Refused none e = none
+no_key table text errors.Memory none e = absurd (cc)
+
+pub no_steps : {S : Type 0} (g : FileOf S) (source : S) (steps : ℕ) → TakesSteps g source get_steps steps steps
+no_steps g source steps = record {
+  told = told0 (g.content source) (λ file. omega arith);
+  always = omega arith;
+}

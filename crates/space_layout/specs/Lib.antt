@@ -1,0 +1,9 @@
+pub mod Numbers
+pub mod Runs
+pub mod Fields
+pub mod HeadPages
+pub mod Written
+pub mod NumberedPages
+pub mod ValuePlaces
+pub mod Holds
+pub mod Laws

@@ -1,0 +1,13 @@
+pub mod Entries
+pub mod Division
+pub mod Levels
+pub mod Built
+pub mod Divided
+pub mod Places
+pub mod Sorted
+pub mod Steps
+pub mod Counting
+pub mod TreeLaws
+pub mod DivisionLaws
+pub mod PlaceLaws
+pub mod HeldLaws

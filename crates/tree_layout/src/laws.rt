@@ -1,0 +1,114 @@
+//! What the definitions of a tree that is laid out level by level say together, each the contract of a function that
+//! does nothing.
+
+ghost use Rattle.tree_layout.specs.TreeLaws.{BuiltTreesAreWhole, BuiltTreesAreApart};
+ghost use Rattle.tree_layout.specs.HeldLaws.{HeadersNameSegments, TreesTakePlaces, DividedTreesAreHeld};
+ghost use Rattle.tree_layout.specs.HeldLaws.{DividedTreesHaveRows};
+ghost use Rattle.tree_layout.specs.DivisionLaws.{DivisionGivesLevels, CountsAreOfSizes, PointersAreSmall};
+ghost use Rattle.tree_layout.specs.DivisionLaws.{RecordsAreSmall};
+ghost use Rattle.tree_layout.specs.Counting.{CountsAreCut};
+ghost use Rattle.tree_layout.specs.PlaceLaws.{NumbersAreDifferent};
+ghost use Rattle.tree_layout.specs.Sorted.{SortingRises};
+ghost use Rattle.tree_layout.specs.Steps.{DivisionGoesOn, LevelsStand};
+
+use index_page::laws::checks_are_an_index_page;
+use tree_walk::laws::{checks_are_wholeness, levels_have_the_pages, rows_by_leaves};
+
+/// A file that holds a tree has a whole tree by descent, whose rows are the leaf entries.
+pub fn built_trees_are_whole()
+    ensures { BuiltTreesAreWhole }
+{
+    checks_are_an_index_page();
+    checks_are_wholeness();
+    rows_by_leaves();
+}
+
+/// A file that holds the trees of some indexes has whole trees, no page of which comes twice, and names each of their
+/// segments once.
+pub fn built_trees_are_apart()
+    ensures { BuiltTreesAreApart }
+{
+    built_trees_are_whole();
+    levels_have_the_pages();
+}
+
+/// Entries whose keys rise are divided into the levels of a tree.
+pub fn division_gives_levels()
+    ensures { DivisionGivesLevels }
+{}
+
+/// How many pages each level has depends on the sizes of the parts alone.
+pub fn counts_are_of_sizes()
+    ensures { CountsAreOfSizes }
+{}
+
+/// A pointer takes hardly more bytes than the key of its entry.
+pub fn pointers_are_small()
+    ensures { PointersAreSmall }
+{}
+
+/// A record takes hardly more bytes than its values.
+pub fn records_are_small()
+    ensures { RecordsAreSmall }
+{}
+
+/// The pages of trees have different numbers, where those of the segments have.
+pub fn numbers_are_different()
+    ensures { NumbersAreDifferent }
+{}
+
+/// A file that holds the trees into which entries are divided holds trees with these entries.
+pub fn divided_trees_are_held()
+    ensures { DividedTreesAreHeld }
+{
+    division_gives_levels();
+    counts_are_of_sizes();
+    numbers_are_different();
+}
+
+/// The pages of a divided tree by descent are those of its places in the segments.
+pub fn trees_take_places()
+    ensures { TreesTakePlaces }
+{
+    built_trees_are_whole();
+    levels_have_the_pages();
+    division_gives_levels();
+    counts_are_of_sizes();
+    numbers_are_different();
+}
+
+/// The headers of a root tell its segments.
+pub fn headers_name_segments()
+    ensures { HeadersNameSegments }
+{}
+
+/// Entries whose keys differ have one order, in which the keys rise.
+pub fn sorting_rises()
+    ensures { SortingRises }
+{}
+
+/// Entries are divided one by one.
+pub fn division_goes_on()
+    ensures { DivisionGoesOn }
+{}
+
+/// The levels of a tree stand on each other, and no others do.
+pub fn levels_stand()
+    ensures { LevelsStand }
+{}
+
+/// The trees into which the entries of some indexes are divided are whole where a file holds them, no page of them
+/// comes twice, and they have these entries as their rows.
+pub fn divided_trees_have_rows()
+    ensures { DividedTreesHaveRows }
+{
+    built_trees_are_whole();
+    built_trees_are_apart();
+    divided_trees_are_held();
+    trees_take_places();
+}
+
+/// The pages of the levels are counted by the sizes of records and pointers.
+pub fn counts_are_cut()
+    ensures { CountsAreCut }
+{}
