@@ -134,20 +134,24 @@ is_table = record {
   columns = omega arith;
   column_names = both (λ (c : Column). IsName c.name) (column 105) (column 110) (letter 105 (omega arith) (omega arith))
       (letter 110 (omega arith) (omega arith));
-  kinds = both (λ (c : Column). IsColumnType c.kind) (column 105) (column 110) (inr (inr (inr (inl refl)))) (inr (inr (inr (inl refl))));
+  kinds = both (λ (c : Column). IsColumnType c.kind) (column 105) (column 110) (inr (inr (inr (inl refl))))
+      (inr (inr (inr (inl refl))));
   columns_differ = pair (λ (c d : Column). c.name ≢ d.name) (column 105) (column 110)
       (λ same. let e : 105 ≡ 110 = ap (λ xs. get_or xs 0 0) same in absurd (omega arith));
   clustered = omega arith;
   indexes = omega arith;
   unnamed = one (λ (x : IndexDef). x.name ≡ []) (index [] 3 0 4) refl;
-  named = one (λ (x : IndexDef). IsName x.name × (1 ≤ length x.columns)) (index (105 ∷ []) 4 1 5) (letter 105 (omega arith) (omega arith), omega arith);
+  named = one (λ (x : IndexDef). IsName x.name × (1 ≤ length x.columns)) (index (105 ∷ []) 4 1 5)
+      (letter 105 (omega arith) (omega arith), omega arith);
   indexes_differ = pair (λ (x y : IndexDef). x.name ≢ y.name) (index [] 3 0 4) (index (105 ∷ []) 4 1 5)
       (λ same. let e : 0 ≡ 1 = ap (λ (xs : List ℕ). length xs) same in absurd (omega arith));
   keys = both (IsKeyOf table) (index [] 3 0 4) (index (105 ∷ []) 4 1 5) first_key second_key;
   not_null = one (λ (x : IndexDef). All (λ (c : Column). c.nullable ≡ false) (index_columns table x)) (index [] 3 0 4)
       (one (λ (c : Column). c.nullable ≡ false) (column 105) refl);
-  roots = both (λ (x : IndexDef). IsRoot x.root) (index [] 3 0 4) (index (105 ∷ []) 4 1 5) (omega arith, omega arith) (omega arith, omega arith);
-  roots_differ = pair (λ (x y : IndexDef). x.root ≢ y.root) (index [] 3 0 4) (index (105 ∷ []) 4 1 5) (λ same. absurd (omega arith));
+  roots = both (λ (x : IndexDef). IsRoot x.root) (index [] 3 0 4) (index (105 ∷ []) 4 1 5) (omega arith, omega arith)
+      (omega arith, omega arith);
+  roots_differ = pair (λ (x y : IndexDef). x.root ≢ y.root) (index [] 3 0 4) (index (105 ∷ []) 4 1 5)
+      (λ same. absurd (omega arith));
   lines = lines_are;
   short = text_short;
 }
@@ -179,13 +183,17 @@ rise keys zero inside = refl
 rise keys (suc r) inside = absurd (omega arith)
 
 fitted : (r : ℕ) → r < 2 → is_some (fitted_row table r (get_or rows r [])) ≡ true
-unfolding table column index rows row fitted_row stored_row parts_of_row size_of_record origin_in bytes_below value_bytes leaf_fields
+unfolding table column index rows row fitted_row stored_row parts_of_row size_of_record origin_in bytes_below
+    value_bytes leaf_fields
 fitted zero inside = refl
 fitted (suc zero) inside = refl
 fitted (suc (suc r)) inside = absurd (omega arith)
 
 extents : layout_extents table rows ≡ 1
-unfolding table column index rows row fitted_row stored_row parts_of_row size_of_record origin_in bytes_below value_bytes leaf_fields node_fields stored_rows clustered_entries secondary_entries row_entries secondary_entry sorted_entries divided tree_levels pointers_to tree_counts value_counts segment_sizes sizes_of pages_above pages_before_row fragments_before extents_before
+unfolding table column index rows row fitted_row stored_row parts_of_row size_of_record origin_in bytes_below
+    value_bytes leaf_fields node_fields stored_rows clustered_entries secondary_entries row_entries secondary_entry
+    sorted_entries divided tree_levels pointers_to tree_counts value_counts segment_sizes sizes_of pages_above
+    pages_before_row fragments_before extents_before
 extents = refl
 
 can_build : CanBuild table rows
