@@ -34,14 +34,16 @@ gone bytes = record { null = false; off = true; bytes = bytes }
 longer_goes : fitted_row (table Dynamic) 0 (row 5000 6000)
     ≡ Some (kept (0 ∷ 0 ∷ 0 ∷ 1 ∷ []) ∷ kept (replicate 6 0) ∷ kept (replicate 7 0) ∷ kept (replicate 5000 97)
     ∷ gone (replicate 6000 98) ∷ [])
-unfolding column table row gone fitted_row stored_row longest_off going_lengths parts_of_row size_of_record origin_in bytes_below value_bytes leaf_fields reference_bytes
+unfolding column table row gone fitted_row stored_row longest_off going_lengths parts_of_row size_of_record origin_in
+    bytes_below value_bytes leaf_fields reference_bytes
 longer_goes = refl
 
 -- of equals the first
 first_goes : fitted_row (table Compact) 0 (row 5000 5000)
     ≡ Some (kept (0 ∷ 0 ∷ 0 ∷ 1 ∷ []) ∷ kept (replicate 6 0) ∷ kept (replicate 7 0) ∷ gone (replicate 5000 97)
     ∷ kept (replicate 5000 98) ∷ [])
-unfolding column table row gone fitted_row stored_row longest_off going_lengths parts_of_row size_of_record origin_in bytes_below value_bytes leaf_fields reference_bytes
+unfolding column table row gone fitted_row stored_row longest_off going_lengths parts_of_row size_of_record origin_in
+    bytes_below value_bytes leaf_fields reference_bytes
 first_goes = refl
 
 -- 33 columns of 255 bytes each are too long, and none of them is big
@@ -54,5 +56,6 @@ wide = record {
 }
 
 none_goes : fitted_row wide 0 (replicate 33 (values.Text (replicate 255 97))) ≡ None
-unfolding wide fitted_row stored_row longest_off going_lengths parts_of_row size_of_record origin_in bytes_below value_bytes leaf_fields
+unfolding wide fitted_row stored_row longest_off going_lengths parts_of_row size_of_record origin_in bytes_below
+    value_bytes leaf_fields
 none_goes = refl

@@ -1,6 +1,5 @@
 pub mod TreePages
-pub mod ValuePages
-pub mod Divides
+pub mod FittedRows
 pub mod Sizes
 pub mod Laid
 pub mod Pages
@@ -8,3 +7,4 @@ pub mod File
 pub mod Trees
 pub mod Values
 pub mod Chains
+pub mod Example

@@ -1,6 +1,2 @@
-pub mod Entries
-pub mod space
-pub mod trees
-pub mod values
 pub mod layout
 pub mod build

@@ -1,11 +1,13 @@
 //! The numbers of the pages of trees.
 
 ghost use Rattle.std.specs.Prelude.{◌≡◌, ◌+◌, ◌*◌, ◌<◌, ◌^◌, length, slice_index};
-ghost use Rattle.space_builder.specs.space.Numbers.{IsShape, size_at, segment_page};
-ghost use Rattle.space_builder.specs.trees.Places.{pages_above, is_leaf_row, segment_for, place_for, FitsSegments};
-ghost use Rattle.space_builder.specs.trees.Places.{tree_number};
+ghost use Rattle.space_layout.specs.Numbers.{IsShape, size_at, segment_page};
+ghost use Rattle.tree_layout.specs.Places.{pages_above, is_leaf_row, segment_for, place_for, FitsSegments};
+ghost use Rattle.tree_layout.specs.Places.{tree_number};
 
-use crate::numbers::segment_page;
+use space_layout::laws::numbers_differ;
+use space_layout::segment_page;
+use tree_layout::laws::numbers_are_different;
 
 /// How many pages the levels above one have, by how many each has, from the leaves up.
 fn pages_above(counts: &[u32], l: usize) -> u32
@@ -59,6 +61,8 @@ pub fn tree_number(sizes: &[u32], counts: &[u32], j: usize, l: usize, k: u32) ->
     requires place { k < slice_index counts.now l }
     ensures { result ≡ tree_number (segment_page sizes.now) counts.now j l k }
 {
+    numbers_differ();
+    numbers_are_different();
     let segment = segment_for(counts, j, l);
     let place = place_for(counts, l, k);
     segment_page(sizes, segment, place)

@@ -11,7 +11,7 @@ use tree_walk::laws::{
     checks_are_wholeness, keys_rise_over_leaves, levels_have_the_pages, rows_by_leaves,
 };
 
-/// The checks of a file against a schema have one answer: the first broken one, or none.
+/// The checks of a file against a schema have one answer at the most: the first broken one, or none.
 pub fn first_has_one_answer()
     ensures { FirstHasOneAnswer }
 {}

@@ -20,8 +20,8 @@ use space_audit::audit;
 use std::alloc::Global;
 use std::sync::ledger::Ledger;
 
-/// Checks a tablespace by the rules 1 to 51. `Broken` names the first broken one and its page; over a source that doesn't
-/// tell its content it names one that the bytes broke as they came. `Source` comes where the file's count of faults rose,
+/// Checks a tablespace by the rules 1 to 51. `Broken` names the first broken one and its page; of a source that doesn't
+/// tell its content, as one that changes, nothing is said there. `Source` comes where the file's count of faults rose,
 /// `Memory` where memory ran out.
 pub fn check<S: PageSource, L: Ledger>(
     alloc: Global,

@@ -37,7 +37,8 @@ unfolding leaf node
 one_index = record { few = omega arith; keys = refl; nullable = refl; pointers = refl }
 
 two_levels : level_counts (tree_levels leaf node (λ l k. 0) rows) ≡ 2 ∷ 1 ∷ []
-unfolding leaf node key_field text_field row rows tree_levels divided pointers_to size_of_record origin_in bytes_below value_bytes
+unfolding leaf node key_field text_field row rows tree_levels divided pointers_to size_of_record origin_in bytes_below
+    value_bytes
 two_levels = refl
 
 row_fits : (k : ℕ) → FitFields leaf (row k)

@@ -23,10 +23,12 @@ joined_pieces (x ∷ y ∷ zs) some =
     let rest = joined_pieces (y ∷ zs) (omega arith) in
     let last : suc (suc (length zs)) - 1 ≡ suc (length zs) = omega arith in
     let before : suc (length zs) - 1 ≡ length zs = omega arith in
-    ap (λ more. x ++ line_feed ∷ more) (rest ∙ ap (λ n. flat_map with_feed (take n (y ∷ zs)) ++ get_or (y ∷ zs) n []) before)
+    ap (λ more. x ++ line_feed ∷ more) (rest ∙ ap (λ n. flat_map with_feed (take n (y ∷ zs)) ++ get_or (y ∷ zs) n [])
+    before)
     ∙ sym (ap (λ n. flat_map with_feed (take n (x ∷ y ∷ zs)) ++ get_or (x ∷ y ∷ zs) n []) last
     ∙ append_assoc (with_feed x) (flat_map with_feed (take (length zs) (y ∷ zs))) (get_or (y ∷ zs) (length zs) [])
-    ∙ append_assoc x (line_feed ∷ []) (flat_map with_feed (take (length zs) (y ∷ zs)) ++ get_or (y ∷ zs) (length zs) []))
+    ∙ append_assoc x (line_feed ∷ []) (flat_map with_feed (take (length zs) (y ∷ zs)) ++ get_or (y ∷ zs) (length zs)
+    []))
 
 -- two lists whose members give the same pieces
 flats_same : {A B : Type 0} (f : A → List ℕ) (g : B → List ℕ) (xs : List A) (ys : List B) (d : A) (e : B)

@@ -7,7 +7,7 @@ use Rattle.std.proofs.lemmas.List.{get_or_past}
 use Rattle.std.proofs.lemmas.List.FromFn.{get_or-map-range_with_len, length-map-range_with_len}
 use Rattle.page_source.specs.Pages.{fil_null}
 use Rattle.offpage_chain.specs.ValuePage.{pages_for, blob_part, part_page}
-use Rattle.space_builder.specs.values.HoldsValues.{next_number}
+use Rattle.row_layout.specs.HoldsValues.{next_number}
 use Rattle.space_builder.specs.layout.ValuePage.{value_page_bytes, PagesAreOfChains}
 
 next_is : (number : ℕ → ℕ) (count k : ℕ) → k < count
@@ -19,7 +19,8 @@ next_is number count k below =
           get_or_past (map number (range_with_len 0 count)) (k + 1) fil_null (let e = last.1 in omega arith)
           ∙ sym (ap (λ b. cond b fil_null (number (k + 1))) last.0)
       | inr more ↦
-          get_or-map-range_with_len number 0 count (k + 1) (k + 1) fil_null (let no = more.1 in omega arith) (omega arith)
+          get_or-map-range_with_len number 0 count (k + 1) (k + 1) fil_null (let no = more.1 in omega arith)
+          (omega arith)
           ∙ sym (ap (λ b. cond b fil_null (number (k + 1))) more.0)
     ]
 

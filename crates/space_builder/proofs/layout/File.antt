@@ -12,31 +12,29 @@ use Rattle.schema_text.specs.Formats.{flags_of}
 use Rattle.schema_text.specs.declared.table.Format.{Format}
 use Rattle.schema_text.specs.declared.table.Format.TheVariants.{Compact, Dynamic}
 use Rattle.space_audit.specs.Audit.{IsSoundSpace}
-use Rattle.space_builder.specs.space.Numbers.{size_at, space_pages}
-use Rattle.space_builder.specs.space.Layout.{Numbered, IsNumbered, layout_pages}
-use Rattle.space_builder.specs.space.Layout as space
-use Rattle.space_builder.specs.space.HeadPages.{HoldsPages}
-use Rattle.space_builder.specs.space.Holds.{HoldsSpace, HasSegments}
-use Rattle.space_builder.specs.space.ValuePlaces.{value_place, IsPart}
-use Rattle.space_builder.specs.trees.Places.{segment_for, place_for, leaf_size, IsTreePlace}
+use Rattle.space_layout.specs.Numbers.{size_at, space_pages}
+use Rattle.space_layout.specs.NumberedPages.{numbered_pages, numbered_map}
+use Rattle.space_layout.specs.HeadPages.{HoldsPages}
+use Rattle.space_layout.specs.Holds.{HoldsSpace, HasSegments}
+use Rattle.space_layout.specs.ValuePlaces.{value_place, IsPart}
+use Rattle.tree_layout.specs.Places.{segment_for, place_for, leaf_size, IsTreePlace}
 use Rattle.space_builder.specs.layout.Layout.{Rows, tree_counts, value_counts, segment_sizes, value_number}
 use Rattle.space_builder.specs.layout.Layout.{page_number, layout_tree_page, layout_value_page}
 use Rattle.space_builder.specs.layout.Layout.{segment_pages, layout_map, layout_file}
+use Rattle.space_builder.specs.layout.LowerLaws.{LowerLaws}
 use Rattle.space_builder.specs.layout.Laws.{CanBuild}
-use Rattle.space_builder.proofs.space.HeadBytes.{file_holds}
-use Rattle.space_builder.proofs.space.Maps.{find, behind_heads, layout_holds}
-use Rattle.space_builder.proofs.space.Segments.{has_segments}
-use Rattle.space_builder.proofs.space.Sound.{is_sound}
-use Rattle.space_builder.proofs.trees.Numbers.{tree_place}
-use Rattle.space_builder.proofs.layout.Laid.{KnownLaws, shape, numbers, fits, stand, inside_counts, within_counts}
+use Rattle.space_layout.proofs.Maps.{find, behind_heads}
+use Rattle.tree_layout.proofs.Numbers.{tree_place}
+use Rattle.space_builder.proofs.layout.Laid.{shape, numbers, fits, stand, inside_counts, within_counts}
 use Rattle.space_builder.proofs.layout.Laid.{page_place, places, value_place_is}
-use Rattle.space_builder.proofs.layout.Pages.{IsLaid, LaidTree, LaidValue, all_laid, every_there, laid_numbered, are_pages}
+use Rattle.space_builder.proofs.layout.Pages.{IsLaid, LaidTree, LaidValue, all_laid, every_there, laid_numbered}
+use Rattle.space_builder.proofs.layout.Pages.{are_pages}
 
 pub flags_small : (format : Format) → flags_of format < 2 ^ 32
 flags_small Compact = lit< tt
 flags_small Dynamic = lit< tt
 
-module _ (laws : KnownLaws) (table : TableDef) (rows : Rows) (can : CanBuild table rows) where
+module _ (laws : LowerLaws) (table : TableDef) (rows : Rows) (can : CanBuild table rows) where
   abbrev sizes : List ℕ
   sizes = segment_sizes table rows
 
@@ -55,18 +53,19 @@ module _ (laws : KnownLaws) (table : TableDef) (rows : Rows) (can : CanBuild tab
   held_pages : HoldsPages (layout_map table rows) sizes flags
   unfolding layout_map
   held_pages =
-      layout_holds sizes flags (segment_pages table rows) (shape laws table rows can) (are_pages laws table rows can)
+      laws.space.map sizes flags (segment_pages table rows) (shape laws table rows can) (are_pages laws table rows can)
 
   holds_space : HoldsSpace file sizes flags
   unfolding layout_file
   holds_space =
-      file_holds (layout_map table rows) sizes flags (shape laws table rows can) (flags_small table.format) held_pages
+      laws.space.file (layout_map table rows) sizes flags (shape laws table rows can) (flags_small table.format)
+      held_pages
 
   pub sound_space : IsSoundSpace file flags
-  sound_space = is_sound file sizes flags (shape laws table rows can) holds_space
+  sound_space = laws.space.sound file sizes flags (shape laws table rows can) holds_space
 
   pub segments_held : HasSegments file sizes
-  segments_held = has_segments file sizes flags (shape laws table rows can) holds_space
+  segments_held = laws.space.segments file sizes flags (shape laws table rows can) holds_space
 
   -- pages with the same number are the same
   trees_same : (j i l k m h : ℕ) → j ≡ i → j < length table.indexes → l < length (counts j)
@@ -96,7 +95,8 @@ module _ (laws : KnownLaws) (table : TableDef) (rows : Rows) (can : CanBuild tab
             ∙ trees_same a.j b.j a.l a.k b.l b.k same.1 a.index first_in first_within other_in other_within number
             ∙ sym b.page
         | inr differ ↦
-            absurd ((stand laws table rows can a.j a.index).apart (counts b.j) b.j (fits laws table rows can b.j b.index)
+            absurd ((stand laws table rows can a.j a.index).apart (counts b.j) b.j
+            (fits laws table rows can b.j b.index)
             differ.1 a.l a.k first_in first_within b.l b.k other_in other_within number)
       ]
 
@@ -150,14 +150,14 @@ module _ (laws : KnownLaws) (table : TableDef) (rows : Rows) (can : CanBuild tab
 
   -- the file has each page
   map_page : (n : ℕ) (page : List ℕ) → IsLaid table rows (n, page) → get (layout_map table rows) n ≡ Some page
-  unfolding layout_map space.layout_map
+  unfolding layout_map numbered_map
   map_page n page laid =
       let is = laid_numbered laws table rows can (n, page) laid in
       let low = (numbers laws table rows can).low is.segment is.at n is.place in
       let pages = segment_pages table rows in
       let found = find (IsLaid table rows) pages n (all_laid laws table rows can)
       (every_there laws table rows can is.segment is.at n is.place) in
-      get_of_entries (layout_pages sizes flags pages) n ∙ behind_heads sizes flags pages n low ∙ found.is
+      get_of_entries (numbered_pages sizes flags pages) n ∙ behind_heads sizes flags pages n low ∙ found.is
       ∙ ap (λ (p : List ℕ). Some p) (one_page n found.page page found.so laid)
 
   pub file_page : (n : ℕ) (page : List ℕ) → IsLaid table rows (n, page) → page_of file n ≡ page

@@ -1,49 +1,37 @@
 -- The pages of the segments of a built tablespace: each stands at its place, and each place has one.
 use Rattle.std.proofs.Common.{◌≡◌, ℕ, zero, suc, ◌+◌, ◌*◌, ◌^◌, ◌<◌, ◌≤◌, Bool, true, false, cond, List, []}
-use Rattle.std.proofs.Common.{length, map, slice_index, slice_range, Contains, ◌⊎◌, eqb, ◌≢◌}
+use Rattle.std.proofs.Common.{length, map, drop, ◌-◌, slice_index, Contains, ◌⊎◌, eqb, ◌≢◌}
 use Rattle.std.proofs.Common.{refl, sym, ap, ◌∙◌, subst, arith, inl, inr, lit<}
 use Rattle.std.specs.List.{All, flat_map, range_with_len}
 use Rattle.std.proofs.lemmas.Bool.Decides.{eqb_tells}
-use Rattle.std.proofs.lemmas.List.{length-map, get_or-map}
+use Rattle.std.proofs.lemmas.List.{length-map, length-take, get_or-map}
 use Rattle.std.proofs.lemmas.List.Elements.{All-append, Contains-append_left, Contains-append_right}
 use Rattle.std.proofs.lemmas.List.FromFn.{get_or-map-range_with_len, length-map-range_with_len}
 use Rattle.page_source.specs.Pages.{fil_null}
+use Rattle.offpage_chain.specs.ValuePageLaws.{IsPartPage}
 use Rattle.column_values.specs.Types.{AreFields}
-use Rattle.column_values.specs.Laws.{SpellingSpells}
 use Rattle.schema_text.specs.TableDef.{TableDef}
-use Rattle.schema_text.specs.Laws.{ListsAreOfOneIndex}
 use Rattle.schema_text.specs.IndexFields.{leaf_fields, node_fields}
 use Rattle.schema_text.proofs.FieldLemmas.{leaf_good, node_good}
-use Rattle.page_packer.specs.Laws.{PacksIndexPage, PacksWholePage, PacksNumbers, SealingKeepsBody}
-use Rattle.space_builder.specs.space.Numbers.{size_at, segment_page, space_pages, IsShape, IsPlace, AreNumbers}
-use Rattle.space_builder.specs.space.Layout.{IsNumbered}
-use Rattle.space_builder.specs.space.ValuePlaces.{row_at, value_place, IsPart, HavePlaces}
-use Rattle.space_builder.specs.trees.DivisionLaws.{AreTheLevels}
-use Rattle.space_builder.specs.trees.Levels.{EachPage, width_at}
-use Rattle.space_builder.specs.trees.Places.{segment_for, place_for, leaf_size, IsTreePlace, FitsSegments}
-use Rattle.space_builder.specs.trees.PlaceLaws.{StandApart}
-use Rattle.space_builder.specs.values.StoredRow.{Stored, stored_at}
-use Rattle.space_builder.specs.values.HoldsValues.{stored_in, pages_of_stored, pages_for, next_number}
+use Rattle.space_layout.specs.Numbers.{size_at, segment_page, space_pages, IsShape, IsPlace, AreNumbers}
+use Rattle.space_layout.specs.NumberedPages.{IsNumbered}
+use Rattle.space_layout.specs.ValuePlaces.{row_at, value_place, IsPart, HavePlaces}
+use Rattle.tree_layout.specs.DivisionLaws.{AreTheLevels}
+use Rattle.tree_layout.specs.Levels.{EachPage, width_at}
+use Rattle.tree_layout.specs.Places.{segment_for, place_for, leaf_size, IsTreePlace, FitsSegments}
+use Rattle.tree_layout.specs.PlaceLaws.{StandApart}
+use Rattle.row_layout.specs.StoredRow.{Stored, stored_at}
+use Rattle.row_layout.specs.HoldsValues.{stored_in, pages_of_stored, pages_for, blob_part, next_number}
 use Rattle.space_builder.specs.layout.Layout.{Rows, stored_rows, tree_counts, value_counts, segment_sizes}
 use Rattle.space_builder.specs.layout.Layout.{value_number, page_number, index_entries, index_levels, layout_tree_page}
 use Rattle.space_builder.specs.layout.Layout.{field_bytes, layout_value_page}
+use Rattle.space_builder.specs.layout.LowerLaws.{LowerLaws}
+use Rattle.space_builder.specs.layout.ValuePage.{value_page_bytes}
 use Rattle.space_builder.specs.layout.Laws.{CanBuild}
-use Rattle.space_builder.proofs.space.PageNumbers.{are_numbers}
-use Rattle.space_builder.proofs.space.Parts.{have_places}
-use Rattle.space_builder.proofs.trees.Numbers.{numbers_law, tree_place}
+use Rattle.tree_layout.proofs.Numbers.{tree_place}
 use Rattle.space_builder.proofs.layout.TreePages as pages
-use Rattle.space_builder.proofs.layout.ValuePages.{HasPart, value_page_read}
 use Rattle.space_builder.proofs.layout.Sizes.{leaf_is, segments_are, is_shape, the_levels, length_is, width_is}
 use Rattle.space_builder.proofs.layout.Sizes.{fits_segments}
-
--- what the crates below say
-pub record KnownLaws : Type 0 where
-  pub packs : PacksIndexPage
-  pub whole : PacksWholePage
-  pub numbers : PacksNumbers
-  pub seals : SealingKeepsBody
-  pub spells : SpellingSpells
-  pub lists : ListsAreOfOneIndex
 
 -- lists over a range
 pub all_flat : {A : Type 0} (P : A → Type 0) (f : ℕ → List A) (from count : ℕ)
@@ -82,7 +70,7 @@ contains_image g xs x has =
     let below = has.1 in
     (has.0, omega arith, get_or-map g xs has.0 x (g x) has.1 ∙ ap g has.2)
 
-module _ (laws : KnownLaws) (table : TableDef) (rows : Rows) (can : CanBuild table rows) where
+module _ (laws : LowerLaws) (table : TableDef) (rows : Rows) (can : CanBuild table rows) where
   abbrev sizes : List ℕ
   sizes = segment_sizes table rows
 
@@ -93,10 +81,10 @@ module _ (laws : KnownLaws) (table : TableDef) (rows : Rows) (can : CanBuild tab
   n_indexes = length table.indexes
 
   pub shape : IsShape sizes
-  shape = is_shape table rows laws.spells laws.lists can
+  shape = is_shape laws table rows can
 
   pub numbers : AreNumbers sizes
-  numbers = are_numbers sizes shape
+  numbers = laws.space.numbers sizes shape
 
   pub size_few : space_pages sizes ≤ 16384
   size_few = let fits = can.fits in omega arith
@@ -107,28 +95,28 @@ module _ (laws : KnownLaws) (table : TableDef) (rows : Rows) (can : CanBuild tab
         (index_entries table rows j) (index_levels table rows j)
     unfolding index_levels index_entries
     levels_good =
-        the_levels table rows laws.spells laws.lists can j index (page_number table rows j) (value_number table rows)
+        the_levels laws table rows can j index (page_number table rows j) (value_number table rows)
 
     pub levels_length : length (counts j) ≡ length (index_levels table rows j)
     unfolding index_levels index_entries
     levels_length =
-        length_is table rows laws.spells laws.lists can j index (page_number table rows j) (value_number table rows)
+        length_is laws table rows can j index (page_number table rows j) (value_number table rows)
 
     pub levels_width : (l : ℕ) → l < length (counts j)
         → slice_index (counts j) l ≡ width_at (index_levels table rows j) l
     unfolding index_levels index_entries
     levels_width =
-        width_is table rows laws.spells laws.lists can j index (page_number table rows j) (value_number table rows)
+        width_is laws table rows can j index (page_number table rows j) (value_number table rows)
 
     pub fits : FitsSegments (counts j) (size_at sizes) j
-    fits = fits_segments table rows laws.spells laws.lists can j index
+    fits = fits_segments laws table rows can j index
 
     pub stand : StandApart (segment_page sizes) (size_at sizes) (counts j) j
-    stand = numbers_law (segment_page sizes) (size_at sizes) (counts j) j numbers.one fits
+    stand = laws.tree.different (segment_page sizes) (size_at sizes) (counts j) j numbers.one fits
 
     segment_below : (s i : ℕ) → IsTreePlace (counts j) j s i → s < length sizes
-    segment_below s i (inl top) = let count = segments_are table rows in let is = top.0 in omega arith
-    segment_below s i (inr leaf) = let count = segments_are table rows in let is = leaf.0 in omega arith
+    segment_below s i (inl top) = let count = segments_are laws table rows in let is = top.0 in omega arith
+    segment_below s i (inr leaf) = let count = segments_are laws table rows in let is = leaf.0 in omega arith
 
     pub page_place : (l k : ℕ) → l < length (counts j) → k < slice_index (counts j) l
         → IsPlace sizes (segment_for (counts j) j l) (place_for (counts j) l k) (page_number table rows j l k)
@@ -168,11 +156,11 @@ module _ (laws : KnownLaws) (table : TableDef) (rows : Rows) (can : CanBuild tab
     pub tree_numbered : (l k : ℕ) → l < length (index_levels table rows j) → k < width_at (index_levels table rows j) l
         → IsNumbered sizes (page_number table rows j l k, layout_tree_page table rows j l k)
     tree_numbered l k inside within =
-        let seals = pages.page_seals laws.packs laws.whole laws.numbers laws.seals (leaf_fields table j)
+        let seals = pages.page_seals laws.page (leaf_fields table j)
         (node_fields table j) (page_number table rows j) (index_levels table rows j) (index_entries table rows j)
         levels_good leaf_fields_good node_fields_good j index_few page_small l k inside within in
         record {
-          whole = pages.page_long laws.packs laws.whole laws.numbers laws.seals (leaf_fields table j)
+          whole = pages.page_long laws.page (leaf_fields table j)
               (node_fields table j) (page_number table rows j) (index_levels table rows j)
               (index_entries table rows j) levels_good leaf_fields_good node_fields_good j index_few page_small l k
               inside within;
@@ -187,7 +175,7 @@ module _ (laws : KnownLaws) (table : TableDef) (rows : Rows) (can : CanBuild tab
   parts = value_counts table rows
 
   pub places : HavePlaces parts
-  places = have_places parts
+  places = laws.space.places parts
 
   some_index : 0 < n_indexes
   some_index = let some = can.is_table.clustered in omega arith
@@ -196,9 +184,9 @@ module _ (laws : KnownLaws) (table : TableDef) (rows : Rows) (can : CanBuild tab
       → IsPlace sizes 1 (leaf_size (counts 0) + value_place parts r i k) (value_number table rows r i k)
   unfolding value_number
   value_place_is r i k part =
-      let count = segments_are table rows in
+      let count = segments_are laws table rows in
       let some = some_index in
-      let size = leaf_is table rows 0 some in
+      let size = leaf_is laws table rows 0 some in
       let below = places.below r i k part in record {
         below = omega arith;
         inside = omega arith;
@@ -272,12 +260,18 @@ module _ (laws : KnownLaws) (table : TableDef) (rows : Rows) (can : CanBuild tab
           subst (λ b. cond b fil_null (value_number table rows r i (k + 1)) < 2 ^ 32) (sym more.0) (omega arith)
 
   pub value_read : (r i k : ℕ) → IsPart parts r i k
-      → HasPart (layout_value_page table rows r i k) (value_number table rows r i k)
+      → IsPartPage (layout_value_page table rows r i k) 1 (value_number table rows r i k)
       (next_number (value_number table rows r i) (pages_for (length (field_bytes table rows r i))) k)
-      (slice_range (field_bytes table rows r i) (16330 * k) (16330 * k + 16330))
+      (blob_part (field_bytes table rows r i) k)
+  unfolding value_page_bytes
   value_read r i k part =
+      let bytes = field_bytes table rows r i in
       let small = value_small r i k part in
-      value_page_read (value_number table rows r i) (field_bytes table rows r i) k (omega arith) (next_small r i k part)
+      let short = length-take (16330 * k + 16330 - 16330 * k) (drop (16330 * k) bytes) in
+      laws.page.parts 1 (value_number table rows r i k)
+      (next_number (value_number table rows r i) (pages_for (length bytes)) k) (blob_part bytes k) (lit< tt)
+      (omega arith)
+      (next_small r i k part) (omega arith)
 
   pub value_numbered : (r i k : ℕ) → IsPart parts r i k
       → IsNumbered sizes (value_number table rows r i k, layout_value_page table rows r i k)

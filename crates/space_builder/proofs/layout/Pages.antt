@@ -7,18 +7,19 @@ use Rattle.std.proofs.lemmas.Bool.{cases_lt}
 use Rattle.std.proofs.lemmas.Bool.Decides.{eqb_tells}
 use Rattle.std.proofs.lemmas.List.Elements.{All-append, Contains-append_left, Contains-append_right}
 use Rattle.schema_text.specs.TableDef.{TableDef}
-use Rattle.space_builder.specs.space.Numbers.{size_at, segment_page, IsPlace}
-use Rattle.space_builder.specs.space.Layout.{Numbered, IsNumbered, AreSegmentPages}
-use Rattle.space_builder.specs.space.ValuePlaces.{row_at, IsPart}
-use Rattle.space_builder.specs.trees.Levels.{width_at}
-use Rattle.space_builder.specs.trees.Places.{place_for, leaf_size, IsTreePlace}
+use Rattle.space_layout.specs.Numbers.{size_at, segment_page, IsPlace}
+use Rattle.space_layout.specs.NumberedPages.{Numbered, IsNumbered, AreSegmentPages}
+use Rattle.space_layout.specs.ValuePlaces.{row_at, IsPart}
+use Rattle.tree_layout.specs.Levels.{width_at}
+use Rattle.tree_layout.specs.Places.{place_for, leaf_size, IsTreePlace}
 use Rattle.space_builder.specs.layout.Layout.{Rows, tree_counts, value_counts, value_total, segment_sizes, value_number}
 use Rattle.space_builder.specs.layout.Layout.{page_number, index_levels, layout_tree_page, level_pages, index_pages}
 use Rattle.space_builder.specs.layout.Layout.{layout_value_page, field_pages, row_pages, segment_pages}
+use Rattle.space_builder.specs.layout.LowerLaws.{LowerLaws}
 use Rattle.space_builder.specs.layout.Laws.{CanBuild}
-use Rattle.space_builder.proofs.trees.Numbers.{page_at_place}
-use Rattle.space_builder.proofs.values.Ranges.{all_map}
-use Rattle.space_builder.proofs.layout.Laid.{KnownLaws, all_flat, contains_flat, contains_mapped, contains_image}
+use Rattle.tree_layout.proofs.Numbers.{page_at_place}
+use Rattle.row_layout.proofs.Ranges.{all_map}
+use Rattle.space_builder.proofs.layout.Laid.{all_flat, contains_flat, contains_mapped, contains_image}
 use Rattle.space_builder.proofs.layout.Laid.{fits, levels_length, levels_width}
 use Rattle.space_builder.proofs.layout.Laid.{tree_numbered, places}
 use Rattle.space_builder.proofs.layout.Laid.{value_numbered}
@@ -53,7 +54,7 @@ pair_is : (entry : Numbered) (n : ℕ) (page : List ℕ) → entry.0 ≡ n → e
 pair_is entry n page number bytes =
     sym (ap (λ (m : ℕ). (m, entry.1)) number ∙ ap (λ (p : List ℕ). (n, p)) bytes)
 
-module _ (laws : KnownLaws) (table : TableDef) (rows : Rows) (can : CanBuild table rows) where
+module _ (laws : LowerLaws) (table : TableDef) (rows : Rows) (can : CanBuild table rows) where
   abbrev sizes : List ℕ
   sizes = segment_sizes table rows
 
@@ -86,7 +87,8 @@ module _ (laws : KnownLaws) (table : TableDef) (rows : Rows) (can : CanBuild tab
       (all_flat (IsLaid table rows) (row_pages table rows) 0 (length parts)
       (λ r low row. all_flat (IsLaid table rows) (field_pages table rows r) 0 (length (row_at parts r))
       (λ i under field. all_map (IsLaid table rows)
-      (λ k. (value_number table rows r i k, layout_value_page table rows r i k)) (slice_index (row_at parts r) i) no_page
+      (λ k. (value_number table rows r i k, layout_value_page table rows r i k)) (slice_index (row_at parts r) i)
+      no_page
       (λ k within. inr record {
         r = r;
         i = i;
@@ -158,19 +160,19 @@ module _ (laws : KnownLaws) (table : TableDef) (rows : Rows) (can : CanBuild tab
   pub every_there : (s i n : ℕ) → IsPlace sizes s i n
       → Contains (map (λ (entry : Numbered). entry.0) (segment_pages table rows)) n
   every_there s i n place =
-      let count = segments_are table rows in
+      let count = segments_are laws table rows in
       let below = place.below in
       let inside = place.inside in
       subst (Contains (map (λ (entry : Numbered). entry.0) (segment_pages table rows))) place.there
       (elim (eqb_tells (s % 2) 0) [
         | inl even ↦
             let half : s ≡ 2 * (s / 2) = (let e = even.1 in omega arith) in
-            let size = top_is table rows (s / 2) (omega arith) in
+            let size = top_is laws table rows (s / 2) (omega arith) in
             let here : i < size_at sizes (2 * (s / 2)) = subst (λ t. i < size_at sizes t) half inside in
             place_there (s / 2) s i (omega arith) (inl (half, omega arith))
         | inr odd ↦
             let half : s ≡ 2 * (s / 2) + 1 = (let o = odd.1 in omega arith) in
-            let size = leaf_is table rows (s / 2) (omega arith) in
+            let size = leaf_is laws table rows (s / 2) (omega arith) in
             let here : i < size_at sizes (2 * (s / 2) + 1) = subst (λ t. i < size_at sizes t) half inside in
             elim (cases_lt i (leaf_size (counts (s / 2)))) [
               | inl leaf ↦ place_there (s / 2) s i (omega arith) (inr (half, leaf))
@@ -189,8 +191,10 @@ module _ (laws : KnownLaws) (table : TableDef) (rows : Rows) (can : CanBuild tab
           let zero = first.1 in
           let one : 1 ≡ s = omega arith in
           let at : leaf_size (counts 0) + (i - leaf_size (counts 0)) ≡ i = omega arith in
-          subst (λ t. Contains (map (λ (entry : Numbered). entry.0) (segment_pages table rows)) (segment_page sizes t i)) one
-          (subst (λ m. Contains (map (λ (entry : Numbered). entry.0) (segment_pages table rows)) (segment_page sizes 1 m)) at
+          subst (λ t. Contains (map (λ (entry : Numbered). entry.0) (segment_pages table rows))
+          (segment_page sizes t i)) one
+          (subst (λ m. Contains (map (λ (entry : Numbered). entry.0) (segment_pages table rows))
+          (segment_page sizes 1 m)) at
           (part_there (i - leaf_size (counts 0)) (omega arith)))
       behind_leaves s i j half (inr other) size inside behind =
           let room : size_at sizes (2 * j + 1) ≡ leaf_size (counts j) + 0 =

@@ -12,17 +12,17 @@ use Rattle.index_page.specs.Header.{records_of}
 use Rattle.tree_walk.specs.Place.{is_leaf_level, IsBeside}
 use Rattle.tree_walk.specs.TreeChecks.{before, after}
 use Rattle.page_packer.specs.Entries.{Entry, MakePage}
-use Rattle.page_packer.specs.Laws.{HasBodyOf, HoldsEntries, HasNumbers, NumbersFit, HaveRoom, PacksIndexPage}
-use Rattle.page_packer.specs.Laws.{PacksWholePage, PacksNumbers, SealingKeepsBody}
-use Rattle.space_builder.specs.Entries.{HoldsEntry}
-use Rattle.space_builder.specs.trees.Division.{Level}
-use Rattle.space_builder.specs.trees.DivisionLaws.{AreTheLevels}
-use Rattle.space_builder.specs.trees.Levels.{EachPage, width_at, page_entries, is_top, top_of, numbers_at}
-use Rattle.space_builder.specs.trees.Built.{IsBuiltPage}
+use Rattle.page_packer.specs.Laws.{HasBodyOf, HoldsEntries, HasNumbers, NumbersFit, HaveRoom}
+use Rattle.tree_layout.specs.Entries.{HoldsEntry}
+use Rattle.tree_layout.specs.Division.{Level}
+use Rattle.tree_layout.specs.DivisionLaws.{AreTheLevels}
+use Rattle.tree_layout.specs.Levels.{EachPage, width_at, page_entries, is_top, top_of, numbers_at}
+use Rattle.tree_layout.specs.Built.{IsBuiltPage}
+use Rattle.space_builder.specs.layout.LowerLaws.{PageLaws}
 use Rattle.space_builder.specs.layout.TreePage.{heads_of, heads_on, fields_of_level, tree_body, tree_page}
-use Rattle.space_builder.proofs.space.HeadBytes.{sealed_seals, sealed_length}
-use Rattle.space_builder.proofs.trees.Zips.{zip_length}
-use Rattle.space_builder.proofs.trees.Rows.{number_at, length-numbers}
+use Rattle.space_layout.proofs.HeadBytes.{sealed_seals, sealed_length}
+use Rattle.tree_layout.proofs.Zips.{zip_length}
+use Rattle.tree_layout.proofs.Rows.{number_at, length-numbers}
 
 -- the neighbours' numbers fit
 beside_small : (xs : List ℕ) (k : ℕ) → ((i : ℕ) → i < length xs → get_or xs i fil_null < 2 ^ 32)
@@ -31,8 +31,7 @@ beside_small [] k each = lit< tt
 beside_small (x ∷ xs) zero each = each 0 (omega arith)
 beside_small (x ∷ xs) (suc k) each = beside_small xs k (λ i below. each (suc i) (omega arith))
 
-module _ (packs : PacksIndexPage) (whole : PacksWholePage) (has_numbers : PacksNumbers) (keeps : SealingKeepsBody) (leaf node : Fields)
-    (numbers : ℕ → ℕ → ℕ) (levels : List Level) (entries : List Entry)
+module _ (laws : PageLaws) (leaf node : Fields) (numbers : ℕ → ℕ → ℕ) (levels : List Level) (entries : List Entry)
     (tree : AreTheLevels leaf node numbers entries levels) (leaf_good : AreFields leaf) (node_good : AreFields node)
     (j : ℕ) (few : j < 16) (small : EachPage levels (λ l k. numbers l k < fil_null)) where
   good_fields : (l : ℕ) → AreFields (fields_of_level leaf node l)
@@ -60,7 +59,7 @@ module _ (packs : PacksIndexPage) (whole : PacksWholePage) (has_numbers : PacksN
     body_long : length (tree_body leaf node numbers levels j l k) ≡ 16384
     unfolding tree_body
     body_long =
-        whole fields l (is_top levels l) (k == 0) list (before (numbers_at levels numbers l) k)
+        laws.whole fields l (is_top levels l) (k == 0) list (before (numbers_at levels numbers l) k)
         (after (numbers_at levels numbers l) k) (j + 1) (heads_on levels j l) makes
 
     abbrev page : List ℕ
@@ -74,7 +73,7 @@ module _ (packs : PacksIndexPage) (whole : PacksWholePage) (has_numbers : PacksN
         (lit< tt)
 
     body_kept : HasBodyOf (tree_body leaf node numbers levels j l k) page
-    body_kept = keeps (tree_body leaf node numbers levels j l k) page (numbers l k) 1 1 index_kind page_seals
+    body_kept = laws.seals (tree_body leaf node numbers levels j l k) page (numbers l k) 1 1 index_kind page_seals
 
     pub page_long : length page ≡ 16384
     unfolding tree_page
@@ -83,10 +82,11 @@ module _ (packs : PacksIndexPage) (whole : PacksWholePage) (has_numbers : PacksN
     holds : HoldsEntries page fields (is_leaf_level l) (is_top levels l) (k == 0) list
     unfolding tree_body
     holds =
-        packs page fields l (is_top levels l) (k == 0) list (before (numbers_at levels numbers l) k)
+        laws.packs page fields l (is_top levels l) (k == 0) list (before (numbers_at levels numbers l) k)
         (after (numbers_at levels numbers l) k) (j + 1) (heads_on levels j l) makes body_kept
 
-    numbers_small : (i : ℕ) → i < length (numbers_at levels numbers l) → get_or (numbers_at levels numbers l) i fil_null < 2 ^ 32
+    numbers_small : (i : ℕ) → i < length (numbers_at levels numbers l)
+        → get_or (numbers_at levels numbers l) i fil_null < 2 ^ 32
     numbers_small i below =
         let size = length-numbers levels numbers l in
         let is = number_at levels numbers l i fil_null (omega arith) in
@@ -115,11 +115,12 @@ module _ (packs : PacksIndexPage) (whole : PacksWholePage) (has_numbers : PacksN
         prev_small zero below = lit< tt
         prev_small (suc i) below = numbers_small i (omega arith)
 
-    pub numbers_held : HasNumbers page l (before (numbers_at levels numbers l) k) (after (numbers_at levels numbers l) k)
+    pub numbers_held : HasNumbers page l (before (numbers_at levels numbers l) k)
+        (after (numbers_at levels numbers l) k)
         (j + 1) (heads_on levels j l)
     unfolding tree_body
     numbers_held =
-        has_numbers page fields l (is_top levels l) (k == 0) list (before (numbers_at levels numbers l) k)
+        laws.numbers page fields l (is_top levels l) (k == 0) list (before (numbers_at levels numbers l) k)
         (after (numbers_at levels numbers l) k) (j + 1) (heads_on levels j l) makes numbers_fit body_kept
 
     entry_held : (i : ℕ) → i < length list → HoldsEntry page fields (get_or (records_of page) i 0) (get_or list i [])

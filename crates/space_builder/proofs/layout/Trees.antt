@@ -15,30 +15,38 @@ use Rattle.page_packer.specs.Laws.{HasHeads, HasNumbers, NamesInodes}
 use Rattle.tree_walk.specs.Index.{Index, page_in}
 use Rattle.tree_walk.specs.Place.{IsBeside}
 use Rattle.tree_walk.specs.TreeChecks.{before, after}
-use Rattle.table_check.specs.Trees.{index_in}
-use Rattle.space_builder.specs.space.Numbers.{size_at, segment_page}
-use Rattle.space_builder.specs.space.Fields.{inode_place}
-use Rattle.space_builder.specs.trees.Division.{Level, tree_levels}
-use Rattle.space_builder.specs.trees.Levels.{width_at, page_entries, is_top, top_of, numbers_at}
-use Rattle.space_builder.specs.trees.Places.{segment_for, place_for, pages_above, tree_number, top_size, leaf_size}
-use Rattle.space_builder.specs.trees.Built.{IsBuiltPage}
-use Rattle.space_builder.specs.trees.Divided.{counts_for, numbers_for, levels_for, NamesPlaces, NamesTwoSegments}
-use Rattle.space_builder.specs.trees.Divided.{HasPages, HoldsDivided}
-use Rattle.space_builder.specs.trees.HeldLaws.{DividedTablesAreHeld, IsHeld}
+use Rattle.table_check.specs.Trees.{index_in, index_count, segments_of_trees}
+use Rattle.table_check.specs.Valid.{HasTrees, pages_of_descents}
+use Rattle.space_layout.specs.Numbers.{size_at, segment_page}
+use Rattle.space_layout.specs.Fields.{inode_place}
+use Rattle.tree_layout.specs.Entries.{Entry}
+use Rattle.tree_layout.specs.Division.{Level, tree_levels}
+use Rattle.tree_layout.specs.Levels.{width_at, page_entries, is_top, top_of, numbers_at}
+use Rattle.tree_layout.specs.Places.{segment_for, place_for, pages_above, tree_number, top_size, leaf_size}
+use Rattle.tree_layout.specs.Built.{IsBuiltPage}
+use Rattle.tree_layout.specs.Divided.{counts_for, numbers_for, levels_for, NamesPlaces, NamesTwoSegments}
+use Rattle.tree_layout.specs.Divided.{HasPages, HoldsDivided}
+use Rattle.tree_layout.specs.HeldLaws.{HasItsRows}
 use Rattle.space_builder.specs.layout.TreePage.{heads_of, heads_on, fields_of_level}
-use Rattle.space_builder.specs.layout.Layout.{Rows, tree_counts, segment_sizes, value_number, page_number, index_entries}
+use Rattle.space_builder.specs.layout.Layout.{Rows, tree_counts, segment_sizes, value_number, page_number}
+use Rattle.space_builder.specs.layout.Layout.{index_entries}
 use Rattle.space_builder.specs.layout.Layout.{index_levels, layout_tree_page, layout_file}
+use Rattle.space_builder.specs.layout.LowerLaws.{LowerLaws}
 use Rattle.space_builder.specs.layout.Laws.{CanBuild}
-use Rattle.space_builder.proofs.trees.Numbers.{leaves, upper, row_of, top_place, top_segment_for, root_first}
-use Rattle.space_builder.proofs.trees.Held.{names_law}
+use Rattle.tree_layout.proofs.Numbers.{leaves, upper, row_of, top_place, top_segment_for, root_first}
 use Rattle.space_builder.proofs.layout.TreePages as pages
 use Rattle.space_builder.proofs.layout.Sizes.{counts_with, can_divide, segments_are}
-use Rattle.space_builder.proofs.layout.Laid.{KnownLaws, numbers, fits, levels_good, levels_length, inside_counts}
+use Rattle.space_builder.proofs.layout.Laid.{numbers, fits, levels_good, levels_length, inside_counts}
 use Rattle.space_builder.proofs.layout.Laid.{within_counts, page_place, page_small, leaf_fields_good, node_fields_good}
 use Rattle.space_builder.proofs.layout.Laid.{index_few}
 use Rattle.space_builder.proofs.layout.File.{segments_held, file_page}
 
-module _ (laws : KnownLaws) (table : TableDef) (rows : Rows) (can : CanBuild table rows) where
+-- the file has the trees of the table, whose rows are these entries
+pub record IsHeld (file : List ℕ) (table : TableDef) (page : ℕ → ℕ → ℕ) (entries : ℕ → List Entry) : Type 0 where
+  pub trees : HasTrees file table
+  pub rows : (j : ℕ) → j < index_count table → HasItsRows (index_in file table j) page j (entries j)
+
+module _ (laws : LowerLaws) (table : TableDef) (rows : Rows) (can : CanBuild table rows) where
   abbrev sizes : List ℕ
   sizes = segment_sizes table rows
 
@@ -60,7 +68,7 @@ module _ (laws : KnownLaws) (table : TableDef) (rows : Rows) (can : CanBuild tab
 
     pub counts_same : counts_for index (index_entries table rows j) ≡ tree_counts table rows j
     unfolding counts_for index_in index_entries
-    counts_same = counts_with table rows (λ l k. 0) (value_number table rows) j
+    counts_same = counts_with laws table rows (λ l k. 0) (value_number table rows) j
 
     -- the page of the file
     module _ (l k : ℕ) (inside : l < length levels) (within : k < width_at levels l) where
@@ -82,22 +90,24 @@ module _ (laws : KnownLaws) (table : TableDef) (rows : Rows) (can : CanBuild tab
       has_numbers : HasNumbers page l (before (numbers_at levels number l) k) (after (numbers_at levels number l) k)
           (j + 1) (heads_on levels j l)
       has_numbers =
-          pages.numbers_held laws.packs laws.whole laws.numbers laws.seals (leaf_fields table j) (node_fields table j)
+          pages.numbers_held laws.page (leaf_fields table j) (node_fields table j)
           number levels (index_entries table rows j) (levels_good laws table rows can j inside_table)
           (leaf_fields_good laws table rows can j inside_table) (node_fields_good laws table rows can j inside_table) j
-          (index_few laws table rows can j inside_table) (page_small laws table rows can j inside_table) l k inside within
+          (index_few laws table rows can j inside_table) (page_small laws table rows can j inside_table) l k inside
+          within
 
       built : IsBuiltPage (fields_of_level (leaf_fields table j) (node_fields table j) l) page l (is_top levels l)
           (k == 0) (page_entries levels l k)
       built =
-          pages.built_page laws.packs laws.whole laws.numbers laws.seals (leaf_fields table j) (node_fields table j)
+          pages.built_page laws.page (leaf_fields table j) (node_fields table j)
           number levels (index_entries table rows j) (levels_good laws table rows can j inside_table)
           (leaf_fields_good laws table rows can j inside_table) (node_fields_good laws table rows can j inside_table) j
-          (index_few laws table rows can j inside_table) (page_small laws table rows can j inside_table) l k inside within
+          (index_few laws table rows can j inside_table) (page_small laws table rows can j inside_table) l k inside
+          within
 
       kind_is : kind_of page ≡ index_kind
       kind_is =
-          (pages.page_seals laws.packs laws.whole laws.numbers laws.seals (leaf_fields table j) (node_fields table j)
+          (pages.page_seals laws.page (leaf_fields table j) (node_fields table j)
           number levels (index_entries table rows j) (levels_good laws table rows can j inside_table)
           (leaf_fields_good laws table rows can j inside_table) (node_fields_good laws table rows can j inside_table) j
           (index_few laws table rows can j inside_table) (page_small laws table rows can j inside_table) l k inside
@@ -172,7 +182,7 @@ module _ (laws : KnownLaws) (table : TableDef) (rows : Rows) (can : CanBuild tab
     names_places : NamesPlaces index (length sizes) inode_place j
     unfolding address_at
     names_places =
-        let count = segments_are table rows in
+        let count = segments_are laws table rows in
         let held = segments_held laws table rows can in
         let heads = root_heads in record {
           within = omega arith;
@@ -188,14 +198,14 @@ module _ (laws : KnownLaws) (table : TableDef) (rows : Rows) (can : CanBuild tab
         }
 
     pub two_segments : NamesTwoSegments index j
-    two_segments = names_law index (length sizes) inode_place j names_places
+    two_segments = laws.tree.names index (length sizes) inode_place j names_places
 
     held_divided : HoldsDivided index (segment_page sizes) (size_at sizes) j (index_entries table rows j)
     unfolding numbers_for levels_for page_number index_levels index_in index_entries
     held_divided =
         let room = fits laws table rows can j inside_table in
         record {
-          can = can_divide table rows laws.spells laws.lists can j inside_table (value_number table rows);
+          can = can_divide laws table rows can j inside_table (value_number table rows);
           root = root_is;
           segments = record {
             named = two_segments;
@@ -207,7 +217,18 @@ module _ (laws : KnownLaws) (table : TableDef) (rows : Rows) (can : CanBuild tab
               (index_entries table rows j))) (sym counts_same) pages_held;
         }
 
-  pub trees_held : DividedTablesAreHeld → IsHeld file table (segment_page sizes) (index_entries table rows)
-  trees_held law =
-      law file table (segment_page sizes) (size_at sizes) (index_entries table rows) (numbers laws table rows can).one
-      ((segments_held laws table rows can).count ∙ segments_are table rows) (λ j inside. held_divided j inside)
+  pub trees_held : IsHeld file table (segment_page sizes) (index_entries table rows)
+  unfolding pages_of_descents segments_of_trees
+  trees_held =
+      let held = laws.tree.rows (index_in file table) (index_count table) (segment_page sizes) (size_at sizes)
+      (index_entries table rows) (numbers laws table rows can).one (λ j inside. held_divided j inside) in
+      let count = (segments_held laws table rows can).count in
+      let both = segments_are laws table rows in
+      record {
+        trees = record {
+          whole = λ j inside. (held.trees.trees j inside).whole;
+          once = held.trees.once;
+          named = λ segment inside. held.trees.named segment (omega arith);
+        };
+        rows = held.rows;
+      }

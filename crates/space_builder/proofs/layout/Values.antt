@@ -18,29 +18,30 @@ use Rattle.tree_walk.specs.Segments.{leaf_segment}
 use Rattle.tree_walk.specs.Descent.{pages_by_descent, tree_rows}
 use Rattle.table_check.specs.Trees.{index_in, clustered_tree}
 use Rattle.table_check.specs.Values.{live_rows}
-use Rattle.table_check.specs.Valid.{pages_of_descents}
-use Rattle.space_builder.specs.Entries.{IsRowOf}
-use Rattle.space_builder.specs.space.Numbers.{size_at, segment_page, IsPlace}
-use Rattle.space_builder.specs.space.ValuePlaces.{value_place, IsPart}
-use Rattle.space_builder.specs.trees.Places.{leaf_size, IsTreePlace}
-use Rattle.space_builder.specs.trees.HeldLaws.{DividedTablesAreHeld, IsHeld}
-use Rattle.space_builder.specs.values.StoredRow.{Stored, stored_at}
-use Rattle.space_builder.specs.values.HoldsValues.{stored_in, pages_of_stored, pages_for, blob_part, next_number, HoldsPart}
-use Rattle.space_builder.specs.values.HoldsValues.{HoldsRows, HaveOwnPages, HasNoOthers, IsValuePage}
-use Rattle.space_builder.specs.values.HoldsValues.{clustered_entries}
-use Rattle.space_builder.specs.layout.Layout.{Rows, stored_rows, leaf_entries, tree_counts, value_counts, value_total}
-use Rattle.space_builder.specs.layout.Layout.{segment_sizes, value_number, index_entries, field_bytes, layout_value_page}
+use Rattle.table_check.specs.Rows.{AreRows}
+use Rattle.table_check.specs.Valid.{HasValues, HasOnlyLeftOvers, pages_of_descents}
+use Rattle.tree_layout.specs.Entries.{IsRowOf}
+use Rattle.space_layout.specs.Numbers.{size_at, segment_page, IsPlace}
+use Rattle.space_layout.specs.ValuePlaces.{value_place, IsPart}
+use Rattle.tree_layout.specs.Places.{leaf_size, IsTreePlace}
+use Rattle.row_layout.specs.StoredRow.{Stored, stored_at}
+use Rattle.row_layout.specs.HoldsValues.{stored_in, pages_of_stored, pages_for, blob_part, next_number, HoldsValuePart}
+use Rattle.row_layout.specs.HoldsValues.{HoldsRows, HaveOwnPages, HasNoOthers, IsValuePage}
+use Rattle.row_layout.specs.HoldsValues.{clustered_entries}
+use Rattle.space_builder.specs.layout.Layout.{Rows, stored_rows, tree_counts, value_counts, value_total}
+use Rattle.space_builder.specs.layout.Layout.{segment_sizes, value_number, index_entries, field_bytes}
+use Rattle.space_builder.specs.layout.Layout.{layout_value_page}
 use Rattle.space_builder.specs.layout.Layout.{layout_file}
+use Rattle.space_builder.specs.layout.LowerLaws.{LowerLaws}
 use Rattle.space_builder.specs.layout.Laws.{CanBuild}
-use Rattle.space_builder.proofs.layout.Divides.{are_fitted}
+use Rattle.space_builder.proofs.layout.FittedRows.{are_fitted}
 use Rattle.space_builder.proofs.layout.Sizes.{top_is, leaf_is, segments_are}
-use Rattle.space_builder.proofs.layout.Laid.{KnownLaws, numbers, size_few, fits, places, value_place_is, parts_long}
+use Rattle.space_builder.proofs.layout.Laid.{numbers, size_few, fits, places, value_place_is, parts_long}
 use Rattle.space_builder.proofs.layout.Laid.{row_long, field_is, value_read}
 use Rattle.space_builder.proofs.layout.File.{segments_held, file_page, value_one, tree_or_value}
-use Rattle.space_builder.proofs.layout.Trees.{counts_same, two_segments, trees_held}
+use Rattle.space_builder.proofs.layout.Trees.{IsHeld, counts_same, two_segments, trees_held}
 
-module _ (laws : KnownLaws) (table : TableDef) (rows : Rows) (can : CanBuild table rows)
-    (tables : DividedTablesAreHeld) where
+module _ (laws : LowerLaws) (table : TableDef) (rows : Rows) (can : CanBuild table rows) where
   abbrev sizes : List ℕ
   sizes = segment_sizes table rows
 
@@ -60,7 +61,7 @@ module _ (laws : KnownLaws) (table : TableDef) (rows : Rows) (can : CanBuild tab
   number = value_number table rows
 
   pub held : IsHeld file table (segment_page sizes) (index_entries table rows)
-  held = trees_held laws table rows can tables
+  held = trees_held laws table rows can
 
   some_index : 0 < length table.indexes
   some_index = let some = can.is_table.clustered in omega arith
@@ -73,7 +74,7 @@ module _ (laws : KnownLaws) (table : TableDef) (rows : Rows) (can : CanBuild tab
       ap (filter (is_live_row (clustered_tree file table))) has.leaves ∙ has.live
 
   entries_are : index_entries table rows 0 ≡ clustered_entries table.format number stored
-  unfolding index_entries leaf_entries
+  unfolding index_entries
   entries_are = refl
 
   leaf_are : (clustered_tree file table).leaf ≡ leaf_fields table 0
@@ -122,7 +123,7 @@ module _ (laws : KnownLaws) (table : TableDef) (rows : Rows) (can : CanBuild tab
   clustered_leaf = (two_segments laws table rows can 0 some_index).leaf
 
   part_held : (r i k : ℕ) → IsPart parts r i k
-      → HoldsPart file (leaf_segment (clustered_tree file table)) (number r i k)
+      → HoldsValuePart file (leaf_segment (clustered_tree file table)) (number r i k)
       (next_number (number r i) (pages_for (length (field_bytes table rows r i))) k)
       (blob_part (field_bytes table rows r i) k)
   part_held r i k part =
@@ -145,7 +146,7 @@ module _ (laws : KnownLaws) (table : TableDef) (rows : Rows) (can : CanBuild tab
       let few = size_few laws table rows can in
       record {
         is_table = can.is_table;
-        are_fitted = are_fitted laws.spells laws.lists table rows can;
+        are_fitted = are_fitted table rows can;
         space = space.id;
         most = omega arith;
         records = records;
@@ -249,19 +250,19 @@ module _ (laws : KnownLaws) (table : TableDef) (rows : Rows) (can : CanBuild tab
 
   known : (s i n : ℕ) → IsPlace sizes s i n → IsKnown n
   known s i n place =
-      let count = segments_are table rows in
+      let count = segments_are laws table rows in
       let below = place.below in
       let inside = place.inside in
       subst IsKnown place.there
       (elim (eqb_tells (s % 2) 0) [
         | inl even ↦
             let half : s ≡ 2 * (s / 2) = (let e = even.1 in omega arith) in
-            let size = top_is table rows (s / 2) (omega arith) in
+            let size = top_is laws table rows (s / 2) (omega arith) in
             let here : i < size_at sizes (2 * (s / 2)) = subst (λ t. i < size_at sizes t) half inside in
             known_tree (s / 2) s i (omega arith) (inl (half, omega arith))
         | inr odd ↦
             let half : s ≡ 2 * (s / 2) + 1 = (let o = odd.1 in omega arith) in
-            let size = leaf_is table rows (s / 2) (omega arith) in
+            let size = leaf_is laws table rows (s / 2) (omega arith) in
             let here : i < size_at sizes (2 * (s / 2) + 1) = subst (λ t. i < size_at sizes t) half inside in
             elim (cases_lt i (leaf_size (counts (s / 2)))) [
               | inl leaf ↦ known_tree (s / 2) s i (omega arith) (inr (half, leaf))
@@ -273,3 +274,12 @@ module _ (laws : KnownLaws) (table : TableDef) (rows : Rows) (can : CanBuild tab
   no_others s n used =
       let at = ((segments_held laws table rows can).uses s n).0 used in
       known s at.0 n at.1
+
+  pub rows_are : AreRows file table rows
+  rows_are = laws.row.rows file table rows stored number holds_rows
+
+  pub values_are_sound : HasValues file table
+  values_are_sound = laws.row.values file table rows stored number holds_rows own_pages
+
+  pub only_left_overs : HasOnlyLeftOvers file table
+  only_left_overs = laws.row.rest file table rows stored number holds_rows no_others

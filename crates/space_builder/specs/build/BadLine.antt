@@ -1,5 +1,6 @@
 -- Which line of a rows text is refused, and why.
-use Rattle.std.specs.Prelude.{◌≡◌, ◌≢◌, ℕ, zero, suc, ◌+◌, ◌-◌, ◌<◌, ◌≤◌, ⊤, ◌==◌, if◌then◌else◌, List, [], length, take, sum_by}
+use Rattle.std.specs.Prelude.{◌≡◌, ◌≢◌, ℕ, zero, suc, ◌+◌, ◌-◌, ◌<◌, ◌≤◌, ⊤, ◌==◌, if◌then◌else◌, List, [], length}
+use Rattle.std.specs.Prelude.{take, sum_by}
 use Rattle.std.specs.Prelude.{slice_index_or, IsSome, Option, None}
 use Rattle.std.specs.List.{slice_split}
 use Rattle.page_source.specs.Verdict.{Check, Then, Each}
@@ -12,8 +13,8 @@ use Rattle.schema_text.specs.IndexFields.{leaf_fields, clustered_positions}
 use Rattle.row_text.specs.Line.{IsLineOf}
 use Rattle.space_builder.specs.declared.built.RowsWhy.{RowsWhy}
 use Rattle.space_builder.specs.declared.built.RowsWhy.TheVariants.{Long, Input, Line, Order, Big}
-use Rattle.space_builder.specs.values.StoredRow.{fitted_row}
-use Rattle.space_builder.specs.values.EntryLaws.{column_key}
+use Rattle.row_layout.specs.StoredRow.{fitted_row}
+use Rattle.row_layout.specs.RowKeys.{column_key}
 
 -- a line, counted from 1, and why it is refused
 pub record BadRow : Type 0 where

@@ -1,5 +1,6 @@
 -- What a build answers, and what its store then holds.
-use Rattle.std.specs.Prelude.{◌≡◌, ◌≢◌, ℕ, ◌<◌, ◌≤◌, ◌⊎◌, List, length, Some, None, IfSome, IsNone, IsSome, Result, Ok, Err}
+use Rattle.std.specs.Prelude.{◌≡◌, ◌≢◌, ℕ, ◌<◌, ◌≤◌, ◌⊎◌, List, length, Some, None, IfSome, IsNone, IsSome, Result, Ok}
+use Rattle.std.specs.Prelude.{Err}
 use Rattle.std.specs.FinMap.{get}
 use Rattle.page_source.specs.Faults.{Rose}
 use Rattle.page_source.specs.Objects.{IsTold, Store}

@@ -27,4 +27,5 @@ GoodTextsBuildValid =
 
 -- and its rows' lines are the text that was read
 abbrev pub GoodTextsAreOfRows : Type 0
-GoodTextsAreOfRows = (table : TableDef) (text : List ℕ) (rows : Rows) → AreRowsOf table text rows → text_of table rows ≡ text
+GoodTextsAreOfRows =
+    (table : TableDef) (text : List ℕ) (rows : Rows) → AreRowsOf table text rows → text_of table rows ≡ text

@@ -6,8 +6,8 @@ use Rattle.schema_text.specs.TableDef.{TableDef, index_at}
 use Rattle.schema_text.specs.Grammar.{IsTable}
 use Rattle.table_check.specs.Rows.{AreRows}
 use Rattle.table_check.specs.Valid.{IsValid, HasTrees, HasValues, HasOnlyLeftOvers}
-use Rattle.space_builder.specs.values.StoredRow.{fitted_row}
-use Rattle.space_builder.specs.values.EntryLaws.{AreTableRows, RowsRise}
+use Rattle.row_layout.specs.StoredRow.{fitted_row}
+use Rattle.row_layout.specs.RowKeys.{AreTableRows, RowsRise}
 use Rattle.space_builder.specs.layout.Layout.{Rows, FitsSpace, layout_file}
 
 -- a table whose roots are the first pages behind the tablespace's own

@@ -7,18 +7,16 @@ use Rattle.column_values.specs.declared.value.Value.{Value}
 use Rattle.schema_text.specs.Formats.{flags_of}
 use Rattle.schema_text.specs.TableDef.{TableDef}
 use Rattle.schema_text.specs.IndexFields.{leaf_fields, node_fields}
-use Rattle.space_builder.specs.Entries.{Entry}
-use Rattle.space_builder.specs.space.Numbers.{sizes_of, extents_needed, space_pages, segment_page}
-use Rattle.space_builder.specs.space.Layout.{Numbered}
-use Rattle.space_builder.specs.space.Layout as space
-use Rattle.space_builder.specs.space.ValuePlaces.{value_page, row_at}
-use Rattle.space_builder.specs.space.ValuePlaces as places
-use Rattle.space_builder.specs.trees.Division.{Level, tree_levels, level_counts}
-use Rattle.space_builder.specs.trees.Levels.{width_at}
-use Rattle.space_builder.specs.trees.Places.{top_size, leaf_size, tree_number}
-use Rattle.space_builder.specs.values.StoredRow.{Stored, stored_at, fitted_row, off_bytes}
-use Rattle.space_builder.specs.values.HoldsValues.{stored_in, clustered_entries, pages_of_stored}
-use Rattle.space_builder.specs.values.SecondaryEntries.{secondary_entries}
+use Rattle.tree_layout.specs.Entries.{Entry}
+use Rattle.space_layout.specs.Numbers.{sizes_of, extents_needed, space_pages, segment_page}
+use Rattle.space_layout.specs.NumberedPages.{Numbered, numbered_map}
+use Rattle.space_layout.specs.ValuePlaces.{value_page_number, value_page_count, row_at}
+use Rattle.tree_layout.specs.Division.{Level, tree_levels, level_counts}
+use Rattle.tree_layout.specs.Levels.{width_at}
+use Rattle.tree_layout.specs.Places.{top_size, leaf_size, tree_number}
+use Rattle.row_layout.specs.StoredRow.{Stored, stored_at, fitted_row, off_bytes}
+use Rattle.row_layout.specs.HoldsValues.{stored_in, pages_of_stored}
+use Rattle.row_layout.specs.LeafEntries.{leaf_entries}
 use Rattle.space_builder.specs.layout.TreePage.{tree_page}
 use Rattle.space_builder.specs.layout.ValuePage.{value_page_bytes}
 
@@ -32,22 +30,21 @@ stored_rows table rows =
     map (λ r. unwrap_or (fitted_row table r (slice_index_or rows r [])) []) (range_with_len 0 (length rows))
 
 -- the leaf entries of index j, where part k of field i of row r has the page `number r i k`
-unfoldable pub leaf_entries : TableDef → Rows → (ℕ → ℕ → ℕ → ℕ) → ℕ → List Entry
-leaf_entries table rows number j =
-    if j == 0 then clustered_entries table.format number (stored_rows table rows) else secondary_entries table j rows
+abbrev pub entries_with : TableDef → Rows → (ℕ → ℕ → ℕ → ℕ) → ℕ → List Entry
+entries_with table rows number j = leaf_entries table rows (stored_rows table rows) number j
 
 -- how many pages each level of index j has, which no number changes
 unfoldable pub tree_counts : TableDef → Rows → ℕ → List ℕ
 tree_counts table rows j =
     level_counts
-    (tree_levels (leaf_fields table j) (node_fields table j) (λ l k. 0) (leaf_entries table rows (λ r i k. 0) j))
+    (tree_levels (leaf_fields table j) (node_fields table j) (λ l k. 0) (entries_with table rows (λ r i k. 0) j))
 
 -- how many pages each field of each row goes on in, and how many they are
 unfoldable pub value_counts : TableDef → Rows → List (List ℕ)
 value_counts table rows = map (λ row. map (pages_of_stored table.format) row) (stored_rows table rows)
 
 abbrev pub value_total : TableDef → Rows → ℕ
-value_total table rows = places.value_pages (value_counts table rows)
+value_total table rows = value_page_count (value_counts table rows)
 
 -- how many pages the two segments of index j have, and all segments
 abbrev pub index_sizes : TableDef → Rows → ℕ → ℕ × ℕ
@@ -62,7 +59,7 @@ segment_sizes table rows = sizes_of (map (index_sizes table rows) (range_with_le
 -- the number of part k of field i of row r, and of page k of level l of index j
 unfoldable pub value_number : TableDef → Rows → ℕ → ℕ → ℕ → ℕ
 value_number table rows r i k =
-    value_page (segment_sizes table rows) (leaf_size (tree_counts table rows 0)) (value_counts table rows) r i k
+    value_page_number (segment_sizes table rows) (leaf_size (tree_counts table rows 0)) (value_counts table rows) r i k
 
 unfoldable pub page_number : TableDef → Rows → ℕ → ℕ → ℕ → ℕ
 page_number table rows j l k =
@@ -70,7 +67,7 @@ page_number table rows j l k =
 
 -- the entries and the levels of index j with these numbers
 unfoldable pub index_entries : TableDef → Rows → ℕ → List Entry
-index_entries table rows j = leaf_entries table rows (value_number table rows) j
+index_entries table rows j = entries_with table rows (value_number table rows) j
 
 unfoldable pub index_levels : TableDef → Rows → ℕ → List Level
 index_levels table rows j =
@@ -120,7 +117,7 @@ layout_size table rows = space_pages (segment_sizes table rows)
 
 unfoldable pub layout_map : TableDef → Rows → PageMap
 layout_map table rows =
-    space.layout_map (segment_sizes table rows) (flags_of table.format) (segment_pages table rows)
+    numbered_map (segment_sizes table rows) (flags_of table.format) (segment_pages table rows)
 
 -- the bytes of the file
 unfoldable pub layout_file : TableDef → Rows → List ℕ

@@ -7,8 +7,8 @@ use Rattle.inode_segments.specs.Inodes.{inode_byte}
 use Rattle.tree_walk.specs.TreeChecks.{before, after}
 use Rattle.page_packer.specs.declared.packer.Heads.{Heads}
 use Rattle.page_packer.specs.Entries.{page_of_entries}
-use Rattle.space_builder.specs.trees.Division.{Level}
-use Rattle.space_builder.specs.trees.Levels.{page_entries, is_top, numbers_at}
+use Rattle.tree_layout.specs.Division.{Level}
+use Rattle.tree_layout.specs.Levels.{page_entries, is_top, numbers_at}
 
 -- the segment headers of the root of index j, which no other page has
 abbrev pub heads_of : ℕ → Heads

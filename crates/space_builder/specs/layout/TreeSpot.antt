@@ -9,8 +9,8 @@ use Rattle.page_packer.specs.declared.packer.Heads.{Heads}
 use Rattle.page_packer.specs.Packing.{Packing, is_leaf, packed_page}
 use Rattle.page_packer.specs.Entries.{packing_of}
 use Rattle.space_builder.specs.declared.tree_pages.TreeSpot.{TreeSpot}
-use Rattle.space_builder.specs.trees.Division.{Level}
-use Rattle.space_builder.specs.trees.Levels.{page_entries, is_top, numbers_at}
+use Rattle.tree_layout.specs.Division.{Level}
+use Rattle.tree_layout.specs.Levels.{page_entries, is_top, numbers_at}
 use Rattle.space_builder.specs.layout.TreePage.{heads_of, fields_of_level, tree_page}
 
 -- the segment headers of a root

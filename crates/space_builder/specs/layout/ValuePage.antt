@@ -2,7 +2,7 @@
 use Rattle.std.specs.Prelude.{◌≡◌, ℕ, ◌<◌, List, length, map}
 use Rattle.std.specs.List.{range_with_len}
 use Rattle.offpage_chain.specs.ValuePage.{pages_for, blob_part, part_page, value_page}
-use Rattle.space_builder.specs.values.HoldsValues.{next_number}
+use Rattle.row_layout.specs.HoldsValues.{next_number}
 
 -- the page of part k of some bytes, where part i has the page `number i`
 unfoldable pub value_page_bytes : (ℕ → ℕ) → List ℕ → ℕ → List ℕ

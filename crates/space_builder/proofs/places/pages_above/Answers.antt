@@ -1,5 +1,5 @@
 use Rattle.std.proofs.Common.{◌≡◌, ◌+◌, ◌-◌, arith}
-use Rattle.space_builder.proofs.trees.Numbers.{above_none, above_step}
+use Rattle.tree_layout.proofs.Numbers.{above_none, above_step}
 use Rattle.space_builder.proofs.places.pages_above.Goals as goal
 
 pub overflow_add-sum : goal.overflow_add-sum

@@ -1,5 +1,5 @@
 use Rattle.std.proofs.Common.{◌≡◌, ◌+◌, ◌-◌}
-use Rattle.space_builder.specs.trees.Places.{pages_above}
+use Rattle.tree_layout.specs.Places.{pages_above}
 use Rattle.space_builder.proofs.places.pages_above.Given as goal
 
 abbrev pub invariant-loop-i : goal.invariant-loop-i

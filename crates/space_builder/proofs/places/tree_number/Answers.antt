@@ -1,8 +1,7 @@
 use Rattle.std.proofs.Common.{◌+◌, ◌*◌, ◌<◌, ℕ, List, length, slice_index, ap, arith}
-use Rattle.space_builder.specs.space.Numbers.{IsShape, size_at, segment_page}
-use Rattle.space_builder.specs.trees.Places.{pages_above, FitsSegments}
-use Rattle.space_builder.proofs.space.PageNumbers.{are_numbers}
-use Rattle.space_builder.proofs.trees.Numbers.{leaves, upper, row_of, upper_below, more_top, more_leaf, numbers_law}
+use Rattle.space_layout.specs.Numbers.{IsShape, size_at, segment_page}
+use Rattle.tree_layout.specs.Places.{pages_above, FitsSegments}
+use Rattle.tree_layout.proofs.Numbers.{leaves, upper, row_of, upper_below, more_top, more_leaf}
 use Rattle.space_builder.proofs.layout.Sizes.{size_small}
 use Rattle.space_builder.proofs.places.tree_number.Goals as goal
 
@@ -31,7 +30,7 @@ place_for-place-requires-clause-small c =
 pub segment_page-requires-clause-inside : goal.segment_page-requires-clause-inside
 segment_page-requires-clause-inside c =
     let sizes = c.args.sizes.now in
-    let stand = numbers_law (segment_page sizes) (size_at sizes) c.args.counts.now c.args.j
-    (are_numbers sizes c.requires.shape).one c.requires.fits in
+    let stand = c.numbers_are_different.ensures (segment_page sizes) (size_at sizes) c.args.counts.now c.args.j
+    (c.numbers_differ.ensures sizes c.requires.shape).one c.requires.fits in
     rw (c.place_for-place.ensures, c.segment_for-segment.ensures)
     (stand.within c.args.l c.args.k c.requires.level c.requires.place)

@@ -13,6 +13,7 @@ returns-clause-page c =
     c.seal.ensures.exact
     ∙ ap (λ (p : List ℕ). sealed p c.args.spot.number 1 1 index_kind)
     (c.finish.ensures.page
-    ∙ ap (λ (n : ℕ). packed_page c.args.packer.now c.args.spot.prev c.args.spot.next (n + 1) c.heads_if-heads.result) index
+    ∙ ap (λ (n : ℕ). packed_page c.args.packer.now c.args.spot.prev c.args.spot.next (n + 1) c.heads_if-heads.result)
+    index
     ∙ ap (λ (heads : Option Heads). packed_page c.args.packer.now c.args.spot.prev c.args.spot.next
     (c.args.spot.index + 1) heads) c.heads_if-heads.ensures)

@@ -1,5 +1,0 @@
-use Rattle.space_builder.proofs.build.Good.{good_texts}
-use Rattle.space_builder.proofs.layout_laws.good_texts_can_be_built.Goals as goal
-
-pub returns : goal.returns
-returns c = good_texts

@@ -1,5 +1,0 @@
-use Rattle.std.proofs.Common.{◌≡◌, ℕ, ◌<◌, ◌≤◌, ◌%◌, get_or}
-use Rattle.space_builder.proofs.numbers.have_roots.Given as goal
-
-abbrev pub invariant-loop-s : goal.invariant-loop-s
-invariant-loop-s l = (k : ℕ) → k < l.s → k % 2 ≡ 0 → 1 ≤ get_or l.sizes k 0

@@ -1,5 +1,0 @@
-use Rattle.space_builder.proofs.trees.Together.{apart_law}
-use Rattle.space_builder.proofs.tree_laws.built_trees_are_apart.Goals as goal
-
-pub returns : goal.returns
-returns c = apart_law c.built_trees_are_whole.ensures c.levels_have_the_pages.ensures

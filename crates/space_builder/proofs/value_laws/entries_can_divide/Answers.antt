@@ -1,5 +1,0 @@
-use Rattle.space_builder.proofs.values.Divides.{divide_law}
-use Rattle.space_builder.proofs.value_laws.entries_can_divide.Goals as goal
-
-pub returns : goal.returns
-returns c = divide_law c.spellings_are_unique.ensures.spells c.pointers_are_small.ensures c.records_are_small.ensures c.lists_are_of_one_index.ensures c.sorting_rises.ensures

@@ -1,5 +1,0 @@
-use Rattle.space_builder.proofs.values.Own.{left_law}
-use Rattle.space_builder.proofs.value_laws.nothing_is_left_over.Goals as goal
-
-pub returns : goal.returns
-returns c = left_law c.has_one_chain.ensures c.spellings_are_unique.ensures.spells c.levels_have_the_pages.ensures

@@ -1,5 +1,0 @@
-use Rattle.space_builder.proofs.values.Short.{rows_short}
-use Rattle.space_builder.proofs.value_laws.rows_are_short.Goals as goal
-
-pub returns : goal.returns
-returns c = rows_short c.spellings_are_unique.ensures.spells c.pointers_are_small.ensures c.lists_are_of_one_index.ensures

@@ -1,9 +1,0 @@
-pub mod Numbers
-pub mod Runs
-pub mod Fields
-pub mod Holds
-pub mod Laws
-pub mod HeadPages
-pub mod Written
-pub mod Layout
-pub mod ValuePlaces

@@ -1,9 +1,0 @@
-pub mod StoredRow
-pub mod Fitting
-pub mod HoldsValues
-pub mod SecondaryEntries
-pub mod Laws
-pub mod EntryLaws
-pub mod BuiltTable
-pub mod BuiltFile
-pub mod BlobPages
