@@ -110,7 +110,8 @@ module _ (table : TableDef) (i : ℕ) (is : IsTable table) (within : i < length 
       let rest_known = all_without (λ c. c < length table.columns) key own clustered_is.known in
       key_kinds_are
       ∙ map-append kind_in (kept_at table.columns own) (key_of_row table.columns key rest)
-      ∙ ap (λ (list : List FieldType). list ++ map kind_in (key_of_row table.columns key rest)) (kept_kinds table own known)
+      ∙ ap (λ (list : List FieldType). list ++ map kind_in (key_of_row table.columns key rest)) (kept_kinds table own
+      known)
       ∙ ap (λ (list : List FieldType). map (kind_of_column table) own ++ list)
       (key_part rest rest_known (length key == 0) none_without)
       ∙ sym (append_assoc (map (kind_of_column table) own) (map (kind_of_column table) rest) (hidden_kinds table))

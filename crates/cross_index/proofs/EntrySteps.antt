@@ -299,7 +299,8 @@ module _ (file : List ℕ) (table : TableDef) (i : ℕ) (fields : Fields) (all :
       matched = matched_more (entry_kinds table i) (in_order all order) (entry_keys file table i) next has.matched
           (omega (arith, within, in_all)) inside
           (subst (λ (key : Key). AreEqualKeys (entry_kinds table i) (get_or (in_order all order) next []) key) here
-          (subst (λ (f : Fields). AreEqualKeys (key_kinds f) (get_or (in_order all order) next []) (key_at page fields places)) list equal));
+          (subst (λ (f : Fields). AreEqualKeys (key_kinds f) (get_or (in_order all order) next []) (key_at page fields
+          places)) list equal));
     }
 
     -- or one of them is alone

@@ -223,7 +223,8 @@ pub finds : (file : List ℕ) (table : TableDef) (rows now start : LiveView) (ce
     → FindsLive (clustered_tree file table) n found now
 unfolding index_in
 finds file table rows now start cells most left n found exact can so =
-    exact (clustered_tree file table).root (clustered_tree file table).leaf (clustered_tree file table).node n can.walked
+    exact (clustered_tree file table).root (clustered_tree file table).leaf (clustered_tree file table).node n
+    can.walked
     so.gives
 
 pub halts_so : (file : List ℕ) (table : TableDef) (n : ℕ) (now : LiveView) (halt : Halt)

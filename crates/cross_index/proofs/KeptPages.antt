@@ -128,7 +128,8 @@ module _ (file page : List ℕ) (table : TableDef) (origin : ℕ) (are : AreFiel
   abbrev count : ℕ
   count = field_count fields
 
-  pub big : (k : ℕ) → k < count → (place_of page origin fields k).external ≡ true → is_big (field_at fields k).kind ≡ true
+  pub big : (k : ℕ) → k < count → (place_of page origin fields k).external ≡ true
+      → is_big (field_at fields k).kind ≡ true
   unfolding place_of
   big k inside away = (are.listed.leaving k ((can.spelled.each k inside).leaves away)).0
 

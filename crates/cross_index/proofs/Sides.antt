@@ -273,7 +273,8 @@ module _ (kinds : List FieldType) where
           lacking = lacks;
           least = λ i less alone. elim (last_or_before i n less) [
             | inl h ↦ absurd (alone (all i h))
-            | inr e ↦ subst (λ (k : ℕ). ¬ (IsBelow kinds (get_or side k []) (get_or side n []))) (sym e) (is_strict kinds
+            | inr e ↦ subst (λ (k : ℕ). ¬ (IsBelow kinds (get_or side k []) (get_or side n []))) (sym e) (is_strict
+                kinds
                 (get_or side n []))
           ];
         },

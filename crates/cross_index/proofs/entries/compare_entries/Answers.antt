@@ -67,7 +67,8 @@ returns-in_err-meet-clause-exact g c =
     c.args.entries.now _ _ c.loop-origin.next (Ok (Some c.in-Some.origin)) exact can has in
     meets_so file c.args.schema.now index fields _ c.args.asked.now.order.now c.args.entries.now c.loop-origin.entries
     c.loop-origin.next c.requires.list c.requires.order size can has c.next.new.self.leaf c.page-page.result.now
-    c.number-number.result c.in-Some.origin c.read_entry.new.located c.places.result.now c.places.ensures given.0 c.page-page.ensures
+    c.number-number.result c.in-Some.origin c.read_entry.new.located c.places.result.now c.places.ensures given.0
+    c.page-page.ensures
     c.number-number.ensures read c.in_err-meet.field-0.0 c.in_err-meet.ensures)
     c.requires.told i.told found)
 
@@ -95,7 +96,8 @@ loop-origin-preserved g c =
           meets_on file c.args.schema.now index fields _ c.args.asked.now.order.now c.args.entries.now
           c.loop-origin.entries c.loop-origin.next c.requires.list c.requires.order size can has
           c.next.new.self.leaf c.page-page.result.now c.number-number.result c.in-Some.origin
-          c.read_entry.new.located c.places.result.now c.places.ensures given.0 c.page-page.ensures c.number-number.ensures read c.next.new.self c.in_ok-meet.ensures given.1)
+          c.read_entry.new.located c.places.result.now c.places.ensures given.0 c.page-page.ensures
+          c.number-number.ensures read c.next.new.self c.in_ok-meet.ensures given.1)
           c.requires.told i.told found;
     }
 

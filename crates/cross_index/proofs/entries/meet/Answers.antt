@@ -16,7 +16,8 @@ returns-in-Less c = (
   λ inside.
       meets_below (key_kinds c.args.asked.now.keys.fields.now) c.args.asked.now.keys.cells.now
       c.args.asked.now.keys.width c.args.asked.now.keys.slots.now c.args.asked.now.order.now c.requires.order
-      (key_at c.args.page.now c.args.asked.now.keys.fields.now c.args.places.now) c.args.next _ c.compare_record.result inside c.compare_record.ensures c.in-Less.is,
+      (key_at c.args.page.now c.args.asked.now.keys.fields.now c.args.places.now) c.args.next _
+      c.compare_record.result inside c.compare_record.ensures c.in-Less.is,
 )
 
 pub returns-in-Greater : goal.returns-in-Greater
@@ -26,7 +27,8 @@ returns-in-Greater c = (
   c.row_number.ensures,
   meets_above (key_kinds c.args.asked.now.keys.fields.now) c.args.asked.now.keys.cells.now
       c.args.asked.now.keys.width c.args.asked.now.keys.slots.now c.args.asked.now.order.now c.requires.order
-      (key_at c.args.page.now c.args.asked.now.keys.fields.now c.args.places.now) c.args.next _ c.compare_record.result (omega (arith, c.if-next-asked.false)) c.compare_record.ensures c.in-Greater.is,
+      (key_at c.args.page.now c.args.asked.now.keys.fields.now c.args.places.now) c.args.next _
+      c.compare_record.result (omega (arith, c.if-next-asked.false)) c.compare_record.ensures c.in-Greater.is,
 )
 
 pub returns-in-Equal : goal.returns-in-Equal
@@ -34,5 +36,6 @@ returns-in-Equal c = (
   omega (arith, c.if-next-asked.false),
   meets_equal (key_kinds c.args.asked.now.keys.fields.now) c.args.asked.now.keys.cells.now
       c.args.asked.now.keys.width c.args.asked.now.keys.slots.now c.args.asked.now.order.now c.requires.order
-      (key_at c.args.page.now c.args.asked.now.keys.fields.now c.args.places.now) c.args.next _ c.compare_record.result (omega (arith, c.if-next-asked.false)) c.compare_record.ensures c.in-Equal.is,
+      (key_at c.args.page.now c.args.asked.now.keys.fields.now c.args.places.now) c.args.next _
+      c.compare_record.result (omega (arith, c.if-next-asked.false)) c.compare_record.ensures c.in-Equal.is,
 )

@@ -25,7 +25,8 @@ gather_field-requires-clause-few g c =
     rw c.loop-k.invariant.same
     (told2 (g.S.PageSource.content c.args.source.now)
     (λ file can so. row_few file c.args.page.now c.args.places.now c.args.kept.now c.loop-k.k-index _ c.place_of.result
-    c.loop-k-test.true c.place_of.ensures.same c.args.cells.now c.loop-k.cells c.args.room.now.left c.loop-k.room.left can so)
+    c.loop-k-test.true c.place_of.ensures.same c.args.cells.now c.loop-k.cells c.args.room.now.left c.loop-k.room.left
+    can so)
     c.requires.told c.loop-k.invariant.told)
 
 pub loop-k-preserved : goal.loop-k-preserved
@@ -38,7 +39,8 @@ loop-k-preserved g c =
       later = omega (arith, i.later, c.in_ok-gather_field.ensures.over.later);
       cost = c.in_ok-gather_field.ensures.cost ∙ i.cost;
       told = told3 (g.S.PageSource.content c.args.source.now)
-          (λ file so value left. row_more file c.args.page.now c.args.places.now c.args.kept.now c.loop-k.k-index _ c.place_of.result
+          (λ file so value left. row_more file c.args.page.now c.args.places.now c.args.kept.now c.loop-k.k-index _
+          c.place_of.result
           c.loop-k-test.true c.place_of.ensures.same c.args.cells.now c.loop-k.cells c.gather_field.new.cells
           c.args.room.now.left c.loop-k.room.left c.gather_field.new.room.left so value left)
           i.told value left;

@@ -75,7 +75,8 @@ pub gather_row-requires-clause-told : goal.gather_row-requires-clause-told
 gather_row-requires-clause-told g c =
     let i = c.loop-origin.invariant in
     let found = rw (c.in-Some.is, i.same) at c.in_ok-origin.ensures.exact in
-    let placed : c.places.result.now ≡ places_of c.page-page.result.now c.in-Some.origin (leaf_fields c.args.schema.now 0) =
+    let placed : c.places.result.now ≡ places_of c.page-page.result.now c.in-Some.origin (leaf_fields
+    c.args.schema.now 0) =
     c.places.ensures ∙ c.read_row.ensures.places c.if-not-read_row.false
     ∙ ap (places_of c.page-page.result.now c.in-Some.origin) c.requires.list in
     rw (c.in_ok-origin.ensures.over.same ∙ i.same)
@@ -107,7 +108,8 @@ loop-origin-preserved g c =
     let fewer = rw c.in-Some.is at c.in_ok-origin.ensures.fewer in
     let row_values = rw both at c.in_ok-gather_row.ensures.values in
     let left = rw both at c.in_ok-gather_row.ensures.left in
-    let placed : c.places.result.now ≡ places_of c.page-page.result.now c.in-Some.origin (leaf_fields c.args.schema.now 0) =
+    let placed : c.places.result.now ≡ places_of c.page-page.result.now c.in-Some.origin (leaf_fields
+    c.args.schema.now 0) =
     c.places.ensures ∙ c.read_row.ensures.places c.if-not-read_row.false
     ∙ ap (places_of c.page-page.result.now c.in-Some.origin) c.requires.list in
     record {
@@ -120,10 +122,12 @@ loop-origin-preserved g c =
       told =
           told5 (g.S.PageSource.content c.args.source.now)
           (λ file can so exact row_values left.
-          let given = finds file c.args.schema.now c.loop-origin.rows c.next.new.self c.args.rows.now c.loop-origin.cells
+          let given = finds file c.args.schema.now c.loop-origin.rows c.next.new.self c.args.rows.now
+          c.loop-origin.cells
           c.args.room.now.left c.loop-origin.room.left c.loop-origin.count (Ok (Some c.in-Some.origin)) exact can so in
           let readable = row_readable c.rows_can_be_read.ensures file c.args.schema.now c.next.new.self.leaf
-          c.page-page.result.now c.args.fields.now c.in-Some.origin c.loop-origin.count c.requires.list c.page-page.ensures
+          c.page-page.result.now c.args.fields.now c.in-Some.origin c.loop-origin.count c.requires.list
+          c.page-page.ensures
           can.walked given.0 in
           gather_more c.has_one_chain.ensures c.chain_goes_on.ensures file c.args.schema.now c.args.rows.now can
           (subst AreFields c.requires.list c.requires.are) c.next.new.self.leaf c.page-page.result.now c.in-Some.origin
