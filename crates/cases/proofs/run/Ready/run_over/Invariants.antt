@@ -1,0 +1,7 @@
+use Rattle.cases.proofs.run.Ready.run_over.Given as goal
+
+abbrev pub ghosts-check_file : goal.ghosts-check_file
+ghosts-check_file a = record { name = a.blank.name; parts = a.blank.parts }
+
+abbrev pub ghosts-dump_file : goal.ghosts-dump_file
+ghosts-dump_file a = record { name = a.blank.name; parts = a.blank.parts }

@@ -1,0 +1,122 @@
+//! The commands `check`, `dump`, `both` and `fetches`: a file through all rules.
+
+use crate::error::LineError;
+use crate::plan::{Plan, Trouble};
+use crate::report::Report;
+use crate::run::{Hitch, Ready, Task, hitch_at, numbers_of};
+use crate::shelf::{Shelf, copied};
+use crate::text::{decode, put_number};
+use crate::words::Words;
+use page_source::ByteList;
+use std::alloc::Global;
+
+/// The most tries of a line.
+const MOST_TRIES: u64 = 100_000;
+
+/// `check BASE ITEM ..` or `dump BASE ITEM ..`, and with both, `both BASE ITEM ..`.
+#[derive(Debug, Drop)]
+pub struct FileCase<'a> {
+    plan: Plan<'a>,
+}
+
+impl<'a> FileCase<'a> {
+    pub fn read(alloc: Global, words: &mut Words<'a>) -> Result<FileCase<'a>, LineError> {
+        let plan = Plan::read(alloc, words)?;
+        words.end()?;
+        Ok(FileCase { plan })
+    }
+
+    /// Runs the tasks, and compares.
+    pub fn run(
+        &self,
+        alloc: Global,
+        shelf: &Shelf,
+        tasks: &[Task],
+        answer: &str,
+        report: &mut Report,
+    ) -> Result<(), LineError> {
+        let ready = Ready::new(alloc, shelf, &self.plan)?;
+        let wanted = decode(alloc, answer)?;
+        for task in tasks {
+            self.run_task(alloc, &ready, *task, wanted.bytes(), report)?;
+        }
+        Ok(())
+    }
+
+    /// Runs the task once, or at each number of what goes wrong.
+    fn run_task(
+        &self,
+        alloc: Global,
+        ready: &Ready<'_>,
+        task: Task,
+        wanted: &[u8],
+        report: &mut Report,
+    ) -> Result<(), LineError> {
+        let trouble = self.plan.trouble;
+        let whole = match trouble {
+            Trouble::None => ByteList::new(alloc),
+            _ => ready.run(alloc, task, Hitch::None)?.written,
+        };
+        let numbers = numbers_of(trouble);
+        if numbers.last.saturating_sub(numbers.first) > MOST_TRIES {
+            return Err(LineError::Number);
+        }
+        for number in numbers.first..numbers.last.saturating_add(1) {
+            let outcome = ready.run(alloc, task, hitch_at(trouble, number))?;
+            let came = outcome.said_as(alloc, wanted, whole.bytes())?;
+            let which = which_of(alloc, task, trouble, number)?;
+            report.compare(which.bytes(), wanted, came.bytes())?;
+        }
+        Ok(())
+    }
+}
+
+/// Which of a line's tries it is.
+fn which_of(
+    alloc: Global,
+    task: Task,
+    trouble: Trouble<'_>,
+    number: u64,
+) -> Result<ByteList, LineError> {
+    let mut which = copied(alloc, task.which())?;
+    if trouble != Trouble::None {
+        which.extend(b" at ")?;
+        put_number(&mut which, number)?;
+    }
+    Ok(which)
+}
+
+/// `fetches check BASE ITEM ..`: which pages are fetched, in order.
+#[derive(Debug, Drop)]
+pub struct FetchCase<'a> {
+    task: Task,
+    plan: Plan<'a>,
+}
+
+impl<'a> FetchCase<'a> {
+    pub fn read(alloc: Global, words: &mut Words<'a>) -> Result<FetchCase<'a>, LineError> {
+        let task = Task::read(words.next()?)?;
+        let plan = Plan::read(alloc, words)?;
+        words.end()?;
+        Ok(FetchCase { task, plan })
+    }
+
+    pub fn run(
+        &self,
+        alloc: Global,
+        shelf: &Shelf,
+        answer: &str,
+        report: &mut Report,
+    ) -> Result<(), LineError> {
+        let ready = Ready::new(alloc, shelf, &self.plan)?;
+        let file = ready.fetches(alloc, self.task)?;
+        let mut came = ByteList::new(alloc);
+        for page in file.fetched() {
+            if !came.bytes().is_empty() {
+                came.extend(b" ")?;
+            }
+            put_number(&mut came, u64::from(*page))?;
+        }
+        report.compare(b"", answer.as_bytes(), came.bytes())
+    }
+}

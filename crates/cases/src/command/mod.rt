@@ -1,0 +1,97 @@
+//! The commands, one module each. A command that comes later (`build`, `cross`, `get`) gets a module of its own here, a
+//! variant of `Command`, and its arms in `read` and `run`.
+
+mod audit;
+mod file;
+mod page;
+mod row;
+mod schema;
+mod sweep;
+mod value;
+mod walk;
+
+use crate::error::LineError;
+use crate::report::Report;
+use crate::run::Task;
+use crate::shelf::Shelf;
+use crate::words::Words;
+use audit::AuditCase;
+use file::{FetchCase, FileCase};
+use page::PageCase;
+use row::{RowCase, RowText};
+pub use schema::try_schema;
+use std::alloc::Global;
+use sweep::SweepCase;
+use value::ValueCase;
+use walk::WalkCase;
+
+/// What a line tries.
+#[derive(Debug, Drop)]
+pub enum Command<'a> {
+    Check(FileCase<'a>),
+    Dump(FileCase<'a>),
+    Both(FileCase<'a>),
+    Fetches(FetchCase<'a>),
+    Audit(AuditCase<'a>),
+    Walk(WalkCase<'a>),
+    Page(PageCase<'a>),
+    Sweep(SweepCase<'a>),
+    Value(ValueCase<'a>),
+    Row(RowCase<'a>),
+}
+
+impl<'a> Command<'a> {
+    /// Reads what stands before the arrow.
+    pub fn read(alloc: Global, what: &'a str) -> Result<Command<'a>, LineError> {
+        let (word, rest) = what.split_once(' ').ok_or(LineError::Command)?;
+        match word {
+            "value" => Ok(Command::Value(ValueCase::read(alloc, rest)?)),
+            "line" => Ok(Command::Row(RowCase::read(alloc, RowText::Line, rest)?)),
+            "key" => Ok(Command::Row(RowCase::read(alloc, RowText::Key, rest)?)),
+            _ => Command::read_words(alloc, word, &mut Words::of(alloc, rest)?),
+        }
+    }
+
+    /// Reads what is said in words alone.
+    fn read_words(
+        alloc: Global,
+        word: &str,
+        words: &mut Words<'a>,
+    ) -> Result<Command<'a>, LineError> {
+        match word {
+            "check" => Ok(Command::Check(FileCase::read(alloc, words)?)),
+            "dump" => Ok(Command::Dump(FileCase::read(alloc, words)?)),
+            "both" => Ok(Command::Both(FileCase::read(alloc, words)?)),
+            "fetches" => Ok(Command::Fetches(FetchCase::read(alloc, words)?)),
+            "audit" => Ok(Command::Audit(AuditCase::read(alloc, words)?)),
+            "walk" => Ok(Command::Walk(WalkCase::read(alloc, words)?)),
+            "page" => Ok(Command::Page(PageCase::read(alloc, words)?)),
+            "sweep" => Ok(Command::Sweep(SweepCase::read(alloc, words)?)),
+            _ => Err(LineError::Command),
+        }
+    }
+
+    /// Runs it, and compares with the answer.
+    pub fn run(
+        &self,
+        alloc: Global,
+        shelf: &Shelf,
+        answer: &str,
+        report: &mut Report,
+    ) -> Result<(), LineError> {
+        match self {
+            Command::Check(case) => case.run(alloc, shelf, &[Task::Check], answer, report),
+            Command::Dump(case) => case.run(alloc, shelf, &[Task::Dump], answer, report),
+            Command::Both(case) => {
+                case.run(alloc, shelf, &[Task::Check, Task::Dump], answer, report)
+            }
+            Command::Fetches(case) => case.run(alloc, shelf, answer, report),
+            Command::Audit(case) => case.run(alloc, shelf, answer, report),
+            Command::Walk(case) => case.run(alloc, shelf, answer, report),
+            Command::Page(case) => case.run(alloc, shelf, answer, report),
+            Command::Sweep(case) => case.run(alloc, shelf, answer, report),
+            Command::Value(case) => case.run(alloc, shelf, answer, report),
+            Command::Row(case) => case.run(alloc, shelf, answer, report),
+        }
+    }
+}

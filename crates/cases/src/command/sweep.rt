@@ -1,0 +1,190 @@
+//! The command `sweep`: one bit of one byte after another.
+
+use crate::edit::{Edit, Frame};
+use crate::error::LineError;
+use crate::plan::Plan;
+use crate::report::Report;
+use crate::run::{Hitch, Ready, Task};
+use crate::sheaf::Sheaf;
+use crate::shelf::{Shelf, copied};
+use crate::text::{decode, put_number};
+use crate::words::{Range, Words, any_has, ranges};
+use page_source::{ByteList, PAGE_SIZE};
+use std::alloc::Global;
+
+/// Which bytes are changed, and which bits of each.
+#[derive(Debug, Drop)]
+struct Tried {
+    /// These of each page.
+    bytes: Vec<Range>,
+    /// Each byte of the file whose place is a multiple of this; none where it is 0.
+    every: u64,
+    bits: &'static [u8],
+}
+
+impl Tried {
+    fn read(alloc: Global, words: &mut Words) -> Result<Tried, LineError> {
+        let mut tried = Tried {
+            bytes: Vec::new(alloc),
+            every: 0,
+            bits: &[1],
+        };
+        if words.skip("bytes") {
+            tried.bytes = ranges(alloc, words.next()?)?;
+        }
+        if words.skip("every") {
+            tried.every = words.number()?;
+        }
+        if words.skip("flip") {
+            if !words.skip("each") {
+                return Err(LineError::Word);
+            }
+            tried.bits = &[1, 2, 4, 8, 16, 32, 64, 128];
+        }
+        words.end()?;
+        Ok(tried)
+    }
+
+    /// Whether this byte of the page is changed.
+    fn has(&self, page: u32, at: u16) -> bool {
+        let place = u64::from(page) * PAGE_SIZE as u64 + u64::from(at);
+        any_has(&self.bytes, u64::from(at)) || self.every != 0 && place % self.every == 0
+    }
+}
+
+/// The answer at some bytes of some pages.
+#[derive(Debug, Drop)]
+struct Reply<'a> {
+    pages: Vec<Range>,
+    bytes: Vec<Range>,
+    answer: &'a str,
+}
+
+impl<'a> Reply<'a> {
+    /// `PAGES/BYTES ANSWER`.
+    fn read(alloc: Global, text: &'a str) -> Result<Reply<'a>, LineError> {
+        let (places, answer) = text.split_once(' ').ok_or(LineError::Word)?;
+        let (pages, bytes) = places.split_once('/').ok_or(LineError::Word)?;
+        Ok(Reply {
+            pages: ranges(alloc, pages)?,
+            bytes: ranges(alloc, bytes)?,
+            answer,
+        })
+    }
+}
+
+/// The first of the answers that is given for this byte, with the page's number in place of a star; that without any edit
+/// where it is `sound`.
+fn wanted_at(
+    alloc: Global,
+    replies: &[Reply<'_>],
+    sound: &[u8],
+    page: u32,
+    at: u16,
+) -> Result<ByteList, LineError> {
+    for reply in replies {
+        if any_has(&reply.pages, u64::from(page)) && any_has(&reply.bytes, u64::from(at)) {
+            return wanted_of(alloc, reply.answer, sound, page);
+        }
+    }
+    Err(LineError::NoAnswer)
+}
+
+fn wanted_of(alloc: Global, answer: &str, sound: &[u8], page: u32) -> Result<ByteList, LineError> {
+    if answer == "sound" {
+        return Ok(copied(alloc, sound)?);
+    }
+    match answer.strip_suffix('*') {
+        Some(front) => {
+            let mut wanted = copied(alloc, front.as_bytes())?;
+            put_number(&mut wanted, u64::from(page))?;
+            Ok(wanted)
+        }
+        None => decode(alloc, answer),
+    }
+}
+
+/// `sweep check BASE BYTES-TRIED`.
+#[derive(Debug, Drop)]
+pub struct SweepCase<'a> {
+    task: Task,
+    base: &'a str,
+    tried: Tried,
+}
+
+impl<'a> SweepCase<'a> {
+    pub fn read(alloc: Global, words: &mut Words<'a>) -> Result<SweepCase<'a>, LineError> {
+        let task = Task::read(words.next()?)?;
+        let base = words.next()?;
+        let tried = Tried::read(alloc, words)?;
+        Ok(SweepCase { task, base, tried })
+    }
+
+    /// Changes each of the bits alone, and compares.
+    pub fn run(
+        &self,
+        alloc: Global,
+        shelf: &Shelf,
+        answer: &str,
+        report: &mut Report,
+    ) -> Result<(), LineError> {
+        let mut replies = Vec::new(alloc);
+        for text in answer.split("; ") {
+            replies.push(Reply::read(alloc, text)?)?;
+        }
+        let base = shelf.file(self.base)?;
+        let mut ready = Ready::new(alloc, shelf, &Plan::of(alloc, self.base))?;
+        let outcome = ready.run(alloc, self.task, Hitch::None)?;
+        let sound = outcome.said_as(alloc, b"", b"")?;
+        for n in 0..ready.pages() {
+            *ready.over() = touched(alloc, &base.sheaf, n)?;
+            for at in 0..PAGE_SIZE as u16 {
+                if self.tried.has(n, at) {
+                    let wanted = wanted_at(alloc, &replies, sound.bytes(), n, at)?;
+                    self.run_at(alloc, &mut ready, n, at, wanted.bytes(), report)?;
+                }
+            }
+        }
+        Ok(())
+    }
+
+    /// Changes each bit of one byte, and changes it back.
+    fn run_at(
+        &self,
+        alloc: Global,
+        ready: &mut Ready<'_>,
+        n: u32,
+        at: u16,
+        wanted: &[u8],
+        report: &mut Report,
+    ) -> Result<(), LineError> {
+        for bits in self.tried.bits {
+            ready.over().flip(n, usize::from(at), *bits)?;
+            let outcome = ready.run(alloc, self.task, Hitch::None)?;
+            ready.over().flip(n, usize::from(at), *bits)?;
+            let came = outcome.said_as(alloc, wanted, b"")?;
+            let which = which_of(alloc, n, at, *bits)?;
+            report.compare(which.bytes(), wanted, came.bytes())?;
+        }
+        Ok(())
+    }
+}
+
+/// The page alone, as it is.
+fn touched(alloc: Global, under: &Sheaf, n: u32) -> Result<Sheaf, LineError> {
+    let mut over = Sheaf::new(alloc);
+    over.edit(alloc, under, &Edit::Touch { page: n })?;
+    over.seal(Frame::AsIs);
+    Ok(over)
+}
+
+/// Which of the tries it is.
+fn which_of(alloc: Global, n: u32, at: u16, bits: u8) -> Result<ByteList, LineError> {
+    let mut which = copied(alloc, b" at ")?;
+    put_number(&mut which, u64::from(n))?;
+    which.extend(b":")?;
+    put_number(&mut which, u64::from(at))?;
+    which.extend(b" bits ")?;
+    put_number(&mut which, u64::from(bits))?;
+    Ok(which)
+}

@@ -1,0 +1,175 @@
+//! The command `walk`: the trees of all indexes, in their order.
+
+ghost use Rattle.std.specs.Prelude.{◌≡◌, ◌<◌, IfOk, length};
+ghost use Rattle.tree_walk.specs.Room.{HasRoom};
+
+use crate::error::LineError;
+use crate::outcome::End;
+use crate::pages::CasePages;
+use crate::plan::Plan;
+use crate::report::Report;
+use crate::run::Ready;
+use crate::shelf::Shelf;
+use crate::text::put_number;
+use crate::words::Words;
+use page_source::{ByteList, NoMemory, Steps};
+use schema_text::Schema;
+use schema_text::laws::lists_are_of_one_index;
+use space_audit::{Marks, Space, audit};
+use std::alloc::Global;
+use std::marker::Brand;
+use std::sync::ledger::{Blank, Ledger};
+use tree_walk::{TreeEnds, Walk, walk_tree};
+
+/// `walk BASE ITEM ..`.
+#[derive(Debug, Drop)]
+pub struct WalkCase<'a> {
+    plan: Plan<'a>,
+}
+
+impl<'a> WalkCase<'a> {
+    pub fn read(alloc: Global, words: &mut Words<'a>) -> Result<WalkCase<'a>, LineError> {
+        let plan = Plan::read(alloc, words)?;
+        words.end()?;
+        Ok(WalkCase { plan })
+    }
+
+    pub fn run(
+        &self,
+        alloc: Global,
+        shelf: &Shelf,
+        answer: &str,
+        report: &mut Report,
+    ) -> Result<(), LineError> {
+        let ready = Ready::new(alloc, shelf, &self.plan)?;
+        let mut came = ByteList::new(alloc);
+        match ends_of(alloc, &ready) {
+            Ok(list) => {
+                for ends in &list {
+                    put_ends(&mut came, ends)?;
+                }
+            }
+            Err(end) => end.put(&mut came)?,
+        }
+        report.compare(b"", answer.as_bytes(), came.bytes())
+    }
+}
+
+/// What walks work in, and the segments and pages that they met.
+#[derive(Drop)]
+struct Tools {
+    walk: Walk,
+    named: Marks,
+    marks: Marks,
+}
+
+impl Tools {
+    fn new(alloc: Global, space: &Space) -> Result<Tools, NoMemory>
+        ensures members { IfOk result (λ tools. length tools.marks ≡ space.now.size) }
+        ensures segments { IfOk result (λ tools. length tools.named ≡ length space.now.segments) }
+        ensures room { IfOk result (λ tools. HasRoom tools.walk 128) }
+    {
+        Ok(Tools {
+            walk: Walk::new(alloc, 128)?,
+            named: Marks::new(alloc, space.segment_count())?,
+            marks: Marks::new(alloc, space.size())?,
+        })
+    }
+}
+
+/// Walks the tree of index `j`.
+fn walk_index<L: Ledger>(
+    alloc: Global,
+    file: &mut CasePages<'_>,
+    space: &Space,
+    table: &Schema,
+    j: usize,
+    tools: &mut Tools,
+    steps: &mut Steps<L>,
+) -> Result<TreeEnds, End>
+    requires index { j < length table.now.indexes }
+    requires members { length tools.old.marks ≡ space.now.size }
+    requires segments { length tools.old.named ≡ length space.now.segments }
+    requires room { HasRoom tools.old.walk 128 }
+    ensures members { length tools.new.marks ≡ length tools.old.marks }
+    ensures segments { length tools.new.named ≡ length tools.old.named }
+    ensures room { HasRoom tools.new.walk 128 }
+{
+    lists_are_of_one_index();
+    let leaf = table.fields(alloc, j, true)?;
+    let node = table.fields(alloc, j, false)?;
+    let root = table.indexes()[j].root;
+    Ok(walk_tree(
+        &mut tools.walk,
+        file,
+        space,
+        root,
+        &leaf,
+        &node,
+        &mut tools.named,
+        &mut tools.marks,
+        steps,
+    )?)
+}
+
+/// Walks the trees of all indexes, in their order.
+fn walk_trees<L: Ledger>(
+    alloc: Global,
+    file: &mut CasePages<'_>,
+    space: &Space,
+    table: &Schema,
+    steps: &mut Steps<L>,
+) -> Result<Vec<TreeEnds>, End> {
+    let mut tools = Tools::new(alloc, space)?;
+    let mut list = Vec::new(alloc);
+    for j in 0..table.indexes().len() {
+        let ends = walk_index(alloc, file, space, table, j, &mut tools, steps)?;
+        list.push(ends).map_err(|_| End::Memory)?;
+    }
+    Ok(list)
+}
+
+/// Audits the file, and walks its trees.
+fn walk_all<L: Ledger>(
+    alloc: Global,
+    file: &mut CasePages<'_>,
+    table: &Schema,
+    blank: Blank,
+) -> Result<Vec<TreeEnds>, End>
+    requires name { blank.name ≡ L.name }
+    requires parts { blank.parts ≡ L.parts }
+    requires shared { 0 < blank.parts }
+{
+    let mut steps = Steps::<L>::new(blank);
+    let space = audit(alloc, file, table.flags(), &mut steps)?;
+    walk_trees(alloc, file, &space, table, &mut steps)
+}
+
+/// The ends of the trees of the file.
+fn ends_of(alloc: Global, ready: &Ready<'_>) -> Result<Vec<TreeEnds>, End> {
+    let table = Schema::read(alloc, ready.schema())?;
+    let mut file = CasePages::new(alloc, ready.image());
+    walk_all::<Brand>(alloc, &mut file, &table, Blank::new(1))
+}
+
+/// Adds the numbers of a tree, behind those of the trees before.
+fn put_ends(text: &mut ByteList, ends: &TreeEnds) -> Result<(), NoMemory> {
+    if !text.bytes().is_empty() {
+        text.extend(b"; ")?;
+    }
+    let numbers = [
+        ("id=", ends.index_id),
+        (" level=", u64::from(ends.root_level)),
+        (" first=", u64::from(ends.first_leaf)),
+        (" leaves=", u64::from(ends.leaves)),
+        (" leaf=", u64::from(ends.leaf_segment)),
+        (" top=", u64::from(ends.top_segment)),
+        (" live=", ends.live),
+        (" deleted=", ends.deleted),
+    ];
+    for (word, number) in numbers {
+        text.extend(word.as_bytes())?;
+        put_number(text, number)?;
+    }
+    Ok(())
+}

@@ -1,0 +1,100 @@
+//! One line of the cases.
+
+use crate::command::{Command, try_schema};
+use crate::error::LineError;
+use crate::plan::Plan;
+use crate::report::Report;
+use crate::shelf::Shelf;
+use crate::text::decode;
+use crate::words::Words;
+use std::alloc::Global;
+
+/// What goes before the words on what is tried.
+fn without_words(line: &str) -> &str {
+    match line.split_once(" # ") {
+        Some((case, _)) => case.trim_end(),
+        None => line,
+    }
+}
+
+/// Tries a line: what it names is named from then on, and its cases are counted.
+pub fn try_line(alloc: Global, shelf: &mut Shelf, line: &str) -> Result<Report, LineError> {
+    let mut report = Report::new(alloc);
+    if line.is_empty() || line.starts_with('#') {
+        return Ok(report);
+    }
+    let case = without_words(line);
+    let (what, answer) = match case.split_once(" -> ") {
+        Some((what, answer)) => (what, Some(answer)),
+        None => (case, None),
+    };
+    if let Some((name, text)) = text_of(what, "schema") {
+        try_schema_line(alloc, shelf, name, text, answer, &mut report)?;
+    } else if let Some((name, made)) = text_of(what, "file") {
+        name_file(alloc, shelf, name, made, answer)?;
+    } else {
+        let answer = answer.ok_or(LineError::NoAnswer)?;
+        try_command(alloc, shelf, what, answer, &mut report)?;
+    }
+    Ok(report)
+}
+
+/// The name and the text of `WORD NAME = TEXT`; the name is empty in `WORD = TEXT`.
+fn text_of<'a>(what: &'a str, word: &str) -> Option<(&'a str, &'a str)> {
+    let rest = what.strip_prefix(word)?;
+    if let Some(text) = rest.strip_prefix(" =") {
+        return Some(("", text.strip_prefix(' ').unwrap_or(text)));
+    }
+    let (name, text) = rest.strip_prefix(' ')?.split_once(" =")?;
+    Some((name, text.strip_prefix(' ').unwrap_or(text)))
+}
+
+/// Names a schema text where the line does, and tries it where there is an answer.
+fn try_schema_line(
+    alloc: Global,
+    shelf: &mut Shelf,
+    name: &str,
+    text: &str,
+    answer: Option<&str>,
+    report: &mut Report,
+) -> Result<(), LineError> {
+    let text = decode(alloc, text)?;
+    if let Some(answer) = answer {
+        try_schema(alloc, text.bytes(), answer, report)?;
+    }
+    if !name.is_empty() {
+        return shelf.put_schema(alloc, name, text);
+    }
+    match answer {
+        Some(_) => Ok(()),
+        None => Err(LineError::NoAnswer),
+    }
+}
+
+/// Names a file.
+fn name_file(
+    alloc: Global,
+    shelf: &mut Shelf,
+    name: &str,
+    made: &str,
+    answer: Option<&str>,
+) -> Result<(), LineError> {
+    if name.is_empty() || answer.is_some() {
+        return Err(LineError::Word);
+    }
+    let mut words = Words::of(alloc, made)?;
+    let plan = Plan::read(alloc, &mut words)?;
+    words.end()?;
+    let base = shelf.made(alloc, &plan)?;
+    shelf.put_file(alloc, name, base)
+}
+
+fn try_command(
+    alloc: Global,
+    shelf: &Shelf,
+    what: &str,
+    answer: &str,
+    report: &mut Report,
+) -> Result<(), LineError> {
+    Command::read(alloc, what)?.run(alloc, shelf, answer, report)
+}

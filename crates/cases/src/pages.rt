@@ -1,0 +1,138 @@
+//! The file of a case, as a file of pages.
+
+ghost use Rattle.std.specs.Prelude.{◌≡◌, ◌+◌, ℕ, None};
+ghost use Rattle.page_source.specs.Faults.{HasCause};
+
+use crate::sheaf::Sheaf;
+use page_source::{Failed, Page, PageSource, Steps};
+use std::alloc::Global;
+use std::marker::Model;
+use std::sync::ledger::Ledger;
+
+/// The pages of a file that aren't zeros: those of the edited ones, and where none is, those under them.
+#[derive(Clone, Copy, Debug)]
+pub struct Image<'a> {
+    pub over: &'a Sheaf,
+    pub under: &'a Sheaf,
+    /// How many whole pages the file has.
+    pub pages: u32,
+}
+
+impl Image<'_> {
+    /// Makes the page that of the file, where it has one with this number.
+    pub fn fill(&self, page: &mut Page, n: u32) -> bool {
+        if n >= self.pages {
+            return false;
+        }
+        match self.over.find(n).or(self.under.find(n)) {
+            Some(found) => page.put_bytes(0, found.bytes()),
+            None => page.clear(),
+        }
+        true
+    }
+}
+
+/// A file of pages that tells nothing. From its call number `turns_at` on, counted from 1, it is another one, and its
+/// call number `fails_at` fails.
+#[derive(Debug, Drop)]
+pub struct CasePages<'a> {
+    first: Image<'a>,
+    second: Image<'a>,
+    turns_at: u64,
+    fails_at: u64,
+    made: u64,
+    faults: u64,
+    fetched: Vec<u32>,
+}
+
+impl<'a> Model for CasePages<'a> {
+    ghost Value = { ℕ };
+
+    ghost view = { λ file. file.faults };
+}
+
+impl<'a> CasePages<'a> {
+    /// A file that stays as it is, and whose calls don't fail but those for pages that aren't there.
+    pub fn new(alloc: Global, image: Image<'a>) -> CasePages<'a> {
+        CasePages {
+            first: image,
+            second: image,
+            turns_at: 0,
+            fails_at: 0,
+            made: 0,
+            faults: 0,
+            fetched: Vec::new(alloc),
+        }
+    }
+
+    /// Makes the call with this number fail.
+    pub fn fail_at(&mut self, call: u64) {
+        self.fails_at = call;
+    }
+
+    /// Makes the file another one from the call with this number on.
+    pub fn turn_at(&mut self, call: u64, image: Image<'a>) {
+        self.turns_at = call;
+        self.second = image;
+    }
+
+    /// The numbers of the pages that were fetched, in order.
+    pub fn fetched(&self) -> &[u32] {
+        &self.fetched
+    }
+
+    /// Counts a call, and answers the file that it sees where it doesn't fail.
+    fn count_call(&mut self) -> Option<Image<'a>>
+        ensures { self.new ≡ self.old }
+    {
+        self.made = self.made.saturating_add(1);
+        if self.made == self.fails_at {
+            None
+        } else if self.made < self.turns_at {
+            Some(self.first)
+        } else {
+            Some(self.second)
+        }
+    }
+}
+
+impl PageSource for CasePages<'_> {
+    ghost content = { λ file. None };
+
+    ghost faults = { λ count. count };
+
+    fn pages(&mut self) -> Result<u32, Failed>
+        ensures cause { HasCause self.old self.new result }
+    {
+        match self.count_call() {
+            Some(image) => Ok(image.pages),
+            None => {
+                self.faults = self.faults.saturating_add(1);
+                Err(Failed)
+            }
+        }
+    }
+
+    fn fetch<L: Ledger>(
+        &mut self,
+        n: u32,
+        page: &mut Page,
+        steps: &mut Steps<L>,
+    ) -> Result<(), Failed>
+        ensures step { steps.new ≡ steps.old + 1 }
+        ensures cause { HasCause self.old self.new result }
+    {
+        steps.tick();
+        let is_there = match self.count_call() {
+            Some(image) => image.fill(page, n),
+            None => false,
+        };
+        if !is_there {
+            self.faults = self.faults.saturating_add(1);
+            return Err(Failed);
+        }
+        // Without memory the number is left out, and a line that asks for it finds another answer.
+        let _ = self.fetched.push(n);
+        Ok(())
+    }
+}

@@ -1,0 +1,264 @@
+//! A check or a dump of a case's file.
+
+ghost use Rattle.std.specs.Prelude.{◌≡◌, ◌<◌};
+
+use crate::error::LineError;
+use crate::outcome::{End, Outcome, put_checked};
+use crate::pages::{CasePages, Image};
+use crate::plan::{Plan, Trouble};
+use crate::sheaf::Sheaf;
+use crate::shelf::{Base, Shelf, edited};
+use crate::words::Range;
+use page_source::{ByteList, Fails, MemorySink, NoMemory, PAGE_SIZE, Steps};
+use schema_text::Schema;
+use sql_dump::dump;
+use std::alloc::Global;
+use std::marker::Brand;
+use std::sync::ledger::{Blank, Ledger};
+use table_check::check;
+
+/// The room of a sink of which a line says nothing.
+const ROOM: u64 = 1_000_000;
+
+/// Which of the two is run.
+#[derive(Clone, Copy, Debug, PartialEq, Eq)]
+pub enum Task {
+    Check,
+    Dump,
+}
+
+impl Task {
+    pub fn read(word: &str) -> Result<Task, LineError> {
+        match word {
+            "check" => Ok(Task::Check),
+            "dump" => Ok(Task::Dump),
+            _ => Err(LineError::Word),
+        }
+    }
+
+    /// The words for it behind what came.
+    pub fn which(self) -> &'static [u8] {
+        match self {
+            Task::Check => b" of check",
+            Task::Dump => b" of dump",
+        }
+    }
+}
+
+/// What goes wrong in one run.
+#[derive(Clone, Copy, Debug, PartialEq, Eq)]
+pub enum Hitch {
+    None,
+    /// This call of the file fails.
+    File(u64),
+    /// This call of the sink fails.
+    Sink(u64),
+    /// The sink has room for so many bytes.
+    Room(u64),
+    /// From this call on the file is the other one.
+    Turns(u64),
+}
+
+/// A file that stands ready, and the schema of its table.
+#[derive(Debug, Drop)]
+pub struct Ready<'a> {
+    base: &'a Base,
+    over: Sheaf,
+    pages: u32,
+    schema: &'a [u8],
+    later: Option<&'a Base>,
+}
+
+/// How many whole pages a file of so many bytes has.
+fn page_count(bytes: u64) -> u32 {
+    u32::try_from(bytes / PAGE_SIZE as u64).unwrap_or(u32::MAX)
+}
+
+impl<'a> Ready<'a> {
+    /// The file of the plan.
+    pub fn new(alloc: Global, shelf: &'a Shelf, plan: &Plan<'a>) -> Result<Ready<'a>, LineError> {
+        let base = shelf.file(plan.base)?;
+        let later = match plan.trouble {
+            Trouble::Turns(name, _) => Some(shelf.file(name)?),
+            _ => None,
+        };
+        Ok(Ready {
+            base,
+            over: edited(alloc, &base.sheaf, plan)?,
+            pages: page_count(base.resized(plan.size)),
+            schema: shelf.schema_of(plan)?,
+            later,
+        })
+    }
+
+    /// The file with these pages over its own.
+    pub fn of(base: &'a Base, over: Sheaf, schema: &'a [u8]) -> Ready<'a> {
+        Ready {
+            base,
+            over,
+            pages: page_count(base.size),
+            schema,
+            later: None,
+        }
+    }
+
+    /// The pages of the file.
+    pub fn image(&self) -> Image<'_> {
+        Image {
+            over: &self.over,
+            under: &self.base.sheaf,
+            pages: self.pages,
+        }
+    }
+
+    /// Its edited pages.
+    pub fn over(&mut self) -> &mut Sheaf {
+        &mut self.over
+    }
+
+    /// The pages that lie under these.
+    pub fn under(&self) -> &'a Sheaf {
+        &self.base.sheaf
+    }
+
+    /// How many whole pages the file has.
+    pub fn pages(&self) -> u32 {
+        self.pages
+    }
+
+    /// The schema text of its table.
+    pub fn schema(&self) -> &'a [u8] {
+        self.schema
+    }
+
+    /// The file of one run.
+    fn file(&self, alloc: Global, hitch: Hitch) -> CasePages<'_> {
+        let mut file = CasePages::new(alloc, self.image());
+        match (hitch, self.later) {
+            (Hitch::File(call), _) => file.fail_at(call),
+            (Hitch::Turns(call), Some(base)) => {
+                file.turn_at(
+                    call,
+                    Image {
+                        over: &base.sheaf,
+                        under: &base.sheaf,
+                        pages: page_count(base.size),
+                    },
+                );
+            }
+            _ => {}
+        }
+        file
+    }
+
+    /// How the task ends, and what it writes.
+    pub fn run(&self, alloc: Global, task: Task, hitch: Hitch) -> Result<Outcome, LineError> {
+        let mut file = self.file(alloc, hitch);
+        self.run_over(alloc, task, hitch, &mut file)
+    }
+
+    /// The numbers of the pages that are fetched, in order.
+    pub fn fetches(&self, alloc: Global, task: Task) -> Result<CasePages<'_>, LineError> {
+        let mut file = self.file(alloc, Hitch::None);
+        self.run_over(alloc, task, Hitch::None, &mut file)?;
+        Ok(file)
+    }
+
+    fn run_over(
+        &self,
+        alloc: Global,
+        task: Task,
+        hitch: Hitch,
+        file: &mut CasePages<'_>,
+    ) -> Result<Outcome, LineError> {
+        let schema = match Schema::read(alloc, self.schema) {
+            Ok(schema) => schema,
+            Err(error) => return Ok(Outcome::stopped(alloc, End::from(error))),
+        };
+        match task {
+            Task::Check => Ok(check_file::<Brand>(alloc, file, &schema, Blank::new(1))?),
+            Task::Dump => {
+                let mut sink = sink_of(alloc, hitch)?;
+                let end = dump_file::<Brand>(alloc, file, &schema, &mut sink, Blank::new(1));
+                let mut written = ByteList::new(alloc);
+                written.extend(sink.bytes())?;
+                Ok(Outcome { end, written })
+            }
+        }
+    }
+}
+
+/// A check of the file, and its numbers.
+fn check_file<L: Ledger>(
+    alloc: Global,
+    file: &mut CasePages<'_>,
+    schema: &Schema,
+    blank: Blank,
+) -> Result<Outcome, NoMemory>
+    requires name { blank.name ≡ L.name }
+    requires parts { blank.parts ≡ L.parts }
+    requires shared { 0 < blank.parts }
+{
+    match check(alloc, file, schema, &mut Steps::<L>::new(blank)) {
+        Ok(checked) => {
+            let mut written = ByteList::new(alloc);
+            put_checked(&mut written, &checked)?;
+            Ok(Outcome {
+                end: Ok(()),
+                written,
+            })
+        }
+        Err(stop) => Ok(Outcome::stopped(alloc, End::from(stop))),
+    }
+}
+
+/// A dump of the file into the sink.
+fn dump_file<L: Ledger>(
+    alloc: Global,
+    file: &mut CasePages<'_>,
+    schema: &Schema,
+    sink: &mut MemorySink,
+    blank: Blank,
+) -> Result<(), End>
+    requires name { blank.name ≡ L.name }
+    requires parts { blank.parts ≡ L.parts }
+    requires shared { 0 < blank.parts }
+{
+    dump(alloc, file, schema, sink, &mut Steps::<L>::new(blank))?;
+    Ok(())
+}
+
+/// The sink of one run.
+fn sink_of(alloc: Global, hitch: Hitch) -> Result<MemorySink, NoMemory> {
+    let room = match hitch {
+        Hitch::Room(room) => room.min(ROOM),
+        _ => ROOM,
+    };
+    let fails = match hitch {
+        Hitch::Sink(call) => Fails::of(alloc, &[call])?,
+        _ => Fails::of(alloc, &[])?,
+    };
+    MemorySink::new(alloc, room as usize, fails)
+}
+
+/// The numbers of what goes wrong, and what it is at each of them.
+pub fn numbers_of(trouble: Trouble<'_>) -> Range {
+    match trouble {
+        Trouble::None => Range { first: 0, last: 0 },
+        Trouble::File(range)
+        | Trouble::Sink(range)
+        | Trouble::Room(range)
+        | Trouble::Turns(_, range) => range,
+    }
+}
+
+/// What goes wrong at this number.
+pub fn hitch_at(trouble: Trouble<'_>, number: u64) -> Hitch {
+    match trouble {
+        Trouble::None => Hitch::None,
+        Trouble::File(_) => Hitch::File(number),
+        Trouble::Sink(_) => Hitch::Sink(number),
+        Trouble::Room(_) => Hitch::Room(number),
+        Trouble::Turns(_, _) => Hitch::Turns(number),
+    }
+}
