@@ -18,7 +18,7 @@ use std::sync::ledger::{Blank, Ledger};
 use table_check::check;
 
 /// The room of a sink of which a line says nothing.
-const ROOM: u64 = 1_000_000;
+const ROOM: u64 = 16_777_216;
 
 /// Which of the two is run.
 #[derive(Clone, Copy, Debug, PartialEq, Eq)]
