@@ -4,8 +4,6 @@
 mod ends;
 pub mod laws;
 mod leaf;
-#[cfg(test)]
-mod lost_rows;
 mod record;
 mod rows;
 mod table;

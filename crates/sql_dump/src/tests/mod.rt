@@ -3,4 +3,3 @@
 mod faults;
 mod files;
 mod lines;
-mod lost;
