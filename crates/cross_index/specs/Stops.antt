@@ -1,11 +1,12 @@
 -- What ends a comparison, from what ends the calls that it makes, and what it leaves of the file.
-use Rattle.std.specs.Prelude.{◌≡◌, ◌≤◌, ⊤, Result, Ok, Err}
+use Rattle.std.specs.Prelude.{◌≡◌, ℕ, ◌≤◌, ⊤, Result, Ok, Err}
 use Rattle.page_source.specs.declared.objects.PageSource.{Ghosts as FileOf}
 use Rattle.page_source.specs.declared.checks.Halt.{Halt}
 use Rattle.page_source.specs.declared.checks.Halt.TheVariants as halts
 use Rattle.page_source.specs.declared.checks.Stop.{Stop}
 use Rattle.page_source.specs.declared.checks.Stop.TheVariants as checks
 use Rattle.page_source.specs.Faults.{Rose}
+use Rattle.page_source.specs.Calls.{AsksNoMore}
 use Rattle.cross_index.specs.declared.crossed.CrossStop.{CrossStop}
 use Rattle.cross_index.specs.declared.crossed.CrossStop.TheVariants as stops
 
@@ -28,8 +29,11 @@ OnlyReads (Err (stops.Extra index page)) = ⊥
 OnlyReads (Err stops.Source) = ⊤
 OnlyReads (Err stops.Memory) = ⊤
 
--- the file is as before, its count of faults never fell, and it is blamed only where the count rose
-pub record CrossesOver {S A : Type 0} (g : FileOf S) (old new : S) (result : Result A CrossStop) : Type 0 where
+-- the file is as before, its count of faults never fell, it is blamed only where the count rose, and each page that it
+-- was asked for was counted
+pub record CrossesOver {S A : Type 0} (g : FileOf S) (old new : S) (steps steps_now : ℕ) (result : Result A CrossStop)
+    : Type 0 where
   pub same : g.content new ≡ g.content old
   pub later : g.faults old ≤ g.faults new
   pub rose : result ≡ Err stops.Source → Rose (g.faults old) (g.faults new)
+  pub asked : AsksNoMore g old new steps steps_now

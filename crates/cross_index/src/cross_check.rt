@@ -3,7 +3,7 @@
 ghost use Rattle.std.specs.Prelude.{◌+◌, ◌≤◌, OnOk};
 ghost use Rattle.page_source.specs.Calls.{OfFile};
 ghost use Rattle.space_header.specs.Header.{size_of};
-ghost use Rattle.table_check.specs.First.{TakesSteps, dump_steps};
+ghost use Rattle.table_check.specs.First.{TakesSteps, AsksAtMost, dump_steps};
 ghost use Rattle.cross_index.specs.Stops.{CrossesOver};
 ghost use Rattle.cross_index.specs.Cross.{Crosses};
 
@@ -30,9 +30,10 @@ pub fn cross<S: PageSource, L: Ledger>(
 ) -> Result<Crossed, CrossStop>
     ensures exact { OfFile S.PageSource source.old (λ file. Crosses file schema.now result) }
     ensures steps { TakesSteps S.PageSource source.old dump_steps steps.old steps.new }
+    ensures fetches { AsksAtMost S.PageSource source.old source.new dump_steps }
     ensures sized { OnOk result (OfFile S.PageSource source.old (λ file.
         steps.new ≤ steps.old + dump_steps (size_of file))) }
-    ensures over { CrossesOver S.PageSource source.old source.new result }
+    ensures over { CrossesOver S.PageSource source.old source.new steps.old steps.new result }
 {
     checks_are_validity();
     let indexes = schema.indexes().len() - 1;

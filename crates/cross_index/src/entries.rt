@@ -127,7 +127,7 @@ pub(crate) fn compare_entries<S: PageSource, L: Ledger>(
         (length asked.now.order.now))) }
     ensures exact { OfFile S.PageSource source.old (λ file. Compares file schema.now asked.now.index result) }
     ensures cost { steps.new ≤ steps.old + entries.old.leaf.may_fetch }
-    ensures over { CrossesOver S.PageSource source.old source.new result }
+    ensures over { CrossesOver S.PageSource source.old source.new steps.old steps.new result }
 {
     rows_can_be_read();
     let mut next = 0;

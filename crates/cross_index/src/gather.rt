@@ -45,7 +45,7 @@ fn gather_field<S: PageSource, L: Ledger>(
         room.new.left + length (pages_of_place file page.now place) ≡ room.old.left)) }
     ensures exact { OfFile S.PageSource source.old (λ file. OnlyReads result) }
     ensures cost { steps.new + room.new.left ≡ steps.old + room.old.left }
-    ensures over { CrossesOver S.PageSource source.old source.new result }
+    ensures over { CrossesOver S.PageSource source.old source.new steps.old steps.new result }
 {
     if place.null {
         cells.push_null()?;
@@ -91,7 +91,7 @@ fn gather_row<S: PageSource, L: Ledger>(
         room.new.left + pages_of_fields file page.now places.now kept.now ≡ room.old.left)) }
     ensures exact { OfFile S.PageSource source.old (λ file. OnlyReads result) }
     ensures cost { steps.new + room.new.left ≡ steps.old + room.old.left }
-    ensures over { CrossesOver S.PageSource source.old source.new result }
+    ensures over { CrossesOver S.PageSource source.old source.new steps.old steps.new result }
 {
     for k in kept {
         gather_field(source, page, place_of(places, *k), cells, room, steps)?;
@@ -138,7 +138,7 @@ pub(crate) fn gather_rows<S: PageSource, L: Ledger>(
         IsGathered file schema.now cells.new count)) }
     ensures exact { OfFile S.PageSource source.old (λ file. OnlyReads result) }
     ensures cost { steps.new ≤ steps.old + rows.old.leaf.may_fetch + room.old.left }
-    ensures over { CrossesOver S.PageSource source.old source.new result }
+    ensures over { CrossesOver S.PageSource source.old source.new steps.old steps.new result }
 {
     rows_can_be_read();
     has_one_chain();

@@ -48,7 +48,7 @@ pub(crate) fn gather<S: PageSource, L: Ledger>(
         IsGathered file schema.now found.cells found.count)) }
     ensures exact { OfFile S.PageSource source.old (λ file. OnlyReads result) }
     ensures cost { steps.new ≤ steps.old + ends.now.leaves + chain_pages }
-    ensures over { CrossesOver S.PageSource source.old source.new result }
+    ensures over { CrossesOver S.PageSource source.old source.new steps.old steps.new result }
 {
     trees_are_walked();
     let _ = *ends;

@@ -48,7 +48,7 @@ fn compare_index<S: PageSource, L: Ledger>(
     ensures exact { OfFile S.PageSource source.old (λ file. Compares file schema.now index result) }
     ensures few { OfFile S.PageSource source.old (λ file. IfOk result (λ count. count ≤ 2 ^ 47)) }
     ensures cost { steps.new ≤ steps.old + ends.now.leaves }
-    ensures over { CrossesOver S.PageSource source.old source.new result }
+    ensures over { CrossesOver S.PageSource source.old source.new steps.old steps.new result }
 {
     live_rows_rise();
     rows_can_be_read();
@@ -90,7 +90,7 @@ pub(crate) fn compare_indexes<S: PageSource, L: Ledger>(
     requires told { OfFile S.PageSource source.old (λ file. CanCompareAll file schema.now ends.now found.now) }
     ensures exact { OfFile S.PageSource source.old (λ file. ComparesAll file schema.now result) }
     ensures cost { steps.new ≤ steps.old + leaves_of (drop 1 ends.now) }
-    ensures over { CrossesOver S.PageSource source.old source.new result }
+    ensures over { CrossesOver S.PageSource source.old source.new steps.old steps.new result }
 {
     let all = ends.items();
     let mut entries = 0u64;

@@ -49,7 +49,7 @@ fn read_chain<S: PageSource, L: Ledger>(
         room.new.left + length (chain_pages file reference.now) ≡ room.old.left)) }
     ensures exact { OfFile S.PageSource source.old (λ file. OnlyReads result) }
     ensures cost { steps.new + room.new.left ≡ steps.old + room.old.left }
-    ensures over { CrossesOver S.PageSource source.old source.new result }
+    ensures over { CrossesOver S.PageSource source.old source.new steps.old steps.new result }
 {
     let mut reader = ChainReader::new(reference);
     while let Some(length) = reader.part(source, &mut room.page, &mut room.left, steps)? {
@@ -83,7 +83,7 @@ pub(crate) fn read_long<S: PageSource, L: Ledger>(
         room.new.left + length (chain_pages file (reference_of local.now)) ≡ room.old.left)) }
     ensures exact { OfFile S.PageSource source.old (λ file. OnlyReads result) }
     ensures cost { steps.new + room.new.left ≡ steps.old + room.old.left }
-    ensures over { CrossesOver S.PageSource source.old source.new result }
+    ensures over { CrossesOver S.PageSource source.old source.new steps.old steps.new result }
 {
     let (front, reference) = split(local);
     room.value.clear();

@@ -40,7 +40,7 @@ pub fn read_extents<S: PageSource, L: Ledger>(
     ensures read { IfOk result (λ extents. OfFile S.PageSource source.old (λ file. AreExtents file extents)) }
     ensures count { IfOk result (λ extents. length extents ≡ header.now.limit / 64) }
     ensures cost { steps.new ≤ steps.old + (header.now.limit + 16383) / 16384 }
-    ensures over { StopsOver S.PageSource source.old source.new result }
+    ensures over { StopsOver S.PageSource source.old source.new steps.old steps.new result }
 {
     let mut page = Page::zeroed(alloc)?;
     let mut extents = Extents::with_room(alloc, header.limit / 64)?;

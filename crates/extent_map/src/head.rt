@@ -47,7 +47,7 @@ pub fn check_head<S: PageSource, L: Ledger>(
     ensures header { IfOk result (λ header. OfFile S.PageSource source.old (λ file. HasHeader file header)) }
     ensures bounds { IfOk result HasBounds }
     ensures cost { steps.new ≤ steps.old + 1 }
-    ensures over { HaltsOver S.PageSource source.old source.new result }
+    ensures over { HaltsOver S.PageSource source.old source.new steps.old steps.new result }
 {
     let pages = source.pages()?;
     if pages < 4 {

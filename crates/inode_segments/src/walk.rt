@@ -128,7 +128,7 @@ impl Lists<'_> {
         ensures new { OnOk result (flag_in inodes.now.pages step.now.address.page ≡ false) }
         ensures cost { OnOk result (steps.new ≡ steps.old + 1) }
         ensures bound { steps.new ≤ steps.old + 1 }
-        ensures over { StopsOver S.PageSource source.old source.new result }
+        ensures over { StopsOver S.PageSource source.old source.new steps.old steps.new result }
     {
         if !self.may_go(&step.address, inodes) {
             return Err(Rule::InodeList.at(step.holder).into());
@@ -171,7 +171,7 @@ impl Lists<'_> {
         ensures size { OnOk result (length inodes.new.pages ≡ length inodes.old.pages) }
         ensures cost { OnOk result (steps.new + unmarked inodes.new.pages ≡ steps.old + unmarked inodes.old.pages) }
         ensures bound { steps.new ≤ steps.old + unmarked inodes.old.pages + 1 }
-        ensures over { StopsOver S.PageSource source.old source.new result }
+        ensures over { StopsOver S.PageSource source.old source.new steps.old steps.new result }
     {
         let base = self.base(full);
         let mut step = Step {
@@ -214,7 +214,7 @@ impl Lists<'_> {
         ensures size { OnOk result (length inodes.new.pages ≡ self.now.header.now.size) }
         ensures cost { OnOk result (steps.new + unmarked inodes.new.pages ≡ steps.old + self.now.header.now.size) }
         ensures bound { steps.new ≤ steps.old + self.now.header.now.size + 1 }
-        ensures over { StopsOver S.PageSource source.old source.new result }
+        ensures over { StopsOver S.PageSource source.old source.new steps.old steps.new result }
     {
         self.walk(source, true, inodes, page, steps)?;
         self.walk(source, false, inodes, page, steps)

@@ -47,9 +47,9 @@ touches_nothing old sink steps errors.Refused =
 touches_nothing old sink steps errors.Memory =
     record { ends = inr refl; file = refl; out = refl; steps_same = refl }
 
-pub over_no_key : {S O : Type 0} (g : FileOf S) (o : SinkOf O) (old : S) (sink : O) (error : RowError)
-    → GetsOver g o old old sink sink (Err (get_stop_of_row error))
-over_no_key g o old sink errors.Refused = record {
+pub over_no_key : {S O : Type 0} (g : FileOf S) (o : SinkOf O) (old : S) (sink : O) (steps : ℕ) (error : RowError)
+    → GetsOver g o old old sink sink steps steps (Err (get_stop_of_row error))
+over_no_key g o old sink steps errors.Refused = record {
   same = refl;
   source_later = omega arith;
   sink_later = omega arith;
@@ -57,8 +57,9 @@ over_no_key g o old sink errors.Refused = record {
   sink_rose = λ e. absurd (cc);
   absent = λ e. refl;
   unwritten = λ e. refl;
+  asked = omega arith;
 }
-over_no_key g o old sink errors.Memory = record {
+over_no_key g o old sink steps errors.Memory = record {
   same = refl;
   source_later = omega arith;
   sink_later = omega arith;
@@ -66,6 +67,7 @@ over_no_key g o old sink errors.Memory = record {
   sink_rose = λ e. absurd (cc);
   absent = λ e. refl;
   unwritten = λ e. refl;
+  asked = omega arith;
 }
 
 -- only such a text is refused

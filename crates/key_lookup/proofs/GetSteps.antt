@@ -201,9 +201,9 @@ write_memory (writes.Broken fault) e = cc
 write_memory writes.Source e = cc
 write_memory writes.Sink e = cc
 
-module _ {S O : Type 0} (g : FileOf S) (o : SinkOf O) (old mid new : S) (sink now : O) where
-  pub over_stop : (stop : Stop) → StopsOver {A = Option Found} g old new (Err stop)
-      → GetsOver g o old new sink sink (Err (get_stop_of stop))
+module _ {S O : Type 0} (g : FileOf S) (o : SinkOf O) (old mid new : S) (sink now : O) {steps steps_now : ℕ} where
+  pub over_stop : (stop : Stop) → StopsOver {A = Option Found} g old new steps steps_now (Err stop)
+      → GetsOver g o old new sink sink steps steps_now (Err (get_stop_of stop))
   over_stop stop over = record {
     same = over.same;
     source_later = over.cause.later;
@@ -212,10 +212,11 @@ module _ {S O : Type 0} (g : FileOf S) (o : SinkOf O) (old mid new : S) (sink no
     sink_rose = λ e. absurd (not_sink stop e);
     absent = λ e. refl;
     unwritten = λ e. refl;
+    asked = over.asked;
   }
 
-  pub over_absent : (found : Option Found) → StopsOver {A = Option Found} g old new (Ok found)
-      → GetsOver g o old new sink sink (Err gets.Absent)
+  pub over_absent : (found : Option Found) → StopsOver {A = Option Found} g old new steps steps_now (Ok found)
+      → GetsOver g o old new sink sink steps steps_now (Err gets.Absent)
   over_absent found over = record {
     same = over.same;
     source_later = over.cause.later;
@@ -224,11 +225,13 @@ module _ {S O : Type 0} (g : FileOf S) (o : SinkOf O) (old mid new : S) (sink no
     sink_rose = λ e. absurd (cc);
     absent = λ e. refl;
     unwritten = λ e. refl;
+    asked = over.asked;
   }
 
-  pub over_cut : (found : Option Found) (end : WriteStop) → StopsOver {A = Option Found} g old mid (Ok found)
-      → WritesOver {A = Unit {0}} g o mid new sink now (Err end)
-      → GetsOver g o old new sink now (Err (get_stop_of_write end))
+  pub over_cut : {spent : ℕ} (found : Option Found) (end : WriteStop)
+      → StopsOver {A = Option Found} g old mid steps spent (Ok found)
+      → WritesOver {A = Unit {0}} g o mid new sink now spent steps_now (Err end)
+      → GetsOver g o old new sink now steps steps_now (Err (get_stop_of_write end))
   over_cut found end first over = record {
     same = over.same ∙ first.same;
     source_later = omega (arith, first.cause.later, over.source_later);
@@ -237,10 +240,13 @@ module _ {S O : Type 0} (g : FileOf S) (o : SinkOf O) (old mid new : S) (sink no
     sink_rose = λ e. over.sink_rose (write_sink end e);
     absent = λ e. absurd (write_absent end e);
     unwritten = λ e. absurd (write_memory end e);
+    asked = omega (arith, first.asked, over.asked);
   }
 
-  pub over_done : (found : Option Found) (done : Unit {0}) → StopsOver {A = Option Found} g old mid (Ok found)
-      → WritesOver {A = Unit {0}} g o mid new sink now (Ok done) → GetsOver g o old new sink now (Ok done)
+  pub over_done : {spent : ℕ} (found : Option Found) (done : Unit {0})
+      → StopsOver {A = Option Found} g old mid steps spent (Ok found)
+      → WritesOver {A = Unit {0}} g o mid new sink now spent steps_now (Ok done)
+      → GetsOver g o old new sink now steps steps_now (Ok done)
   over_done found done first over = record {
     same = over.same ∙ first.same;
     source_later = omega (arith, first.cause.later, over.source_later);
@@ -249,4 +255,5 @@ module _ {S O : Type 0} (g : FileOf S) (o : SinkOf O) (old mid new : S) (sink no
     sink_rose = λ e. absurd (cc);
     absent = λ e. absurd (cc);
     unwritten = λ e. absurd (cc);
+    asked = omega (arith, first.asked, over.asked);
   }

@@ -4,6 +4,7 @@ use Rattle.page_source.specs.declared.objects.PageSource.{Ghosts as FileOf}
 use Rattle.page_source.specs.declared.objects.ByteSink.{Ghosts as SinkOf}
 use Rattle.page_source.specs.Faults.{Rose}
 use Rattle.page_source.specs.Objects.{GrowsBy, GrowsByPart}
+use Rattle.page_source.specs.Calls.{AsksNoMore}
 use Rattle.column_values.specs.declared.value.Value.{Value}
 use Rattle.column_values.specs.Order.{Key}
 use Rattle.schema_text.specs.TableDef.{TableDef}
@@ -64,9 +65,9 @@ pub record TouchesNothing {S O : Type 0} (old new : S) (sink sink_now : O) (step
   pub steps_same : steps_now ≡ steps
 
 -- what a look-up leaves of the two objects, told or not: the file is as before, a fault is answered only where the count
--- of that object rose, and else nothing is written but the line
+-- of that object rose, else nothing is written but the line, and each page that the file was asked for was counted
 pub record GetsOver {S O : Type 0} (g : FileOf S) (o : SinkOf O) (old new : S) (sink sink_now : O)
-    (result : Result (Unit {0}) GetStop) : Type 0 where
+    (steps steps_now : ℕ) (result : Result (Unit {0}) GetStop) : Type 0 where
   pub same : g.content new ≡ g.content old
   pub source_later : g.faults old ≤ g.faults new
   pub sink_later : o.faults sink ≤ o.faults sink_now
@@ -74,6 +75,7 @@ pub record GetsOver {S O : Type 0} (g : FileOf S) (o : SinkOf O) (old new : S) (
   pub sink_rose : result ≡ Err Sink → Rose (o.faults sink) (o.faults sink_now)
   pub absent : result ≡ Err Absent → sink_now ≡ sink
   pub unwritten : result ≡ Err Memory → sink_now ≡ sink
+  pub asked : AsksNoMore g old new steps steps_now
 
 -- the most steps of a look-up in so many pages, and those of one for a key: the head, the way, and the chains twice
 abbrev pub get_steps : ℕ → ℕ

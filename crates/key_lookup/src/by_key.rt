@@ -7,7 +7,7 @@ ghost use Rattle.column_values.specs.Order.{Key};
 ghost use Rattle.schema_text.specs.IndexFields.{leaf_fields};
 ghost use Rattle.row_text.specs.Line.{line_of};
 ghost use Rattle.tree_walk.specs.Records.{IsRecord};
-ghost use Rattle.table_check.specs.First.{TakesSteps};
+ghost use Rattle.table_check.specs.First.{TakesSteps, AsksAtMost};
 ghost use Rattle.sql_dump.specs.Stops.{Writes, WritesOver};
 ghost use Rattle.sql_dump.specs.Cells.{ReadsRow, CanReadRow, row_on};
 ghost use Rattle.key_lookup.specs.KeyOfText.{SpellsKey, IsNoKey};
@@ -43,7 +43,8 @@ fn write_row<S: PageSource, O: ByteSink, L: Ledger>(
         → ReadsRow file (row_on reader.old.table leaf.now found.origin) row_values
         → Writes result (O.written sink.old) (O.written sink.new) (line_of reader.old.table row_values)) }
     ensures cost { steps.new + room.new.left ≡ steps.old + room.old.left }
-    ensures over { WritesOver S.PageSource O.ByteSink source.old source.new sink.old sink.new result }
+    ensures over { WritesOver S.PageSource O.ByteSink source.old source.new sink.old sink.new
+        steps.old steps.new result }
 {
     reader.read(leaf, found.number, found.origin)?;
     let row = reader.row(leaf, found.number);
@@ -63,7 +64,8 @@ pub(crate) fn get_by_key<S: PageSource, O: ByteSink, L: Ledger>(
     ensures told { OfFile S.PageSource source.old (λ file.
         GetsByKey file schema.now key.now result (O.written sink.old) (O.written sink.new)) }
     ensures knows { result ≢ Err GetStop.Refused }
-    ensures over { GetsOver S.PageSource O.ByteSink source.old source.new sink.old sink.new result }
+    ensures over { GetsOver S.PageSource O.ByteSink source.old source.new sink.old sink.new
+        steps.old steps.new result }
     ensures few { OfFile S.PageSource source.old (λ file.
         steps.new ≤ steps.old + steps_for file schema.now key.now) }
     ensures steps { TakesSteps S.PageSource source.old get_steps steps.old steps.new }
@@ -119,10 +121,12 @@ pub fn get<S: PageSource, O: ByteSink, L: Ledger>(
     ensures refused { result ≡ Err GetStop.Refused → IsNoKey schema.now key.now }
     ensures first { IsNoKey schema.now key.now
         → TouchesNothing source.old source.new sink.old sink.new steps.old steps.new result }
-    ensures over { GetsOver S.PageSource O.ByteSink source.old source.new sink.old sink.new result }
+    ensures over { GetsOver S.PageSource O.ByteSink source.old source.new sink.old sink.new
+        steps.old steps.new result }
     ensures few { OfFile S.PageSource source.old (λ file. (sought : Key) → SpellsKey schema.now key.now sought
         → steps.new ≤ steps.old + steps_for file schema.now sought) }
     ensures steps { TakesSteps S.PageSource source.old get_steps steps.old steps.new }
+    ensures fetches { AsksAtMost S.PageSource source.old source.new get_steps }
 {
     schema_is_table(schema);
     text_spells_one_key();

@@ -91,7 +91,7 @@ fn check_link<S: PageSource, L: Ledger>(
     ensures within { OnOk result (link.page < length marks.now) }
     ensures new { OnOk result (is_set marks.now link.page ≡ false) }
     ensures cost { steps.new ≤ steps.old + 1 }
-    ensures over { HaltsOver S.PageSource source.old source.new result }
+    ensures over { HaltsOver S.PageSource source.old source.new steps.old steps.new result }
 {
     let fault = Rule::ChainPlace.at(link.holder);
     if !is_place(chain.header, marks, link.page) {
@@ -137,7 +137,7 @@ fn check_links<S: PageSource, L: Ledger>(
     ensures told { OfFile S.PageSource source.old (λ file.
         steps.new ≤ steps.old + length (pages_in file chain.now)) }
     ensures spent { OnOk result (steps.new + unmarked marks.new ≤ steps.old + unmarked marks.old) }
-    ensures over { HaltsOver S.PageSource source.old source.new result }
+    ensures over { HaltsOver S.PageSource source.old source.new steps.old steps.new result }
 {
     let mut due = chain.first();
     let mut count = 0;
@@ -184,7 +184,7 @@ pub(crate) fn check_chain<S: PageSource, L: Ledger>(
     ensures told { OfFile S.PageSource source.old (λ file.
         steps.new ≤ steps.old + length (chain_pages file reference.now)) }
     ensures spent { OnOk result (steps.new + unmarked marks.new ≤ steps.old + unmarked marks.old) }
-    ensures over { HaltsOver S.PageSource source.old source.new result }
+    ensures over { HaltsOver S.PageSource source.old source.new steps.old steps.new result }
 {
     if reference.length == 0 {
         return Err(Halt::Broken(Rule::ChainLength.at(holder)));

@@ -27,7 +27,7 @@ pub(crate) fn fetch_framed<S: PageSource, L: Ledger>(
     ensures exact { OfFile S.PageSource source.old (λ file. Halts result (FramedChecks file fault wanted n)) }
     ensures page { OnOk result (OfFile S.PageSource source.old (λ file. page.new ≡ page_of file n)) }
     ensures step { steps.new ≡ steps.old + 1 }
-    ensures over { HaltsOver S.PageSource source.old source.new result }
+    ensures over { HaltsOver S.PageSource source.old source.new steps.old steps.new result }
 {
     source.fetch(n, page, steps)?;
     if frame_fault(page, n, header.space) {

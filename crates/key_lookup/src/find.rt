@@ -63,7 +63,7 @@ pub(crate) fn find<S: PageSource, L: Ledger>(
     ensures few { IfOk result (λ found. TakesSteps S.PageSource source.old get_steps steps.old
         (steps.new + pages_found found)) }
     ensures cost { TakesSteps S.PageSource source.old get_steps steps.old steps.new }
-    ensures over { StopsOver S.PageSource source.old source.new result }
+    ensures over { StopsOver S.PageSource source.old source.new steps.old steps.new result }
 {
     let header = check_head(source, schema.flags(), &mut walk.child, steps)?;
     let mut marks = Marks::new(alloc, header.size)?;

@@ -14,6 +14,8 @@ mod look_up;
 mod record;
 mod room;
 mod stop;
+#[cfg(test)]
+mod tests;
 mod tree;
 mod value;
 mod way;

@@ -57,7 +57,7 @@ pub(crate) fn look_up<S: PageSource, L: Ledger>(
         steps.new ≤ steps.old + root_level index + 1 + length (found_pages index (found_row index key.now))) }
     ensures few { IfOk result (λ found. steps.new + pages_found found ≤ steps.old + 51 + 2 * length marks.old) }
     ensures cost { steps.new ≤ steps.old + 52 + length marks.old }
-    ensures over { HaltsOver S.PageSource source.old source.new result }
+    ensures over { HaltsOver S.PageSource source.old source.new steps.old steps.new result }
 {
     let number = find_leaf(walk, source, tree, key, steps)?;
     let Some(origin) = find_row(&mut walk.first, &walk.child, tree.leaf, key) else {

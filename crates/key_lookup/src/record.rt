@@ -5,7 +5,7 @@ ghost use Rattle.column_values.specs.Types.{AreFields, IsFieldKind};
 ghost use Rattle.compact_record.specs.Keys.{LiesBelow, IsWholeReading};
 ghost use Rattle.space_audit.specs.Marks.{is_set};
 ghost use Rattle.table_check.specs.Marking.{ChecksPages};
-ghost use Rattle.page_source.specs.Calls.{OfFile};
+ghost use Rattle.page_source.specs.Calls.{OfFile, AsksNoMore};
 ghost use Rattle.key_lookup.specs.Values.{CanMark, FieldChecksOn, RecordChecksOn, pages_of_field_on, pages_of_record_on};
 
 use crate::leaf::Leaf;
@@ -33,6 +33,7 @@ fn check_field<S: PageSource, L: Ledger>(
     ensures checks { ChecksPages S.PageSource source.old source.new marks.old marks.new steps.old steps.new result
         (λ file. FieldChecksOn file leaf.now kind place (is_set marks.old))
         (λ file. pages_of_field_on file leaf.now kind place) }
+    ensures asked { AsksNoMore S.PageSource source.old source.new steps.old steps.new }
     ensures told { OfFile S.PageSource source.old (λ file.
         steps.new ≤ steps.old + length (pages_of_field_on file leaf.now kind place)) }
 {
@@ -62,6 +63,7 @@ pub(crate) fn check_record<S: PageSource, L: Ledger>(
     ensures checks { ChecksPages S.PageSource source.old source.new marks.old marks.new steps.old steps.new result
         (λ file. RecordChecksOn file leaf.now located.now.origin (is_set marks.old))
         (λ file. pages_of_record_on file leaf.now located.now.origin) }
+    ensures asked { AsksNoMore S.PageSource source.old source.new steps.old steps.new }
     ensures told { OfFile S.PageSource source.old (λ file.
         steps.new ≤ steps.old + length (pages_of_record_on file leaf.now located.now.origin)) }
 {

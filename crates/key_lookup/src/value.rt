@@ -3,7 +3,7 @@
 ghost use Rattle.std.specs.Prelude.{◌≡◌, ◌+◌, ◌-◌, ◌≤◌, ◌↔◌, IsTrue, ℕ, List, [], length, IfOk, OnOk, true};
 ghost use Rattle.page_source.specs.Lists.{unmarked};
 ghost use Rattle.page_source.specs.Checks.{Halts};
-ghost use Rattle.page_source.specs.Calls.{OfFile, HaltsOver};
+ghost use Rattle.page_source.specs.Calls.{OfFile, AsksNoMore};
 ghost use Rattle.column_values.specs.Types.{IsColumnType};
 ghost use Rattle.column_values.specs.Characters.{IsTextOfKind};
 ghost use Rattle.column_values.specs.Utf8Reader.{CountsUpTo, WasFed, TakesText};
@@ -41,6 +41,7 @@ fn check_external<S: PageSource, L: Ledger>(
     ensures checks { ChecksPages S.PageSource source.old source.new marks.old marks.new steps.old steps.new result
         (λ file. FoundValueChecks file leaf.now.number kind.now local.now true (is_set marks.old))
         (λ file. pages_of_value file local.now true) }
+    ensures asked { AsksNoMore S.PageSource source.old source.new steps.old steps.new }
     ensures told { OfFile S.PageSource source.old (λ file.
         steps.new ≤ steps.old + length (pages_of_value file local.now true)) }
 {
@@ -79,6 +80,7 @@ pub(crate) fn check_value<S: PageSource, L: Ledger>(
     ensures checks { ChecksPages S.PageSource source.old source.new marks.old marks.new steps.old steps.new result
         (λ file. ValueChecksOn file leaf.now kind.now place (is_set marks.old))
         (λ file. pages_of_value_on file leaf.now place) }
+    ensures asked { AsksNoMore S.PageSource source.old source.new steps.old steps.new }
     ensures told { OfFile S.PageSource source.old (λ file.
         steps.new ≤ steps.old + length (pages_of_value_on file leaf.now place)) }
 {

@@ -95,7 +95,7 @@ fn check_root<S: PageSource, L: Ledger>(
     ensures held { IfOk result (λ due. IsHeldNode walk.new tree.now.leaf.now tree.now.node.now due) }
     ensures room { HasSameRoom walk.old walk.new }
     ensures cost { steps.new ≤ steps.old + 1 }
-    ensures over { HaltsOver S.PageSource source.old source.new result }
+    ensures over { HaltsOver S.PageSource source.old source.new steps.old steps.new result }
 {
     let root = tree.root;
     let fault = Rule::RootPlace.at(root);
@@ -150,7 +150,7 @@ fn check_next<S: PageSource, L: Ledger>(
     ensures held { OnOk result (IsHeldNode walk.new tree.now.leaf.now tree.now.node.now due) }
     ensures room { HasSameRoom walk.old walk.new }
     ensures cost { steps.new ≤ steps.old + 1 }
-    ensures over { HaltsOver S.PageSource source.old source.new result }
+    ensures over { HaltsOver S.PageSource source.old source.new steps.old steps.new result }
 {
     let n = due.stand.page;
     if n >= tree.header.size {
@@ -290,7 +290,7 @@ pub(crate) fn find_leaf<S: PageSource, L: Ledger>(
     ensures told { OfIndex S.PageSource source.old tree.now (λ index.
         steps.new ≤ steps.old + root_level index + 1) }
     ensures cost { steps.new ≤ steps.old + 51 }
-    ensures over { HaltsOver S.PageSource source.old source.new result }
+    ensures over { HaltsOver S.PageSource source.old source.new steps.old steps.new result }
 {
     let mut due = check_root(walk, source, tree, steps)?;
     while due.stand.level > 0 {

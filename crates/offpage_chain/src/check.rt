@@ -92,7 +92,7 @@ fn check_page<S: PageSource, L: Ledger>(
     ensures within { OnOk result (due.page < length marks.now) }
     ensures new { OnOk result (is_set marks.now due.page ≡ false) }
     ensures cost { steps.new ≤ steps.old + 1 }
-    ensures over { HaltsOver S.PageSource source.old source.new result }
+    ensures over { HaltsOver S.PageSource source.old source.new steps.old steps.new result }
 {
     if !is_place(chain.space, chain.segment, marks, due.page) {
         return Err(Halt::Broken(Rule::ChainPlace.at(due.holder)));
@@ -128,7 +128,7 @@ fn check_pages<S: PageSource, L: Ledger>(
     ensures cost { steps.new + unmarked marks.new ≤ steps.old + unmarked marks.old + 1 }
     ensures fewer { IfOk result (λ count. count + unmarked marks.new ≤ unmarked marks.old) }
     ensures spent { OnOk result (steps.new + unmarked marks.new ≤ steps.old + unmarked marks.old) }
-    ensures over { HaltsOver S.PageSource source.old source.new result }
+    ensures over { HaltsOver S.PageSource source.old source.new steps.old steps.new result }
 {
     let _size = chain.space.size();
     let mut due = chain.first();
@@ -176,7 +176,7 @@ pub fn check_chain<S: PageSource, L: Ledger>(
     ensures cost { steps.new + unmarked marks.new ≤ steps.old + unmarked marks.old + 1 }
     ensures fewer { IfOk result (λ count. count + unmarked marks.new ≤ unmarked marks.old) }
     ensures spent { OnOk result (steps.new + unmarked marks.new ≤ steps.old + unmarked marks.old) }
-    ensures over { HaltsOver S.PageSource source.old source.new result }
+    ensures over { HaltsOver S.PageSource source.old source.new steps.old steps.new result }
 {
     if reference.length == 0 {
         return Err(Halt::Broken(Rule::ChainLength.at(holder)));

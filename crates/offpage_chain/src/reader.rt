@@ -58,8 +58,9 @@ impl ChainReader {
             → LacksPart self.old page.new left.old fault }
         ensures kept { OnErr result (self.new ≡ self.old) }
         ensures one { left.old ≤ left.new + 1 }
+        ensures once { S.fetches source.new ≤ S.fetches source.old + 1 }
         ensures cost { steps.new + left.new ≡ steps.old + left.old }
-        ensures over { HaltsOver S.PageSource source.old source.new result }
+        ensures over { HaltsOver S.PageSource source.old source.new steps.old steps.new result }
     {
         if self.lacks == 0 {
             return Ok(None);

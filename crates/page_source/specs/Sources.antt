@@ -33,6 +33,7 @@ pub record ChangingFile : Type 0 where
   pub at : ℕ
   pub made : ℕ
   pub faults : ℕ
+  pub fetches : ℕ
 
 -- the bytes that the next call sees
 abbrev pub seen_next : ChangingFile → List ℕ
@@ -41,3 +42,8 @@ seen_next file = if nat_lt (one_more file.made) file.at then file.first else fil
 -- after a call that failed or not
 abbrev pub after_seen : ChangingFile → Bool → ChangingFile
 after_seen file failed = record file { made = one_more file.made; faults = count_after file.faults failed }
+
+-- what a file counts that tells nothing else
+pub record FileCounts : Type 0 where
+  pub faults : ℕ
+  pub fetches : ℕ

@@ -1,8 +1,9 @@
 //! Real files as the outside objects. Each opens its file at its first call, counts its faults, and
-//! tells nothing of what the file holds: all that is seen of it is the count.
+//! tells nothing of what the file holds: all that is seen of it is the count, and of a file of pages how many were
+//! asked for.
 
 ghost use Rattle.std.specs.Prelude.{◌≡◌, ◌+◌, ◌<◌, ◌≤◌, ℕ, length, IfOk, None, is_err};
-ghost use Rattle.page_source.specs.Faults.{HasCause, count_after};
+ghost use Rattle.page_source.specs.Faults.{HasCause, AsksOne, count_after, one_more};
 ghost use Rattle.page_source.specs.Objects.{untold};
 
 use crate::counted::counted;
@@ -115,22 +116,26 @@ fn open_word<R: Files>(rt: &R, word: Option<&[u8]>, opening: Opening) -> io::Res
 pub struct FilePages<'a, R: Files> {
     named: NamedFile<'a, R>,
     faults: u64,
+    fetches: u64,
 }
 
 impl<'a, R: Files> Model for FilePages<'a, R> {
-    ghost Value = { ℕ };
+    ghost use Rattle.page_source.specs.Sources.{FileCounts};
 
-    ghost view = { λ s. s.faults };
+    ghost Value = { FileCounts };
+
+    ghost view = { λ s. record { faults = s.faults; fetches = s.fetches } };
 }
 
 impl<'a, R: Files> FilePages<'a, R> {
     /// The file that the word names; none where the word is missing.
     pub fn new(rt: &'a R, word: Option<&'a [u8]>) -> Self
-        ensures { result ≡ 0 }
+        ensures { result ≡ record { faults = 0; fetches = 0 } }
     {
         FilePages {
             named: NamedFile::new(rt, word, Opening::ForReading),
             faults: 0,
+            fetches: 0,
         }
     }
 }
@@ -138,11 +143,14 @@ impl<'a, R: Files> FilePages<'a, R> {
 impl<R: Files> PageSource for FilePages<'_, R> {
     ghost content = { λ s. None };
 
-    ghost faults = { λ count. count };
+    ghost faults = { λ count. count.faults };
+
+    ghost fetches = { λ count. count.fetches };
 
     fn pages(&mut self) -> Result<u32, Failed>
-        ensures count { self.new ≡ count_after self.old (is_err result) }
-        ensures cause { HasCause self.old self.new result }
+        ensures count { self.new ≡ record self.old { faults = count_after self.old.faults (is_err result) } }
+        ensures cause { HasCause self.old.faults self.new.faults result }
+        ensures asked { self.new.fetches ≡ self.old.fetches }
     {
         let done = self.named.count_pages();
         counted(&mut self.faults, done)
@@ -155,10 +163,15 @@ impl<R: Files> PageSource for FilePages<'_, R> {
         steps: &mut Steps<L>,
     ) -> Result<(), Failed>
         ensures step { steps.new ≡ steps.old + 1 }
-        ensures count { self.new ≡ count_after self.old (is_err result) }
-        ensures cause { HasCause self.old self.new result }
+        ensures count { self.new ≡ record {
+          faults = count_after self.old.faults (is_err result);
+          fetches = one_more self.old.fetches;
+        } }
+        ensures cause { HasCause self.old.faults self.new.faults result }
+        ensures asked { AsksOne self.old.fetches self.new.fetches }
     {
         steps.tick();
+        self.fetches = self.fetches.saturating_add(1);
         let done = self.named.read_page(n, page);
         counted(&mut self.faults, done)
     }

@@ -83,7 +83,7 @@ pub(crate) fn check_frames<S: PageSource, L: Ledger>(
         (λ file. AreKinds file (length owners.now) found.kinds.items found.used)) }
     ensures count { IfOk result (λ found. length found.kinds.items ≡ length owners.now) }
     ensures cost { steps.new ≤ steps.old + unmarked inodes.now.pages }
-    ensures over { StopsOver S.PageSource source.old source.new result }
+    ensures over { StopsOver S.PageSource source.old source.new steps.old steps.new result }
 {
     used_pages_are_of_extents();
     let mut kinds = Kinds::with_room(alloc, owners.len() as u32)?;
@@ -111,7 +111,7 @@ fn find_kind<S: PageSource, L: Ledger>(
     ensures exact { OfFile S.PageSource source.old (λ file. Answers result (FrameCheck file n)) }
     ensures kind { IfOk result (λ found. OfFile S.PageSource source.old (λ file. IsKind file n found)) }
     ensures cost { steps.new ≤ steps.old + fetches_at inodes.now.pages n }
-    ensures over { StopsOver S.PageSource source.old source.new result }
+    ensures over { StopsOver S.PageSource source.old source.new steps.old steps.new result }
 {
     if inodes.is_inode_page(n) {
         return Ok(Some(FIL_PAGE_INODE));

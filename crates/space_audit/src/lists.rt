@@ -33,6 +33,7 @@ pub(crate) fn check_lists<L: Ledger>(
     ensures exact { (file : List ℕ) → IsListed file header.now inodes.now nodes.now homes.now.numbers
         → Answers result (ListChecks file) }
     ensures bound { steps.new ≤ steps.old + 2 * length nodes.now }
+    ensures onward { steps.old ≤ steps.new }
     ensures source { result ≢ Err Stop.Source }
 {
     used_pages_are_of_extents();
@@ -88,6 +89,7 @@ fn check_three<L: Ledger>(
         + length (at_home homes.now.numbers (home + 1)) + length (at_home homes.now.numbers (home + 2)))) }
     ensures bound { steps.new ≤ steps.old + (length (at_home homes.now.numbers home)
         + length (at_home homes.now.numbers (home + 1)) + length nodes.now) }
+    ensures onward { steps.old ≤ steps.new }
     ensures source { result ≢ Err Stop.Source }
 {
     check_list(alloc, first, holder, nodes, homes, home, steps)?;
@@ -113,6 +115,7 @@ fn check_list<L: Ledger>(
         (numbered_list homes.now.numbers base.now holder home)) }
     ensures followed { OnOk result (steps.new ≡ steps.old + length (at_home homes.now.numbers home)) }
     ensures bound { steps.new ≤ steps.old + length nodes.now }
+    ensures onward { steps.old ≤ steps.new }
     ensures source { result ≢ Err Stop.Source }
 {
     links_one_list();

@@ -51,7 +51,7 @@ pub fn audit<S: PageSource, L: Ledger>(
     ensures told { OfFile S.PageSource source.old (λ file. steps.new ≤ steps.old + audit_steps (page_count file)) }
     ensures sized { IfOk result (λ space. steps.new ≤ steps.old + audit_steps space.size) }
     ensures most { steps.new ≤ steps.old + audit_steps 4194304 }
-    ensures over { StopsOver S.PageSource source.old source.new result }
+    ensures over { StopsOver S.PageSource source.old source.new steps.old steps.new result }
 {
     let mut page = Page::zeroed(alloc)?;
     let header = check_head(source, flags, &mut page, steps)?;
@@ -72,7 +72,7 @@ fn audit_space<S: PageSource, L: Ledger>(
     ensures audited { IfOk result (λ space. OfFile S.PageSource source.old (λ file. IsSpaceOf file space)) }
     ensures size { IfOk result (λ space. space.size ≡ header.now.size) }
     ensures cost { steps.new + 1 ≤ steps.old + audit_steps header.now.size }
-    ensures over { StopsOver S.PageSource source.old source.new result }
+    ensures over { StopsOver S.PageSource source.old source.new steps.old steps.new result }
 {
     descriptor_checks_are_sound();
     flags_are_fragment_pages();
@@ -101,7 +101,7 @@ fn audit_pages<S: PageSource, L: Ledger>(
     ensures audited { IfOk result (λ space. OfFile S.PageSource source.old (λ file. IsSpaceOf file space)) }
     ensures size { IfOk result (λ space. space.size ≡ header.now.size) }
     ensures cost { steps.new ≤ steps.old + 2 * length extents.now + unmarked inodes.pages }
-    ensures over { StopsOver S.PageSource source.old source.new result }
+    ensures over { StopsOver S.PageSource source.old source.new steps.old steps.new result }
 {
     used_pages_are_of_extents();
     let owners = find_owners(alloc, header, extents, &inodes, steps)?;
@@ -134,6 +134,7 @@ fn find_owners<L: Ledger>(
         → HasHeader file header.now → AreOwners file owners.items) }
     ensures count { IfOk result (λ owners. length owners.items ≡ header.now.size) }
     ensures cost { steps.new ≤ steps.old + 2 * length extents.now }
+    ensures onward { steps.old ≤ steps.new }
     ensures source { result ≢ Err Stop.Source }
 {
     let homes = read_homes(alloc, extents, inodes)?;

@@ -138,6 +138,7 @@ pub fn follow<L: Ledger>(
     ensures broken { result ≡ Err FollowError.ChainBroken → (list : List ℕ) → ¬ (LinksExtents base.now nodes.now list) }
     ensures followed { IfOk result (λ list. steps.new ≡ steps.old + length list) }
     ensures bound { steps.new ≤ steps.old + length nodes.now }
+    ensures onward { steps.old ≤ steps.new }
 {
     if base.length as usize > nodes.len() {
         return Err(FollowError::ChainBroken);

@@ -4,6 +4,7 @@ use Rattle.page_source.specs.declared.objects.PageSource.{Ghosts as FileOf}
 use Rattle.page_source.specs.declared.objects.ByteSink.{Ghosts as SinkOf}
 use Rattle.page_source.specs.Faults.{Rose}
 use Rattle.page_source.specs.Objects.{GrowsBy, GrowsByPart}
+use Rattle.page_source.specs.Calls.{AsksNoMore}
 use Rattle.column_values.specs.declared.value.Value.{Value}
 use Rattle.schema_text.specs.TableDef.{TableDef}
 use Rattle.row_text.specs.Line.{text_of}
@@ -44,12 +45,13 @@ Dumps file table (Err Sink) old new = First file table None × GrewByPart file t
 Dumps file table (Err Memory) old new = new ≡ old
 
 -- what a dump leaves of the two objects, told or not: the file is as before, a fault is answered only where the count
--- of that object rose, and for want of memory nothing is written
+-- of that object rose, for want of memory nothing is written, and each page that the file was asked for was counted
 pub record DumpsOver {S O : Type 0} (g : FileOf S) (o : SinkOf O) (old new : S) (sink sink_now : O)
-    (result : Result Checked DumpStop) : Type 0 where
+    (steps steps_now : ℕ) (result : Result Checked DumpStop) : Type 0 where
   pub same : g.content new ≡ g.content old
   pub source_later : g.faults old ≤ g.faults new
   pub sink_later : o.faults sink ≤ o.faults sink_now
   pub source_rose : result ≡ Err Source → Rose (g.faults old) (g.faults new)
   pub sink_rose : result ≡ Err Sink → Rose (o.faults sink) (o.faults sink_now)
   pub unwritten : result ≡ Err Memory → sink_now ≡ sink
+  pub asked : AsksNoMore g old new steps steps_now

@@ -7,6 +7,7 @@ use Rattle.page_source.specs.declared.checks.Halt.TheVariants as halts
 use Rattle.page_source.specs.declared.checks.Stop.{Stop}
 use Rattle.page_source.specs.declared.checks.Stop.TheVariants as stops
 use Rattle.page_source.specs.Faults.{Rose}
+use Rattle.page_source.specs.Calls.{AsksNoMore}
 use Rattle.page_source.specs.Objects.{GrowsBy, GrowsByPart}
 use Rattle.sql_dump.specs.declared.stop.WriteStop.{WriteStop}
 use Rattle.sql_dump.specs.declared.stop.WriteStop.TheVariants.{Broken, Source, Sink}
@@ -35,11 +36,13 @@ Writes (Err (Broken fault)) old new text = ⊥
 Writes (Err Source) old new text = GrowsByPart old new text
 Writes (Err Sink) old new text = GrowsByPart old new text
 
--- the file is as before, no count of faults fell, and an object is blamed only where its own rose
+-- the file is as before, no count of faults fell, an object is blamed only where its own rose, and each page that the
+-- file was asked for was counted
 pub record WritesOver {S O A : Type 0} (g : FileOf S) (o : SinkOf O) (old new : S) (sink sink_now : O)
-    (result : Result A WriteStop) : Type 0 where
+    (steps steps_now : ℕ) (result : Result A WriteStop) : Type 0 where
   pub same : g.content new ≡ g.content old
   pub source_later : g.faults old ≤ g.faults new
   pub sink_later : o.faults sink ≤ o.faults sink_now
   pub source_rose : result ≡ Err Source → Rose (g.faults old) (g.faults new)
   pub sink_rose : result ≡ Err Sink → Rose (o.faults sink) (o.faults sink_now)
+  pub asked : AsksNoMore g old new steps steps_now

@@ -85,7 +85,8 @@ pub(crate) fn put_value<S: PageSource, O: ByteSink, L: Ledger>(
     ensures came { OnOk result (writer.new.came ≡ writer.old.came + 1) }
     ensures near { IsNear cell.now.place → room.new.left ≡ room.old.left }
     ensures cost { steps.new + room.new.left ≡ steps.old + room.old.left }
-    ensures over { WritesOver S.PageSource O.ByteSink source.old source.new sink.old sink.new result }
+    ensures over { WritesOver S.PageSource O.ByteSink source.old source.new sink.old sink.new
+        steps.old steps.new result }
 {
     parts_are_the_value();
     if cell.place.null {

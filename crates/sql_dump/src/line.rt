@@ -3,7 +3,7 @@
 ghost use Rattle.std.specs.Prelude.{◌≡◌, ◌≢◌, ◌+◌, ◌≤◌, List, length, IfOk, OnOk, OnErr, Err};
 ghost use Rattle.page_source.specs.Faults.{Rose, HasCause};
 ghost use Rattle.page_source.specs.Objects.{GrowsByPart};
-ghost use Rattle.page_source.specs.Calls.{OfFile};
+ghost use Rattle.page_source.specs.Calls.{OfFile, AsksNoMore};
 ghost use Rattle.column_values.specs.declared.value.Value.{Value};
 ghost use Rattle.row_text.specs.Line.{line_of};
 ghost use Rattle.sql_dump.specs.Stops.{WritesOver};
@@ -53,6 +53,7 @@ fn keep_line<S: PageSource, L: Ledger>(
     ensures same { S.content source.new ≡ S.content source.old }
     ensures later { S.faults source.old ≤ S.faults source.new }
     ensures rose { result ≡ Err WriteStop.Source → Rose (S.faults source.old) (S.faults source.new) }
+    ensures asked { AsksNoMore S.PageSource source.old source.new steps.old steps.new }
     ensures sink { result ≢ Err WriteStop.Sink }
 {
     if !row.is_near() {
@@ -89,7 +90,8 @@ pub(crate) fn put_line<S: PageSource, O: ByteSink, L: Ledger>(
     ensures left { OnOk result (OfFile S.PageSource source.old (λ file.
         room.new.left + length (pages_of_all file row.now) ≡ room.old.left)) }
     ensures cost { steps.new + room.new.left ≡ steps.old + room.old.left }
-    ensures over { WritesOver S.PageSource O.ByteSink source.old source.new sink.old sink.new result }
+    ensures over { WritesOver S.PageSource O.ByteSink source.old source.new sink.old sink.new
+        steps.old steps.new result }
 {
     make_room(buffer, sink)?;
     if keep_line(source, buffer, row, room, steps)? {

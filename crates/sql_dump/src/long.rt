@@ -122,7 +122,8 @@ fn put_chain<S: PageSource, O: ByteSink, L: Ledger>(
         room.new.left + length (chain_pages file reference.now) ≡ room.old.left)) }
     ensures came { OnOk result (writer.new ≡ record { came = writer.old.came; lacks = 0 }) }
     ensures cost { steps.new + room.new.left ≡ steps.old + room.old.left }
-    ensures over { WritesOver S.PageSource O.ByteSink source.old source.new sink.old sink.new result }
+    ensures over { WritesOver S.PageSource O.ByteSink source.old source.new sink.old sink.new
+        steps.old steps.new result }
 {
     parts_are_the_value();
     let mut reader = ChainReader::new(reference);
@@ -155,7 +156,8 @@ pub(crate) fn put_long<S: PageSource, O: ByteSink, L: Ledger>(
         room.new.left + length (chain_pages file (reference_of local.now)) ≡ room.old.left)) }
     ensures came { OnOk result (writer.new ≡ with_value writer.old 0) }
     ensures cost { steps.new + room.new.left ≡ steps.old + room.old.left }
-    ensures over { WritesOver S.PageSource O.ByteSink source.old source.new sink.old sink.new result }
+    ensures over { WritesOver S.PageSource O.ByteSink source.old source.new sink.old sink.new
+        steps.old steps.new result }
 {
     parts_are_the_value();
     let value = split_local(local);

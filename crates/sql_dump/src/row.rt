@@ -79,7 +79,8 @@ pub fn put_row<S: PageSource, O: ByteSink, L: Ledger>(
         room.new.left + length (pages_of_all file row.now) ≡ room.old.left)) }
     ensures near { All IsNear row.now.places → room.new.left ≡ room.old.left }
     ensures cost { steps.new + room.new.left ≡ steps.old + room.old.left }
-    ensures over { WritesOver S.PageSource O.ByteSink source.old source.new sink.old sink.new result }
+    ensures over { WritesOver S.PageSource O.ByteSink source.old source.new sink.old sink.new
+        steps.old steps.new result }
 {
     let mut writer = RowWriter::begin(sink, row.schema)?;
     for c in 0..row.schema.columns().len() {

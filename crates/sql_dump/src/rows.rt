@@ -38,7 +38,8 @@ pub(crate) fn put_rows<S: PageSource, O: ByteSink, L: Ledger>(
     ensures some { OnOk result
         (GrowsByRows reader.old.table (O.written sink.old) (O.written sink.new) rows.old.live) }
     ensures cost { steps.new ≤ steps.old + rows.old.leaf.may_fetch + room.old.left }
-    ensures over { WritesOver S.PageSource O.ByteSink source.old source.new sink.old sink.new result }
+    ensures over { WritesOver S.PageSource O.ByteSink source.old source.new sink.old sink.new
+        steps.old steps.new result }
 {
     while let Some(origin) = rows.next(source, steps)? {
         let (page, number) = (rows.page(), rows.number());

@@ -2,7 +2,7 @@
 
 ghost use Rattle.std.specs.Prelude.{◌≤◌, ◌+◌, IfOk};
 ghost use Rattle.page_source.specs.Calls.{OfFile};
-ghost use Rattle.table_check.specs.First.{TakesSteps, dump_steps};
+ghost use Rattle.table_check.specs.First.{TakesSteps, AsksAtMost, dump_steps};
 ghost use Rattle.sql_dump.specs.Dump.{Dumps, DumpsOver};
 ghost use Rattle.sql_dump.specs.SomeRows.{GrowsByRows};
 
@@ -34,8 +34,10 @@ pub fn dump<S: PageSource, O: ByteSink, L: Ledger>(
         Dumps file schema.now result (O.written sink.old) (O.written sink.new)) }
     ensures lines { IfOk result (λ checked.
         GrowsByRows schema.now (O.written sink.old) (O.written sink.new) checked.rows) }
-    ensures over { DumpsOver S.PageSource O.ByteSink source.old source.new sink.old sink.new result }
+    ensures over { DumpsOver S.PageSource O.ByteSink source.old source.new sink.old sink.new
+        steps.old steps.new result }
     ensures steps { TakesSteps S.PageSource source.old dump_steps steps.old steps.new }
+    ensures fetches { AsksAtMost S.PageSource source.old source.new dump_steps }
     ensures sized { IfOk result (λ checked. steps.new ≤ steps.old + dump_steps checked.pages) }
 {
     schema_is_table(schema);

@@ -1,5 +1,6 @@
 pub mod ValueStages
 pub mod Progress
+pub mod Asked
 pub mod RecordSteps
 pub mod RecordMarks
 mod LiveSteps

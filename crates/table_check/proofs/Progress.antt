@@ -10,8 +10,8 @@ use Rattle.page_source.specs.declared.checks.Halt.{Halt}
 use Rattle.page_source.specs.declared.checks.Halt.TheVariants.{Broken, Source}
 use Rattle.page_source.specs.Lists.{unmarked}
 use Rattle.page_source.specs.Faults.{Rose}
-use Rattle.page_source.specs.Checks.{HaltsAt}
-use Rattle.page_source.specs.Calls.{OfFile, HaltsOver}
+use Rattle.page_source.specs.Checks.{HaltsAt, HaltsWithCause}
+use Rattle.page_source.specs.Calls.{OfFile, HaltsOver, AsksNoMore}
 use Rattle.page_source.proofs.Told.{told0, told2, told3}
 use Rattle.space_audit.specs.Marks.{is_in, is_set, Marked}
 use Rattle.table_check.specs.Marking.{ChecksPages}
@@ -71,15 +71,23 @@ marked_more taken old new list more a b n =
     ∙ ap (λ (s : Bool). cond (taken n) true s) (sym (is_in_append list more n))
 
 -- the source of a halt, behind calls that went on
-pub over_both : {S A B : Type 0} {g : FileOf S} {first old new : S} {result : Result A Halt} (answer : Result B Halt)
-    → g.content old ≡ g.content first → g.faults first ≤ g.faults old → (answer ≡ Err Source → result ≡ Err Source)
-    → HaltsOver g old new result → HaltsOver g first new answer
-over_both {g = g} {first = first} {old = old} {new = new} answer same later back over = record {
+pub cause_both : {A B : Type 0} {first old new : ℕ} {result : Result A Halt} (answer : Result B Halt) → first ≤ old
+    → (answer ≡ Err Source → result ≡ Err Source) → HaltsWithCause old new result → HaltsWithCause first new answer
+cause_both {first = first} {old = old} {new = new} answer later back cause = record {
+  later = omega (arith, later, cause.later);
+  source = λ is. rose_before first old new later (cause.source (back is));
+}
+
+-- the same of all that is known of the file
+pub over_both : {S A B : Type 0} {g : FileOf S} {first old new : S} {steps mid spent : ℕ} {result : Result A Halt}
+    (answer : Result B Halt)
+    → g.content old ≡ g.content first → g.faults first ≤ g.faults old → AsksNoMore g first old steps mid
+    → (answer ≡ Err Source → result ≡ Err Source)
+    → HaltsOver g old new mid spent result → HaltsOver g first new steps spent answer
+over_both answer same later asked back over = record {
   same = over.same ∙ same;
-  cause = record {
-    later = omega (arith, later, over.cause.later);
-    source = λ is. rose_before (g.faults first) (g.faults old) (g.faults new) later (over.cause.source (back is));
-  };
+  cause = cause_both answer later back over.cause;
+  asked = omega (arith, asked, over.asked);
 }
 
 module _ {S : Type 0} (g : FileOf S) (first old new : S) (start before after : List Bool) (steps mid spent count : ℕ)
@@ -96,8 +104,8 @@ module _ {S : Type 0} (g : FileOf S) (first old new : S) (start before after : L
       let grew = subst (λ (o : Option (List ℕ)). IfSome o (λ file. Marked (is_set before) after
       (more file))) has.same call.grew in
       record {
-        same = call.over.same ∙ has.same;
-        later = omega (arith, has.later, call.over.cause.later);
+        same = call.same ∙ has.same;
+        later = omega (arith, has.later, call.cause.later);
         members = call.members ∙ has.members;
         fewer = omega (arith, has.fewer, fewer);
         cost = omega (arith, has.cost, at_ok);
@@ -125,7 +133,8 @@ module _ {S : Type 0} (g : FileOf S) (first old new : S) (start before after : L
     fewer = tt;
     cost = omega (arith, has.cost, has.fewer, call.cost);
     at_ok = tt;
-    over = over_both (Err halt) has.same has.later (λ is. is) call.over;
+    same = call.same ∙ has.same;
+    cause = cause_both (Err halt) has.later (λ is. is) call.cause;
   }
 
 -- all of them held
@@ -142,12 +151,14 @@ all_marked g old new before after steps spent count pages all All same holds has
   fewer = has.fewer;
   cost = omega (arith, has.cost);
   at_ok = has.cost;
-  over = record { same = has.same; cause = record { later = has.later; source = λ is. absurd (cc) } };
+  same = has.same;
+  cause = record { later = has.later; source = λ is. absurd (cc) };
 }
 
 -- a call between that marks nothing
 pub moved : {S A : Type 0} (g : FileOf S) (first old new : S) (start marks : List Bool) (steps mid spent count : ℕ)
-    (pages : List ℕ → List ℕ) (result : Result A Halt) → spent ≤ mid → HaltsOver g old new result
+    {before after : ℕ} (pages : List ℕ → List ℕ) (result : Result A Halt) → spent ≤ mid
+    → HaltsOver g old new before after result
     → HasMarked g first old start marks steps mid count pages
     → HasMarked g first new start marks steps spent count pages
 moved g first old new start marks steps mid spent count pages result less over has = record {
@@ -168,9 +179,10 @@ halt_as Source is = refl
 
 -- or breaks off
 pub between_breaks : {S A : Type 0} {g : FileOf S} {first old new : S} {start marks : List Bool}
-    {steps mid count : ℕ} {pages : List ℕ → List ℕ} (spent : ℕ) (halt : Halt)
+    {steps mid count before after : ℕ} {pages : List ℕ → List ℕ} (spent : ℕ) (halt : Halt)
     (All : List ℕ → Option Fault → Type 0) (all : List ℕ → List ℕ)
-    → HasMarked g first old start marks steps mid count pages → HaltsOver {A = A} g old new (Err halt) → spent ≤ mid
+    → HasMarked g first old start marks steps mid count pages
+    → HaltsOver {A = A} g old new before after (Err halt) → spent ≤ mid
     → OfFile g first (λ file. HaltsAt halt (All file))
     → ChecksPages g first new start marks steps spent (Err halt) All all
 between_breaks {A = A} spent halt All all has over less exact = record {
@@ -181,7 +193,8 @@ between_breaks {A = A} spent halt All all has over less exact = record {
   fewer = tt;
   cost = omega (arith, less, has.cost);
   at_ok = tt;
-  over = over_both {A = A} (Err halt) has.same has.later (halt_as halt) over;
+  same = over.same ∙ has.same;
+  cause = cause_both {A = A} (Err halt) has.later (halt_as halt) over.cause;
 }
 
 -- the same call, counted from other steps, of which it takes no more
@@ -197,5 +210,6 @@ recounted {result = result} first last call no_more = record {
   fewer = call.fewer;
   cost = omega (arith, no_more, call.cost);
   at_ok = on_ok_weaker result (λ few. omega (arith, no_more, few)) call.at_ok;
-  over = call.over;
+  same = call.same;
+  cause = call.cause;
 }

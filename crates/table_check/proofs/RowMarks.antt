@@ -57,12 +57,13 @@ none_held {g = g} {first = first} {table = table} {rows = rows} segment start st
 }
 
 -- the next one was searched for
-pub searched : {S : Type 0} {g : FileOf S} {first old new : S} {start marks : List Bool} {steps mid count j : ℕ}
-    {table : TableDef} {before after : LiveView} {result : Option ℕ} (rows : LiveView) (segment spent : ℕ)
+pub searched : {S : Type 0} {g : FileOf S} {first old new : S} {start marks : List Bool}
+    {steps mid count j asked asked_now : ℕ} {table : TableDef} {before after : LiveView} {result : Option ℕ}
+    (rows : LiveView) (segment spent : ℕ)
     (found : Option ℕ)
     → OfFile g first (λ file. GivesAll (clustered_tree file table) rows segment)
     → HaveHeld g first old start marks steps mid count table before j → result ≡ found → spent ≤ mid
-    → HaltsOver {A = Option ℕ} g old new (Ok result)
+    → HaltsOver {A = Option ℕ} g old new asked asked_now (Ok result)
     → OfFile g old (λ file. NextExact file before (Ok result) after)
     → HaveFound g first new start marks steps spent count table after j found
 searched {g = g} {first = first} {old = old} {new = new} {start = start} {marks = marks} {steps = steps} {mid = mid}

@@ -111,6 +111,10 @@ pub record TakesSteps {S : Type 0} (g : FileOf S) (source : S) (most : ℕ → �
   pub told : OfFile g source (λ file. spent ≤ steps + most (page_count file))
   pub always : spent ≤ steps + most 4194304
 
+-- such a call asked the file for no more pages than it may take steps
+abbrev pub AsksAtMost : {S : Type 0} → FileOf S → S → S → (ℕ → ℕ) → Type 0
+AsksAtMost g old new most = TakesSteps g old most (g.fetches old) (g.fetches new)
+
 -- a table was checked in as many steps as its pages let, and leaves enough of them to read its rows once more
 pub record LeavesSteps (steps spent : ℕ) (table : Table) : Type 0 where
   pub pages : table.checked.pages ≤ 4194304

@@ -4,8 +4,8 @@ use Rattle.page_source.specs.declared.objects.PageSource.{Ghosts as FileOf}
 use Rattle.page_source.specs.declared.rule.Fault.{Fault}
 use Rattle.page_source.specs.declared.checks.Halt.{Halt}
 use Rattle.page_source.specs.Lists.{unmarked}
-use Rattle.page_source.specs.Checks.{Halts}
-use Rattle.page_source.specs.Calls.{OfFile, HaltsOver}
+use Rattle.page_source.specs.Checks.{Halts, HaltsWithCause}
+use Rattle.page_source.specs.Calls.{OfFile}
 use Rattle.space_audit.specs.Space.{SpaceView, IsAuditOf}
 use Rattle.space_audit.specs.Marks.{is_set, Marked}
 
@@ -25,4 +25,5 @@ pub record ChecksPages {S : Type 0} (g : FileOf S) (old new : S) (before after :
   pub fewer : IfOk result (λ count. count + unmarked after ≤ unmarked before)
   pub cost : spent + unmarked after ≤ steps + unmarked before + 1
   pub at_ok : OnOk result (spent + unmarked after ≤ steps + unmarked before)
-  pub over : HaltsOver g old new result
+  pub same : g.content new ≡ g.content old
+  pub cause : HaltsWithCause (g.faults old) (g.faults new) result

@@ -1,6 +1,7 @@
 //! The values of a record, field by field.
 
 ghost use Rattle.std.specs.Prelude.{◌≡◌, length, All};
+ghost use Rattle.page_source.specs.Calls.{AsksNoMore};
 ghost use Rattle.column_values.specs.Types.{AreFields, IsFieldKind};
 ghost use Rattle.compact_record.specs.Keys.{LiesBelow, IsWholeReading};
 ghost use Rattle.space_audit.specs.Marks.{is_set};
@@ -29,9 +30,10 @@ fn check_field<S: PageSource, L: Ledger>(
     requires known { IsFieldKind kind }
     requires lies { LiesBelow 16384 place }
     requires ready { CanMark S.PageSource source.old leaf.now.leaves.space.now marks.old }
-    ensures { ChecksPages S.PageSource source.old source.new marks.old marks.new steps.old steps.new result
+    ensures checks { ChecksPages S.PageSource source.old source.new marks.old marks.new steps.old steps.new result
         (λ file. FieldChecksOn file leaf.now kind place (is_set marks.old))
         (λ file. pages_of_field_on file leaf.now kind place) }
+    ensures asked { AsksNoMore S.PageSource source.old source.new steps.old steps.new }
 {
     let FieldType::Column(kind) = kind else {
         return Ok(0);
@@ -56,9 +58,10 @@ pub(crate) fn check_record<S: PageSource, L: Ledger>(
     requires whole { IsWholeReading leaf.now.page.now leaf.now.leaves.fields.now located.now }
     requires lies { All (LiesBelow 16384) located.now.places }
     requires ready { CanMark S.PageSource source.old leaf.now.leaves.space.now marks.old }
-    ensures { ChecksPages S.PageSource source.old source.new marks.old marks.new steps.old steps.new result
+    ensures checks { ChecksPages S.PageSource source.old source.new marks.old marks.new steps.old steps.new result
         (λ file. RecordChecksOn file leaf.now located.now.origin (is_set marks.old))
         (λ file. pages_of_record_on file leaf.now located.now.origin) }
+    ensures asked { AsksNoMore S.PageSource source.old source.new steps.old steps.new }
 {
     let _size = leaf.leaves.space.size();
     let mut count = 0;

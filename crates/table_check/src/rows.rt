@@ -76,7 +76,7 @@ impl LiveRows {
         ensures origin { IfOk result (λ found. IfSome found (λ origin. (125 ≤ origin) × (origin < 16384))) }
         ensures fewer { IfOk result (λ found. IfSome found (λ _. self.new.live + 1 ≡ self.old.live)) }
         ensures broken { (fault : Fault) → result ≡ Err (Halt.Broken fault) → CutsOff self.new fault }
-        ensures over { HaltsOver S.PageSource source.old source.new result }
+        ensures over { HaltsOver S.PageSource source.old source.new steps.old steps.new result }
         ensures steps { steps.new + self.new.leaf.may_fetch ≡ steps.old + self.old.leaf.may_fetch }
     {
         while let Some(origin) = self.cursor.next(source, steps)? {

@@ -1,16 +1,20 @@
-//! The check of a whole table, over files that are sound or not, and whose calls fail. Other files are lines of the
-//! crate `cases`.
+//! The check of a whole table, over files that are sound or not, and whose calls fail, and the rows of a file that
+//! changes behind it. Other files are lines of the crate `cases`.
 
 ghost use Rattle.std.specs.Prelude.{◌≡◌, ◌<◌};
 
-use crate::{Checked, check};
-use page_source::{Fails, LoggedPages, MemoryPages, PageSource, Rule, Steps, Stop};
+use crate::{Checked, LiveRows, check, check_table};
+use page_source::{
+    ByteList, ChangingPages, Fails, Fault, Halt, LoggedPages, MemoryPages, PageSource, Rule, Steps,
+    Stop,
+};
 use schema_text::Schema;
 use std::alloc::Global;
 use std::marker::Brand;
+use std::process::Abort;
 use std::sync::ledger::{Blank, Ledger};
 use std::test::Fail;
-use vectors::{Which, edited, file, schema};
+use vectors::{Piece, Which, edited, file, schema};
 
 fn counted<S: PageSource, L: Ledger>(
     alloc: Global,
@@ -98,4 +102,61 @@ fn stops_at_each_call_that_fails(rt: HostRuntime) -> Result<(), Fail> {
         }
     }
     Ok(())
+}
+
+/// How many rows of the second file come by the numbers of the first, at most nine, and how they end.
+fn rows_of<L: Ledger>(
+    alloc: Global,
+    first: ByteList,
+    second: ByteList,
+    blank: Blank,
+) -> Result<(u32, Result<(), Halt>), Fail>
+    requires name { blank.name ≡ L.name }
+    requires parts { blank.parts ≡ L.parts }
+    requires shared { 0 < blank.parts }
+{
+    let mut steps = Steps::<L>::new(blank);
+    let table = table_of(alloc, Which::C)?;
+    let mut file = ChangingPages::new(first, ByteList::new(alloc), 100);
+    let checked = check_table(alloc, &mut file, &table, &mut steps)?;
+    let mut changed = ChangingPages::new(second, ByteList::new(alloc), 100);
+    let mut rows = LiveRows::start(alloc, &checked.clustered)?;
+    for count in 0..9 {
+        match rows.next(&mut changed, &mut steps) {
+            Ok(Some(_)) => {}
+            Ok(None) => return Ok((count, Ok(()))),
+            Err(halt) => return Ok((count, Err(halt))),
+        }
+    }
+    Ok((9, Ok(())))
+}
+
+/// Fails the test where the rows of the file of two leaves, which gets this piece behind the check, end otherwise.
+fn loses(
+    rt: &impl Abort,
+    alloc: Global,
+    piece: Piece<'static>,
+    count: u32,
+    fault: Fault,
+) -> Result<(), Fail> {
+    let first = file(alloc, Which::C)?;
+    let second = edited(alloc, Which::C, &[&[piece]])?;
+    let found = rows_of::<Brand>(alloc, first, second, Blank::new(1))?;
+    assert_eq!(rt; found, (count, Err(Halt::Broken(fault))), "{piece:?}");
+    Ok(())
+}
+
+/// A next field that leads past the first record, one that leads past the second leaf, and a delete mark.
+#[test]
+fn rows_lost_behind_the_check_are_named(rt: HostRuntime) -> Result<(), Fail> {
+    let alloc = rt.alloc();
+    loses(&rt, alloc, (4, 97, b"\0\x30"), 3, Rule::RecordChain.at(5))?;
+    loses(
+        &rt,
+        alloc,
+        (4, 12, b"\xFF\xFF\xFF\xFF"),
+        2,
+        Rule::Sibling.at(4),
+    )?;
+    loses(&rt, alloc, (4, 120, b" "), 0, Rule::RecordChain.at(4))
 }

@@ -70,7 +70,7 @@ fn walk_index<S: PageSource, L: Ledger>(
     ensures leaves { IfOk result (λ ends.
         LeavesRoom ends.leaves taken.old.pages taken.new.pages steps.old steps.new) }
     ensures steps { steps.new ≤ steps.old + 2 * unmarked taken.old.pages + 2 }
-    ensures over { StopsOver S.PageSource source.old source.new result }
+    ensures over { StopsOver S.PageSource source.old source.new steps.old steps.new result }
 {
     lists_are_of_one_index();
     let leaf = schema.fields(alloc, j, true)?;
@@ -127,7 +127,7 @@ fn walk_indexes<S: PageSource, L: Ledger>(
         (LeavesRoom (leaves_of list.new) taken.old.pages taken.new.pages steps.old steps.new) }
     ensures least { IfOk result (λ clustered. clustered.leaves ≤ leaves_of list.new) }
     ensures steps { steps.new ≤ steps.old + 2 * unmarked taken.old.pages + 2 }
-    ensures over { StopsOver S.PageSource source.old source.new result }
+    ensures over { StopsOver S.PageSource source.old source.new steps.old steps.new result }
 {
     let count = schema.indexes().len();
     let mut walk = Walk::new(alloc, MOST_FIELDS)?;
@@ -170,7 +170,7 @@ pub(crate) fn check_trees<S: PageSource, L: Ledger>(
         LeavesSome (leaves_of trees.ends) trees.marks space.now.size steps.old steps.new) }
     ensures least { IfOk result (λ trees. trees.clustered.leaves ≤ leaves_of trees.ends) }
     ensures steps { steps.new ≤ steps.old + 2 * space.now.size + 2 }
-    ensures over { StopsOver S.PageSource source.old source.new result }
+    ensures over { StopsOver S.PageSource source.old source.new steps.old steps.new result }
 {
     let pages = Marks::new(alloc, space.size())?;
     let segments = Marks::new(alloc, space.segment_count())?;

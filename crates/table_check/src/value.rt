@@ -3,7 +3,7 @@
 ghost use Rattle.std.specs.Prelude.{◌≡◌, ◌+◌, ◌-◌, ◌≤◌, ◌↔◌, IsTrue, ℕ, List, [], length, IfOk, OnOk, true};
 ghost use Rattle.page_source.specs.Lists.{unmarked};
 ghost use Rattle.page_source.specs.Checks.{Halts};
-ghost use Rattle.page_source.specs.Calls.{OfFile, HaltsOver};
+ghost use Rattle.page_source.specs.Calls.{OfFile, AsksNoMore};
 ghost use Rattle.column_values.specs.Types.{IsColumnType};
 ghost use Rattle.column_values.specs.Characters.{IsTextOfKind};
 ghost use Rattle.column_values.specs.Utf8Reader.{CountsUpTo, WasFed, TakesText};
@@ -63,9 +63,10 @@ fn check_external<S: PageSource, L: Ledger>(
     requires least { 20 ≤ length local.now }
     requires most { length local.now ≤ 16384 }
     requires ready { CanMark S.PageSource source.old leaf.now.leaves.space.now marks.old }
-    ensures { ChecksPages S.PageSource source.old source.new marks.old marks.new steps.old steps.new result
+    ensures checks { ChecksPages S.PageSource source.old source.new marks.old marks.new steps.old steps.new result
         (λ file. ValueChecks file leaf.now.leaves.segment leaf.now.number kind.now local.now true (is_set marks.old))
         (λ file. pages_of_value file local.now true) }
+    ensures asked { AsksNoMore S.PageSource source.old source.new steps.old steps.new }
 {
     let (front, reference) = cut(local);
     if front.len() + reference.length as usize > greatest_length(*kind) {
@@ -100,9 +101,10 @@ pub(crate) fn check_value<S: PageSource, L: Ledger>(
     requires known { IsColumnType kind.now }
     requires lies { LiesBelow 16384 place }
     requires ready { CanMark S.PageSource source.old leaf.now.leaves.space.now marks.old }
-    ensures { ChecksPages S.PageSource source.old source.new marks.old marks.new steps.old steps.new result
+    ensures checks { ChecksPages S.PageSource source.old source.new marks.old marks.new steps.old steps.new result
         (λ file. ValueChecksOn file leaf.now kind.now place (is_set marks.old))
         (λ file. pages_of_value_on file leaf.now place) }
+    ensures asked { AsksNoMore S.PageSource source.old source.new steps.old steps.new }
 {
     let local = &leaf.page.bytes()[place.from..place.until];
     if place.external {

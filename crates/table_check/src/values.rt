@@ -3,7 +3,7 @@
 ghost use Rattle.std.specs.Prelude.{◌≡◌, ◌+◌, ◌≤◌, false, length, IfOk, OnOk, Err};
 ghost use Rattle.page_source.specs.Lists.{unmarked};
 ghost use Rattle.page_source.specs.Checks.{Answers};
-ghost use Rattle.page_source.specs.Calls.{OfFile, StopsOver};
+ghost use Rattle.page_source.specs.Calls.{OfFile, AsksNoMore, StopsOver};
 ghost use Rattle.column_values.specs.Types.{AreFields};
 ghost use Rattle.compact_record.specs.Reading.{IsHeapOrigin};
 ghost use Rattle.schema_text.specs.IndexFields.{leaf_fields};
@@ -49,6 +49,7 @@ fn check_row<S: PageSource, L: Ledger>(
     ensures checks { ChecksPages S.PageSource source.old source.new marks.old marks.new steps.old steps.new result
         (λ file. RecordChecksOn file leaf.now origin (is_set marks.old))
         (λ file. pages_of_record_on file leaf.now origin) }
+    ensures asked { AsksNoMore S.PageSource source.old source.new steps.old steps.new }
     ensures unread { ¬ (IsRecord leaf.now.page.now leaf.now.leaves.fields.now origin)
         → result ≡ Err (Halt.Broken (record { rule = Rule.RecordSpelling; page = leaf.now.number })) }
     ensures room { located.new.members ≡ located.old.members }
@@ -78,10 +79,11 @@ pub(crate) fn check_rows<S: PageSource, L: Ledger>(
     requires told { OfFile S.PageSource source.old (λ file.
         GivesAll (clustered_tree file schema.now) rows.old leaves.now.segment) }
     requires ready { CanMark S.PageSource source.old leaves.now.space.now marks.old }
-    ensures { ChecksPages S.PageSource source.old source.new marks.old marks.new
+    ensures checks { ChecksPages S.PageSource source.old source.new marks.old marks.new
         (steps.old + rows.old.leaf.may_fetch) steps.new result
         (λ file. RowChecks (clustered_tree file schema.now) (is_set marks.old))
         (λ file. all_chain_pages (clustered_tree file schema.now)) }
+    ensures asked { AsksNoMore S.PageSource source.old source.new steps.old steps.new }
 {
     rows_can_be_read();
     let _size = leaves.space.size();
@@ -119,7 +121,7 @@ pub(crate) fn check_values<S: PageSource, L: Ledger>(
     ensures cost { steps.new ≤ steps.old + clustered.now.leaves + unmarked marks.old + 1 }
     ensures at_ok { OnOk result
         (steps.new + unmarked marks.new ≤ steps.old + clustered.now.leaves + unmarked marks.old) }
-    ensures over { StopsOver S.PageSource source.old source.new result }
+    ensures over { StopsOver S.PageSource source.old source.new steps.old steps.new result }
 {
     let _ = schema.indexes();
     let fields = schema.fields(alloc, 0, true)?;

@@ -4,7 +4,7 @@ ghost use Rattle.std.specs.Prelude.{◌≡◌, IfOk, ◌+◌, ◌≤◌, length}
 ghost use Rattle.page_source.specs.Checks.{Answers};
 ghost use Rattle.page_source.specs.Calls.{OfFile, StopsOver};
 ghost use Rattle.table_check.specs.First.{First, IsChecked, IsCheckedTable, HasCounts, TakesSteps, LeavesSteps};
-ghost use Rattle.table_check.specs.First.{LeavesAllSteps, check_steps};
+ghost use Rattle.table_check.specs.First.{LeavesAllSteps, AsksAtMost, check_steps};
 ghost use Rattle.table_check.specs.Trees.{index_count};
 ghost use Rattle.table_check.specs.Valid.{TellsValid};
 ghost use Rattle.table_check.specs.Whole.{IsCheckedWhole};
@@ -34,8 +34,9 @@ pub fn check<S: PageSource, L: Ledger>(
         IsChecked file schema.now checked)) }
     ensures valid { OfFile S.PageSource source.old (λ file. TellsValid result file schema.now) }
     ensures steps { TakesSteps S.PageSource source.old check_steps steps.old steps.new }
+    ensures fetches { AsksAtMost S.PageSource source.old source.new check_steps }
     ensures sized { IfOk result (λ checked. steps.new ≤ steps.old + check_steps checked.pages) }
-    ensures over { StopsOver S.PageSource source.old source.new result }
+    ensures over { StopsOver S.PageSource source.old source.new steps.old steps.new result }
 {
     first_has_one_answer();
     checks_are_validity();
@@ -55,7 +56,7 @@ pub fn check_table<S: PageSource, L: Ledger>(
     ensures counts { IfOk result (λ table. HasCounts table) }
     ensures steps { TakesSteps S.PageSource source.old check_steps steps.old steps.new }
     ensures leaves { IfOk result (λ table. LeavesSteps steps.old steps.new table) }
-    ensures over { StopsOver S.PageSource source.old source.new result }
+    ensures over { StopsOver S.PageSource source.old source.new steps.old steps.new result }
 {
     Ok(check_whole(alloc, source, schema, steps)?.table)
 }
@@ -74,7 +75,7 @@ pub fn check_whole<S: PageSource, L: Ledger>(
     ensures counts { IfOk result (λ whole. HasCounts whole.table) }
     ensures steps { TakesSteps S.PageSource source.old check_steps steps.old steps.new }
     ensures leaves { IfOk result (λ whole. LeavesAllSteps steps.old steps.new whole) }
-    ensures over { StopsOver S.PageSource source.old source.new result }
+    ensures over { StopsOver S.PageSource source.old source.new steps.old steps.new result }
 {
     let space = audit(alloc, source, schema.flags(), steps)?;
     let pages = space.size();

@@ -25,8 +25,8 @@ pub record IsReady {S : Type 0} (g : FileOf S) (source : S) (tree : Tree) (walk 
   pub room : CanWalk walk tree.leaf.now tree.node.now
 
 -- so it stays: there are as many marks as before, the room is the same, and the file is as a call leaves it that halts
-pub record StaysReady {S A : Type 0} (g : FileOf S) (old new : S) (walk walk_now : Walk) (marks marks_now : List Bool)
-    (result : Result A Halt) : Type 0 where
+pub record StaysReady {S A : Type 0} (g : FileOf S) (old new : S) (steps steps_now : ℕ) (walk walk_now : Walk)
+    (marks marks_now : List Bool) (result : Result A Halt) : Type 0 where
   pub members : length marks_now ≡ length marks
   pub room : HasSameRoom walk walk_now
-  pub over : HaltsOver g old new result
+  pub over : HaltsOver g old new steps steps_now result

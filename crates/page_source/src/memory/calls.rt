@@ -1,8 +1,8 @@
 //! Which calls of an object in memory fail, and how many calls and faults it counted.
 
 ghost use Rattle.std.specs.Prelude.{◌≡◌, ◌↔◌, ◌⊎◌, List, ℕ, false, IsTrue, IfOk, IsErr, is_err, Contains};
-ghost use Rattle.page_source.specs.Faults.{HasCause};
-ghost use Rattle.page_source.specs.Memory.{CallLog, fresh_log, after_call, IsListed};
+ghost use Rattle.page_source.specs.Faults.{HasCause, AsksOne};
+ghost use Rattle.page_source.specs.Memory.{CallLog, fresh_log, after_call, after_fetch, IsListed};
 
 use crate::errors::{Failed, NoMemory};
 use std::alloc::Global;
@@ -43,12 +43,18 @@ pub struct Calls {
     fails: Fails,
     made: u64,
     faults: u64,
+    fetches: u64,
 }
 
 impl Model for Calls {
     ghost Value = { CallLog };
 
-    ghost view = { λ calls. record { listed = calls.fails; made = calls.made; faults = calls.faults } };
+    ghost view = { λ calls. record {
+      listed = calls.fails;
+      made = calls.made;
+      faults = calls.faults;
+      fetches = calls.fetches;
+    } };
 }
 
 impl Calls {
@@ -60,6 +66,7 @@ impl Calls {
             fails,
             made: 0,
             faults: 0,
+            fetches: 0,
         }
     }
 
@@ -75,5 +82,16 @@ impl Calls {
         }
         self.faults = self.faults.saturating_add(1);
         Err(Failed)
+    }
+
+    /// Counts a call for a page, as `next` counts any.
+    pub fn next_fetch(&mut self, able: bool) -> Result<(), Failed>
+        ensures failed { IsErr result ↔ (IsListed self.old ⊎ (able ≡ false)) }
+        ensures state { self.new ≡ after_fetch self.old (is_err result) }
+        ensures cause { HasCause self.old.faults self.new.faults result }
+        ensures asked { AsksOne self.old.fetches self.new.fetches }
+    {
+        self.fetches = self.fetches.saturating_add(1);
+        self.next(able)
     }
 }

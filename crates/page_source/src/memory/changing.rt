@@ -2,7 +2,7 @@
 
 ghost use Rattle.std.specs.Prelude.{◌≡◌, ◌↔◌, ◌+◌, ◌≤◌, None, IfOk, OnOk, OnErr, IsErr, is_err, false};
 ghost use Rattle.page_source.specs.Pages.{page_of, page_count};
-ghost use Rattle.page_source.specs.Faults.{HasCause, one_more};
+ghost use Rattle.page_source.specs.Faults.{HasCause, AsksOne, one_more};
 ghost use Rattle.page_source.specs.Objects.{TellsPages};
 ghost use Rattle.page_source.specs.Sources.{seen_next, after_seen};
 
@@ -24,6 +24,7 @@ pub struct ChangingPages {
     at: u64,
     made: u64,
     faults: u64,
+    fetches: u64,
 }
 
 impl Model for ChangingPages {
@@ -37,6 +38,7 @@ impl Model for ChangingPages {
       at = file.at;
       made = file.made;
       faults = file.faults;
+      fetches = file.fetches;
     } };
 }
 
@@ -44,7 +46,8 @@ impl ChangingPages {
     /// A file of the first bytes until its call number `at`, counted from 1, and of the second from
     /// that call on.
     pub fn new(first: ByteList, second: ByteList, at: u64) -> ChangingPages
-        ensures { result ≡ record { first = first; second = second; at = at; made = 0; faults = 0 } }
+        ensures { result
+            ≡ record { first = first; second = second; at = at; made = 0; faults = 0; fetches = 0 } }
     {
         ChangingPages {
             first,
@@ -52,6 +55,7 @@ impl ChangingPages {
             at,
             made: 0,
             faults: 0,
+            fetches: 0,
         }
     }
 
@@ -73,11 +77,14 @@ impl PageSource for ChangingPages {
 
     ghost faults = { λ file. file.faults };
 
+    ghost fetches = { λ file. file.fetches };
+
     fn pages(&mut self) -> Result<u32, Failed>
         ensures count { IfOk result (λ n. TellsPages (seen_next self.old) n) }
         ensures failed { is_err result ≡ false }
         ensures state { self.new ≡ after_seen self.old false }
         ensures cause { HasCause self.old.faults self.new.faults result }
+        ensures asked { self.new.fetches ≡ self.old.fetches }
     {
         let call = self.made.saturating_add(1);
         let pages = page_total(self.seen(call)).min(u32::MAX as usize) as u32;
@@ -95,10 +102,12 @@ impl PageSource for ChangingPages {
         ensures kept { OnErr result (page.new ≡ page.old) }
         ensures step { steps.new ≡ steps.old + 1 }
         ensures failed { IsErr result ↔ (page_count (seen_next self.old) ≤ n) }
-        ensures state { self.new ≡ after_seen self.old (is_err result) }
+        ensures state { self.new ≡ record (after_seen self.old (is_err result)) { fetches = one_more self.old.fetches } }
         ensures cause { HasCause self.old.faults self.new.faults result }
+        ensures asked { AsksOne self.old.fetches self.new.fetches }
     {
         steps.tick();
+        self.fetches = self.fetches.saturating_add(1);
         let call = self.made.saturating_add(1);
         let is_there = (n as usize) < page_total(self.seen(call));
         if is_there {

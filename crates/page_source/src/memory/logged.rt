@@ -2,9 +2,9 @@
 
 ghost use Rattle.std.specs.Prelude.{◌≡◌, ◌↔◌, ◌+◌, ◌≤◌, [], Some, IfOk, OnOk, OnErr, IsErr, is_err, false};
 ghost use Rattle.page_source.specs.Pages.{page_of, page_count};
-ghost use Rattle.page_source.specs.Faults.{HasCause};
+ghost use Rattle.page_source.specs.Faults.{HasCause, AsksOne};
 ghost use Rattle.page_source.specs.Objects.{TellsPages};
-ghost use Rattle.page_source.specs.Memory.{fresh_log, after_call};
+ghost use Rattle.page_source.specs.Memory.{fresh_log, after_call, after_fetch};
 ghost use Rattle.page_source.specs.Sources.{log_after};
 
 use super::calls::Fails;
@@ -77,11 +77,14 @@ impl PageSource for LoggedPages {
 
     ghost faults = { λ logged. logged.file.calls.faults };
 
+    ghost fetches = { λ logged. logged.file.calls.fetches };
+
     fn pages(&mut self) -> Result<u32, Failed>
         ensures count { IfOk result (λ n. TellsPages self.old.file.bytes n) }
         ensures failed { is_err result ≡ false }
         ensures state { self.new ≡ record self.old { file = record self.old.file { calls = after_call self.old.file.calls false } } }
         ensures cause { HasCause self.old.file.calls.faults self.new.file.calls.faults result }
+        ensures asked { self.new.file.calls.fetches ≡ self.old.file.calls.fetches }
     {
         self.file.pages()
     }
@@ -97,10 +100,11 @@ impl PageSource for LoggedPages {
         ensures step { steps.new ≡ steps.old + 1 }
         ensures failed { IsErr result ↔ (page_count self.old.file.bytes ≤ n) }
         ensures state { self.new ≡ record self.old {
-          file = record self.old.file { calls = after_call self.old.file.calls (is_err result) };
+          file = record self.old.file { calls = after_fetch self.old.file.calls (is_err result) };
           fetched = log_after self.old n (is_err result);
         } }
         ensures cause { HasCause self.old.file.calls.faults self.new.file.calls.faults result }
+        ensures asked { AsksOne self.old.file.calls.fetches self.new.file.calls.fetches }
     {
         self.file.fetch(n, page, steps)?;
         self.keep(n);

@@ -2,9 +2,9 @@
 
 ghost use Rattle.std.specs.Prelude.{◌≡◌, ◌↔◌, ◌⊎◌, ◌+◌, ◌<◌, ◌≤◌, Some, length, IfOk, OnOk, OnErr, IsErr, is_err};
 ghost use Rattle.page_source.specs.Pages.{page_of, page_count};
-ghost use Rattle.page_source.specs.Faults.{HasCause};
+ghost use Rattle.page_source.specs.Faults.{HasCause, AsksOne};
 ghost use Rattle.page_source.specs.Objects.{TellsPages};
-ghost use Rattle.page_source.specs.Memory.{HeldBytes, fresh_log, after_call, IsListed};
+ghost use Rattle.page_source.specs.Memory.{HeldBytes, fresh_log, after_call, after_fetch, IsListed};
 
 use super::calls::{Calls, Fails};
 use crate::bytes::ByteList;
@@ -45,11 +45,14 @@ impl PageSource for MemoryPages {
 
     ghost faults = { λ file. file.calls.faults };
 
+    ghost fetches = { λ file. file.calls.fetches };
+
     fn pages(&mut self) -> Result<u32, Failed>
         ensures count { IfOk result (λ n. TellsPages self.old.bytes n) }
         ensures failed { IsErr result ↔ IsListed self.old.calls }
         ensures state { self.new ≡ record self.old { calls = after_call self.old.calls (is_err result) } }
         ensures cause { HasCause self.old.calls.faults self.new.calls.faults result }
+        ensures asked { self.new.calls.fetches ≡ self.old.calls.fetches }
     {
         self.calls.next(true)?;
         Ok(page_total(&self.bytes).min(u32::MAX as usize) as u32)
@@ -65,12 +68,13 @@ impl PageSource for MemoryPages {
         ensures kept { OnErr result (page.new ≡ page.old) }
         ensures step { steps.new ≡ steps.old + 1 }
         ensures failed { IsErr result ↔ (IsListed self.old.calls ⊎ (page_count self.old.bytes ≤ n)) }
-        ensures state { self.new ≡ record self.old { calls = after_call self.old.calls (is_err result) } }
+        ensures state { self.new ≡ record self.old { calls = after_fetch self.old.calls (is_err result) } }
         ensures cause { HasCause self.old.calls.faults self.new.calls.faults result }
+        ensures asked { AsksOne self.old.calls.fetches self.new.calls.fetches }
     {
         steps.tick();
         let is_there = (n as usize) < page_total(&self.bytes);
-        self.calls.next(is_there)?;
+        self.calls.next_fetch(is_there)?;
         fill_from(page, &self.bytes, n);
         Ok(())
     }

@@ -1,10 +1,10 @@
 //! A file in memory of which most pages are zeros.
 
 ghost use Rattle.std.specs.Prelude.{◌≡◌, ◌↔◌, ◌⊎◌, ◌+◌, ◌≤◌, Some, IfOk, OnOk, OnErr, IsErr, is_err};
-ghost use Rattle.page_source.specs.Faults.{HasCause};
+ghost use Rattle.page_source.specs.Faults.{HasCause, AsksOne};
 ghost use Rattle.page_source.specs.Pages.{page_of};
 ghost use Rattle.page_source.specs.Objects.{TellsPages, held_page, file_of};
-ghost use Rattle.page_source.specs.Memory.{fresh_log, after_call, IsListed};
+ghost use Rattle.page_source.specs.Memory.{fresh_log, after_call, after_fetch, IsListed};
 
 use super::calls::{Calls, Fails};
 use super::map::PageMap;
@@ -67,12 +67,15 @@ impl PageSource for SparsePages {
 
     ghost faults = { λ file. file.calls.faults };
 
+    ghost fetches = { λ file. file.calls.fetches };
+
     #[tactic(auto, using(crate::proofs::SparseFiles::pages_of_file))]
     fn pages(&mut self) -> Result<u32, Failed>
         ensures count { IfOk result (λ n. TellsPages (file_of self.old.size self.old.held) n) }
         ensures failed { IsErr result ↔ IsListed self.old.calls }
         ensures state { self.new ≡ record self.old { calls = after_call self.old.calls (is_err result) } }
         ensures cause { HasCause self.old.calls.faults self.new.calls.faults result }
+        ensures asked { self.new.calls.fetches ≡ self.old.calls.fetches }
     {
         self.calls.next(true)?;
         Ok(self.size)
@@ -89,12 +92,13 @@ impl PageSource for SparsePages {
         ensures kept { OnErr result (page.new ≡ page.old) }
         ensures step { steps.new ≡ steps.old + 1 }
         ensures failed { IsErr result ↔ (IsListed self.old.calls ⊎ (self.old.size ≤ n)) }
-        ensures state { self.new ≡ record self.old { calls = after_call self.old.calls (is_err result) } }
+        ensures state { self.new ≡ record self.old { calls = after_fetch self.old.calls (is_err result) } }
         ensures cause { HasCause self.old.calls.faults self.new.calls.faults result }
+        ensures asked { AsksOne self.old.calls.fetches self.new.calls.fetches }
     {
         steps.tick();
         let is_there = n < self.size;
-        self.calls.next(is_there)?;
+        self.calls.next_fetch(is_there)?;
         self.fill(n, page);
         Ok(())
     }

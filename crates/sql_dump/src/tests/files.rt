@@ -1,10 +1,12 @@
-//! Dumps of whole files, that are sound or not, and whose calls fail. Other files are lines of the crate `cases`.
+//! Dumps of whole files, that are sound or not, whose calls fail, or that lose rows behind the checks. Other files are
+//! lines of the crate `cases`.
 
 ghost use Rattle.std.specs.Prelude.{◌≡◌, ◌<◌};
 
 use crate::{DumpStop, dump};
 use page_source::{
-    ByteList, Fails, LoggedPages, MemoryPages, MemorySink, NoMemory, PageSource, Rule, Steps,
+    ByteList, ChangingPages, Fails, Fault, LoggedPages, MemoryPages, MemorySink, NoMemory,
+    PageSource, Rule, Steps,
 };
 use schema_text::Schema;
 use std::alloc::Global;
@@ -13,7 +15,7 @@ use std::process::Abort;
 use std::sync::ledger::{Blank, Ledger};
 use std::test::Fail;
 use table_check::Checked;
-use vectors::{Which, edited, file, schema};
+use vectors::{Piece, Which, edited, file, schema};
 
 /// More than any text but the long one.
 const ROOM: usize = 1000;
@@ -148,4 +150,51 @@ fn stops_at_each_call_that_fails(rt: HostRuntime) -> Result<(), Fail> {
         fails_with(&rt, alloc, &[call], ROOM, &[], DumpStop::Source)?;
     }
     fails_with(&rt, alloc, &[], ROOM, &[1], DumpStop::Sink)
+}
+
+/// The first call behind the checks of the file with two leaves: the last two of a dump fetch those.
+fn call_of_the_rows(alloc: Global) -> Result<u64, Fail> {
+    let table = table_of(alloc, Which::C)?;
+    let mut logged = LoggedPages::new(alloc, file(alloc, Which::C)?, 1000)?;
+    dump_of(alloc, &mut logged, &table, &mut sink_of(alloc, ROOM, &[])?)?;
+    Ok(logged.log().len() as u64)
+}
+
+/// Fails the test where a dump of that file, which gets this piece at that call, doesn't name the fault.
+fn loses(
+    rt: &impl Abort,
+    alloc: Global,
+    piece: Piece<'static>,
+    call: u64,
+    fault: Fault,
+) -> Result<(), Fail> {
+    let table = table_of(alloc, Which::C)?;
+    let second = edited(alloc, Which::C, &[&[piece]])?;
+    let mut changing = ChangingPages::new(file(alloc, Which::C)?, second, call);
+    let mut sink = sink_of(alloc, ROOM, &[])?;
+    let found = dump_of(alloc, &mut changing, &table, &mut sink);
+    assert_eq!(rt; found, Err(DumpStop::Broken(fault)), "{piece:?}");
+    Ok(())
+}
+
+/// A next field that leads past the first record, one that leads past the second leaf, and a delete mark.
+#[test]
+fn rows_lost_behind_the_checks_are_named(rt: HostRuntime) -> Result<(), Fail> {
+    let alloc = rt.alloc();
+    let call = call_of_the_rows(alloc)?;
+    loses(
+        &rt,
+        alloc,
+        (4, 97, b"\0\x30"),
+        call,
+        Rule::RecordChain.at(5),
+    )?;
+    loses(
+        &rt,
+        alloc,
+        (4, 12, b"\xFF\xFF\xFF\xFF"),
+        call,
+        Rule::Sibling.at(4),
+    )?;
+    loses(&rt, alloc, (4, 120, b" "), call, Rule::RecordChain.at(4))
 }

@@ -1,4 +1,5 @@
 //! Dumps of whole files, and the lines of crafted records.
 
+mod faults;
 mod files;
 mod lines;

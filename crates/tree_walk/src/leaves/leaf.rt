@@ -2,7 +2,7 @@
 
 ghost use Rattle.std.specs.Prelude.{◌≡◌, ℕ, ◌+◌, ◌<◌, ◌≤◌, IfOk, IfSome, OnOk, Ok, Err, None};
 ghost use Rattle.page_source.specs.Pages.{page_of, page_count};
-ghost use Rattle.page_source.specs.Faults.{HasCause};
+ghost use Rattle.page_source.specs.Faults.{HasCause, AsksOne};
 ghost use Rattle.page_source.specs.Calls.{OfFile, HaltsOver};
 ghost use Rattle.page_source.specs.declared.rule.Fault.{Fault};
 ghost use Rattle.column_values.specs.Types.{Fields};
@@ -43,6 +43,7 @@ fn open<S: PageSource, L: Ledger>(
     ensures number { OnOk result (leaf.new.number ≡ n) }
     ensures fetches { leaf.new.may_fetch + 1 ≡ leaf.old.may_fetch }
     ensures cause { HasCause (S.faults source.old) (S.faults source.new) result }
+    ensures asked { AsksOne (S.fetches source.old) (S.fetches source.new) }
     ensures steps { steps.new ≡ steps.old + 1 }
 {
     leaf.may_fetch -= 1;
@@ -74,7 +75,7 @@ fn search<S: PageSource, L: Ledger>(
     ensures near { OfFile S.PageSource source.old (λ file. (root : ℕ) (fields node : Fields) (j : ℕ)
         → IsWalked (index_of file root fields node) → IsBefore (index_of file root fields node) leaf.old from j
         → IfOk result (λ found. HasHopped leaf.old leaf.new from)) }
-    ensures keeps { HaltsOver S.PageSource source.old source.new result }
+    ensures keeps { HaltsOver S.PageSource source.old source.new steps.old steps.new result }
     ensures steps { steps.new + leaf.new.may_fetch ≡ steps.old + leaf.old.may_fetch }
 {
     let mut at = from;
@@ -122,7 +123,7 @@ pub(crate) fn seek<S: PageSource, L: Ledger>(
     ensures near { OfFile S.PageSource source.old (λ file. (root : ℕ) (fields node : Fields) (j : ℕ)
         → IsWalked (index_of file root fields node) → HasGiven (index_of file root fields node) leaf.old last j
         → IfOk result (λ found. IsSameOrNext leaf.old leaf.new)) }
-    ensures keeps { HaltsOver S.PageSource source.old source.new result }
+    ensures keeps { HaltsOver S.PageSource source.old source.new steps.old steps.new result }
     ensures steps { steps.new + leaf.new.may_fetch ≡ steps.old + leaf.old.may_fetch }
 {
     if last >= FIRST_ORIGIN {

@@ -81,7 +81,7 @@ impl LeafCursor {
             → IsWalked (index_of file root fields node)
             → HasGiven (index_of file root fields node) self.old.leaf self.old.last j
             → IfOk result (λ found. IsSameOrNext self.old.leaf self.new.leaf)) }
-        ensures keeps { HaltsOver S.PageSource source.old source.new result }
+        ensures keeps { HaltsOver S.PageSource source.old source.new steps.old steps.new result }
         ensures steps { steps.new + self.new.leaf.may_fetch ≡ steps.old + self.old.leaf.may_fetch }
     {
         self.ended = true;

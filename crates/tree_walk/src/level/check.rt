@@ -77,7 +77,8 @@ pub(crate) fn check_place<S: PageSource, L: Ledger>(
     ensures fewer { IfOk result (λ _. unmarked marks.new + 1 ≡ unmarked marks.old) }
     ensures parent { walk.new.parent ≡ walk.old.parent }
     ensures after { walk.new.after ≡ walk.old.after }
-    ensures stays { StaysReady S.PageSource source.old source.new walk.old walk.new marks.old marks.new result }
+    ensures stays { StaysReady S.PageSource source.old source.new steps.old steps.new walk.old walk.new
+        marks.old marks.new result }
     ensures steps { steps.new ≤ steps.old + 1 }
 {
     let node = aim.tree.node;

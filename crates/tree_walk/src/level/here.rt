@@ -49,7 +49,8 @@ pub(crate) fn check_here<S: PageSource, L: Ledger>(
     ensures fewer { IfOk result (λ _. unmarked marks.new + 1 ≡ unmarked marks.old) }
     ensures follows { IfOk result (λ found. OfIndex S.PageSource source.old aim.now.tree (λ index.
         Follows index aim.now.depth found.next walk.new.parent walk.new.after place.j)) }
-    ensures stays { StaysReady S.PageSource source.old source.new walk.old walk.new marks.old marks.new result }
+    ensures stays { StaysReady S.PageSource source.old source.new steps.old steps.new walk.old walk.new
+        marks.old marks.new result }
     ensures spent { IfOk result (λ found.
         steps.new + more_after found.next ≤ steps.old + place.cursor.more + 1) }
     ensures steps { steps.new ≤ steps.old + 2 }

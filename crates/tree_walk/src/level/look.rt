@@ -68,7 +68,7 @@ pub(crate) fn look<S: PageSource, L: Ledger>(
     ensures walk { walk.new ≡ record walk.old { after = walk.new.after } }
     ensures broken { (fault : Fault) → result ≡ Err (Halt.Broken fault)
         → fault ≡ record { rule = Rule.Sibling; page = place.cursor.number } }
-    ensures keeps { HaltsOver S.PageSource source.old source.new result }
+    ensures keeps { HaltsOver S.PageSource source.old source.new steps.old steps.new result }
     ensures spent { IfOk result (λ next. steps.new + more_after next ≤ steps.old + place.cursor.more) }
     ensures steps { steps.new ≤ steps.old + 1 }
 {

@@ -84,7 +84,8 @@ pub(crate) fn walk_level<S: PageSource, L: Ledger>(
         Marked (is_set marks.old) marks.new (children index (places index aim.now.depth)))) }
     ensures level { IfOk result (λ row. OfIndex S.PageSource source.old aim.now.tree (λ index.
         IsLevel index aim.now row)) }
-    ensures stays { StaysReady S.PageSource source.old source.new walk.old walk.new marks.old marks.new result }
+    ensures stays { StaysReady S.PageSource source.old source.new steps.old steps.new walk.old walk.new
+        marks.old marks.new result }
     ensures some { IfOk result (λ row. 1 ≤ row.pages) }
     ensures fewer { IfOk result (λ row. row.pages + unmarked marks.new ≤ unmarked marks.old) }
     ensures spent { IfOk result (λ row. steps.new + 2 * unmarked marks.new + row.pages

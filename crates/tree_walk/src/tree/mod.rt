@@ -67,7 +67,7 @@ pub fn walk_tree<S: PageSource, L: Ledger>(
     ensures segments { length named.new ≡ length named.old }
     ensures room { HasSameRoom walk.old walk.new }
     ensures stays { (members : ℕ) → HasRoom walk.old members → HasRoom walk.new members }
-    ensures keeps { HaltsOver S.PageSource source.old source.new result }
+    ensures keeps { HaltsOver S.PageSource source.old source.new steps.old steps.new result }
     ensures fewer { IfOk result (λ ends. ends.leaves + unmarked marks.new ≤ unmarked marks.old) }
     ensures spent { IfOk result (λ ends. steps.new + 2 * unmarked marks.new + ends.leaves
         ≤ steps.old + 2 * unmarked marks.old) }

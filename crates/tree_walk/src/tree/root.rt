@@ -101,7 +101,8 @@ pub(crate) fn check_root<S: PageSource, L: Ledger>(
     ensures named { IfOk result (λ top. Marked (is_set named.old) named.new (top.leaf ∷ top.upper ∷ [])) }
     ensures segments { length named.new ≡ length named.old }
     ensures fewer { IfOk result (λ _. unmarked marks.new + 1 ≡ unmarked marks.old) }
-    ensures stays { StaysReady S.PageSource source.old source.new walk.old walk.new marks.old marks.new result }
+    ensures stays { StaysReady S.PageSource source.old source.new steps.old steps.new walk.old walk.new
+        marks.old marks.new result }
     ensures steps { steps.new ≤ steps.old + 1 }
 {
     let Tree { space, root, .. } = *tree;

@@ -1,5 +1,6 @@
 use Rattle.std.proofs.Common.{arith}
 use Rattle.page_source.proofs.Told.{told1}
+use Rattle.table_check.proofs.Asked.{asks_at_most}
 use Rattle.cross_index.proofs.AllSteps.{all_cost, takes_steps}
 use Rattle.cross_index.proofs.cross_check.cross.Goals as goal
 
@@ -33,3 +34,23 @@ returns-clause-sized g c =
     c.in_ok-entries.ensures.cost in
     told1 (g.S.PageSource.content c.args.source.now)
     (λ file is. omega (arith, cost, is.checked.is_checked.has_pages)) whole.whole
+
+pub returns-in_err-entries-clause-fetches : goal.returns-in_err-entries-clause-fetches
+returns-in_err-entries-clause-fetches g c =
+    asks_at_most c.compare_indexes.new.source (returns-in_err-entries-clause-steps g c)
+    (omega (
+      arith,
+      c.in_ok-whole.ensures.over.asked,
+      c.in_ok-found.ensures.over.asked,
+      c.in_err-entries.ensures.over.asked,
+    ))
+
+pub returns-clause-fetches : goal.returns-clause-fetches
+returns-clause-fetches g c =
+    asks_at_most c.compare_indexes.new.source (returns-clause-steps g c)
+    (omega (
+      arith,
+      c.in_ok-whole.ensures.over.asked,
+      c.in_ok-found.ensures.over.asked,
+      c.in_ok-entries.ensures.over.asked,
+    ))

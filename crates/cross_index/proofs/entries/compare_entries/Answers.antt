@@ -84,6 +84,7 @@ loop-origin-preserved g c =
     record {
       same = c.in_ok-origin.ensures.over.same ∙ i.same;
       later = omega (arith, i.later, c.in_ok-origin.ensures.over.cause.later);
+      asked = omega (arith, i.asked, c.in_ok-origin.ensures.over.asked);
       goes_on = rw c.in-Some.is at c.in_ok-origin.ensures.goes_on;
       room = c.read_entry.ensures.members ∙ i.room;
       spent = c.in_ok-origin.ensures.steps ∙ i.spent;

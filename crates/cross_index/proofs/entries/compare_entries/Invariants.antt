@@ -1,5 +1,5 @@
 use Rattle.std.proofs.Common.{◌≡◌, ◌+◌, ◌≤◌, length, false}
-use Rattle.page_source.specs.Calls.{OfFile}
+use Rattle.page_source.specs.Calls.{OfFile, AsksNoMore}
 use Rattle.cross_index.specs.calls.Kept.{kept_keys}
 use Rattle.cross_index.proofs.EntrySteps.{HasMatched}
 use Rattle.cross_index.proofs.entries.compare_entries.Given as goal
@@ -12,6 +12,7 @@ invariant-loop-origin g l =
     record {
       same : content l.source ≡ content l.fn.source;
       later : g.S.PageSource.faults l.fn.source ≤ g.S.PageSource.faults l.source;
+      asked : AsksNoMore g.S.PageSource l.fn.source l.source l.fn.steps l.steps;
       goes_on : l.entries.ended ≡ false;
       room : l.located.members ≡ l.fn.located.members;
       spent : l.steps + l.entries.leaf.may_fetch ≡ l.fn.steps + l.fn.entries.leaf.may_fetch;

@@ -7,6 +7,7 @@ pub loop-k-init : goal.loop-k-init
 loop-k-init g c = record {
   same = refl;
   later = omega arith;
+  asked = omega arith;
   cost = refl;
   told = told0 (g.S.PageSource.content c.args.source.now)
       (λ file. row_start file c.args.page.now c.args.places.now c.args.kept.now c.args.cells.now c.args.room.now.left);
@@ -37,6 +38,7 @@ loop-k-preserved g c =
     record {
       same = c.in_ok-gather_field.ensures.over.same ∙ i.same;
       later = omega (arith, i.later, c.in_ok-gather_field.ensures.over.later);
+      asked = omega (arith, i.asked, c.in_ok-gather_field.ensures.over.asked);
       cost = c.in_ok-gather_field.ensures.cost ∙ i.cost;
       told = told3 (g.S.PageSource.content c.args.source.now)
           (λ file so value left. row_more file c.args.page.now c.args.places.now c.args.kept.now c.loop-k.k-index _

@@ -18,6 +18,7 @@ pub loop-origin-init : goal.loop-origin-init
 loop-origin-init g c = record {
   same = refl;
   later = omega arith;
+  asked = omega arith;
   goes_on = c.requires.goes_on;
   members = refl;
   spent = refl;
@@ -115,6 +116,7 @@ loop-origin-preserved g c =
     record {
       same = c.in_ok-gather_row.ensures.over.same ∙ both;
       later = omega (arith, i.later, c.in_ok-origin.ensures.over.cause.later, c.in_ok-gather_row.ensures.over.later);
+      asked = omega (arith, i.asked, c.in_ok-origin.ensures.over.asked, c.in_ok-gather_row.ensures.over.asked);
       goes_on = rw c.in-Some.is at c.in_ok-origin.ensures.goes_on;
       members = c.read_row.ensures.members ∙ i.members;
       spent = omega (arith, i.spent, c.in_ok-origin.ensures.steps, c.in_ok-gather_row.ensures.cost);

@@ -1,5 +1,5 @@
 use Rattle.std.proofs.Common.{◌≡◌, ◌+◌, ◌≤◌, false}
-use Rattle.page_source.specs.Calls.{OfFile}
+use Rattle.page_source.specs.Calls.{OfFile, AsksNoMore}
 use Rattle.cross_index.proofs.GatherSteps.{Gathering}
 use Rattle.cross_index.proofs.gather.gather_rows.Given as goal
 
@@ -10,6 +10,7 @@ invariant-loop-origin g l =
     record {
       same : content l.source ≡ content l.fn.source;
       later : g.S.PageSource.faults l.fn.source ≤ g.S.PageSource.faults l.source;
+      asked : AsksNoMore g.S.PageSource l.fn.source l.source l.fn.steps l.steps;
       goes_on : l.rows.ended ≡ false;
       members : l.located.members ≡ l.fn.located.members;
       spent : l.steps + l.room.left + l.rows.leaf.may_fetch ≡ l.fn.steps + l.fn.room.left + l.fn.rows.leaf.may_fetch;

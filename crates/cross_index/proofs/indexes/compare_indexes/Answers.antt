@@ -30,6 +30,7 @@ loop-index-preserved g c =
       some = omega (arith, i.some);
       same = c.in_ok-here.ensures.over.same ∙ i.same;
       later = omega (arith, i.later, c.in_ok-here.ensures.over.later);
+      asked = omega (arith, i.asked, c.in_ok-here.ensures.over.asked);
       cost = cost_more c.args.ends.now c.items-all.result.now c.loop-index.index _ _ c.loop-index.steps
           c.compare_index.new.steps c.items-all.ensures (omega (arith, inside, c.requires.count)) i.cost
           c.in_ok-here.ensures.cost;

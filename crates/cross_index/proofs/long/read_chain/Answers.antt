@@ -8,6 +8,7 @@ pub loop-length-init : goal.loop-length-init
 loop-length-init g c = record {
   same = refl;
   later = omega arith;
+  asked = omega arith;
   cost = refl;
   told = told1 (g.S.PageSource.content c.args.source.now)
       (λ file can. chain_start file c.args.reference.now c.new-reader.result c.args.room.now.value.items
@@ -35,6 +36,7 @@ loop-length-preserved g c =
     record {
       same = c.in_ok-length.ensures.over.same ∙ i.same;
       later = omega (arith, i.later, c.in_ok-length.ensures.over.cause.later);
+      asked = omega (arith, i.asked, c.in_ok-length.ensures.over.asked);
       cost = c.in_ok-length.ensures.cost ∙ i.cost;
       told = told2 (g.S.PageSource.content c.args.source.now)
           (λ file so next. chain_more file c.args.reference.now c.loop-length.reader c.part.new.self

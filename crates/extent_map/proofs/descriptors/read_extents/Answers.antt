@@ -57,6 +57,7 @@ loop-k-preserved g c =
     record {
       same = c.fetch.ensures.same ∙ inv.same;
       later = omega (arith, inv.later, c.fetch.ensures.cause.later);
+      asked = omega (arith, inv.asked, c.fetch.ensures.asked.most, c.fetch.ensures.step);
       steps = omega (arith, inv.steps, c.fetch.ensures.step);
       count = c.in_ok-read_page.ensures.count ∙ ap (λ n. min n (header.limit / 64)) (omega arith);
       checks = told3 o (λ file has here below. page_holds file k below (page file here has.space)

@@ -2,6 +2,7 @@ use Rattle.std.proofs.Common.{◌≤◌, ◌+◌, subst, arith}
 use Rattle.std.proofs.lemmas.Result.{err_from_is_err_and}
 use Rattle.page_source.proofs.Told.{told0, told1}
 use Rattle.column_values.specs.Order.{Key}
+use Rattle.table_check.proofs.Asked.{asks_at_most}
 use Rattle.key_lookup.specs.Get.{steps_for}
 use Rattle.key_lookup.proofs.GetKey.{gets_of, gets_none, touches_nothing, over_no_key, no_key, no_steps}
 use Rattle.key_lookup.proofs.by_key.get.Goals as goal
@@ -21,7 +22,8 @@ returns-in_err-sought-clause-first g c =
 pub returns-in_err-sought-clause-over : goal.returns-in_err-sought-clause-over
 returns-in_err-sought-clause-over g c =
     let r = err_from_is_err_and c.from_residual.result c.from_residual.ensures.1 in
-    rw (r.1, r.2) (over_no_key g.S.PageSource g.O.ByteSink c.args.source.now c.args.sink.now c.in_err-sought.field-0.0)
+    rw (r.1, r.2) (over_no_key g.S.PageSource g.O.ByteSink c.args.source.now c.args.sink.now c.args.steps.now
+    c.in_err-sought.field-0.0)
 
 pub returns-in_err-sought-clause-few : goal.returns-in_err-sought-clause-few
 returns-in_err-sought-clause-few g c =
@@ -29,6 +31,10 @@ returns-in_err-sought-clause-few g c =
 
 pub returns-in_err-sought-clause-steps : goal.returns-in_err-sought-clause-steps
 returns-in_err-sought-clause-steps g c = no_steps g.S.PageSource c.args.source.now c.args.steps.now
+
+pub returns-in_err-sought-clause-fetches : goal.returns-in_err-sought-clause-fetches
+returns-in_err-sought-clause-fetches g c =
+    no_steps g.S.PageSource c.args.source.now (g.S.PageSource.fetches c.args.source.now)
 
 pub returns-clause-told : goal.returns-clause-told
 returns-clause-told g c =
@@ -56,3 +62,7 @@ returns-clause-few g c =
     c.schema_is_table.ensures c.in_ok-sought.ensures.found spells in
     subst (λ (key : Key). c.get_by_key.new.steps ≤ c.args.steps.now + steps_for file c.args.schema.now key) same few)
     c.get_by_key.ensures.few
+
+pub returns-clause-fetches : goal.returns-clause-fetches
+returns-clause-fetches g c =
+    asks_at_most c.get_by_key.new.source c.get_by_key.ensures.steps c.get_by_key.ensures.over.asked

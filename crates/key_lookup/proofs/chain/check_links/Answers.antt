@@ -14,6 +14,7 @@ loop-due-init g c =
     record {
       same = refl;
       later = omega arith;
+      asked = omega arith;
       members = refl;
       spent = omega arith;
       taken = omega arith;
@@ -53,6 +54,7 @@ loop-due-preserved g c =
     record {
       same = c.check_link.ensures.over.same ∙ inv.same;
       later = omega (arith, inv.later, c.check_link.ensures.over.cause.later);
+      asked = omega (arith, inv.asked, c.check_link.ensures.over.asked);
       members = c.mark.ensures.members ∙ inv.members;
       spent = omega (arith, inv.spent, c.check_link.ensures.cost, c.mark.ensures.fewer c.in_ok-length.ensures.new);
       taken = omega (arith, inv.taken, c.check_link.ensures.cost);

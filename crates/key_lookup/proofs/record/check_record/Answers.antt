@@ -10,6 +10,7 @@ use Rattle.key_lookup.proofs.record.check_record.Goals as goal
 pub loop-i-init : goal.loop-i-init
 loop-i-init g c = record {
   have = none_held c.args.marks.now c.args.steps.now;
+  asked = omega arith;
   told = told0 (g.S.PageSource.content c.args.source.now) (λ file. omega arith);
 }
 
@@ -80,6 +81,7 @@ loop-i-preserved g c =
           (place_read leaf.page.now c.args.located.now.origin fields c.places.result.now c.loop-i.i _
           (c.places.ensures ∙ c.requires.whole.read.holds) within)
           _ _ _ c.in_ok-count.field-0 c.in_ok-count.ensures.checks;
+      asked = omega (arith, c.loop-i.invariant.asked, c.in_ok-count.ensures.asked);
       told =
           field_steps c.loop-i.invariant.have within _ _
           (field_read fields c.fields-field-items.result.now c.loop-i.i _ c.fields-field-items.ensures.same within)

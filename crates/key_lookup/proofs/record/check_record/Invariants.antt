@@ -1,5 +1,5 @@
 use Rattle.std.proofs.Common.{◌≤◌, ◌+◌, length}
-use Rattle.page_source.specs.Calls.{OfFile}
+use Rattle.page_source.specs.Calls.{OfFile, AsksNoMore}
 use Rattle.table_check.specs.Values.{pages_of_part}
 use Rattle.key_lookup.proofs.RecordMarks.{FieldsHeld}
 use Rattle.key_lookup.proofs.record.check_record.Given as goal
@@ -9,6 +9,7 @@ abbrev pub invariant-loop-i : goal.invariant-loop-i
 invariant-loop-i g l = record {
   have : FieldsHeld g.S.PageSource l.fn.source l.source l.fn.marks l.marks l.fn.steps l.steps l.count l.leaf
       l.located.origin l.i;
+  asked : AsksNoMore g.S.PageSource l.fn.source l.source l.fn.steps l.steps;
   told : OfFile g.S.PageSource l.fn.source (λ file.
       l.steps ≤ l.fn.steps + length (pages_of_part file l.leaf.page.now l.located.origin l.leaf.fields.now l.i));
 }

@@ -62,5 +62,6 @@ returns-clause-checks g c =
       fewer = c.check_chain.ensures.fewer;
       cost = c.check_chain.ensures.cost;
       at_ok = c.check_chain.ensures.spent;
-      over = c.check_chain.ensures.over;
+      same = c.check_chain.ensures.over.same;
+      cause = c.check_chain.ensures.over.cause;
     }

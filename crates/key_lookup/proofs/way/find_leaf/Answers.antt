@@ -13,6 +13,7 @@ loop-due-init g c =
     record {
       same = e.over.same;
       later = e.over.cause.later;
+      asked = e.over.asked;
       room = e.room;
       held = e.held;
       most = omega (arith, most, e.cost);
@@ -44,6 +45,7 @@ loop-due-preserved g c =
     record {
       same = e.over.same ∙ inv.same;
       later = omega (arith, e.over.cause.later, inv.later);
+      asked = omega (arith, inv.asked, e.over.asked);
       room = room_join c.args.walk.now c.step_down-due.new.walk c.check_next.new.walk
           (room_join c.args.walk.now c.loop-due.walk c.step_down-due.new.walk inv.room down.room) e.room;
       held = e.held;

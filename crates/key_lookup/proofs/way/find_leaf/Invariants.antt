@@ -1,5 +1,5 @@
 use Rattle.std.proofs.Common.{◌≡◌, ◌≤◌, ◌+◌}
-use Rattle.page_source.specs.Calls.{OfFile}
+use Rattle.page_source.specs.Calls.{OfFile, AsksNoMore}
 use Rattle.tree_walk.specs.Index.{root_level}
 use Rattle.tree_walk.specs.Room.{HasSameRoom}
 use Rattle.key_lookup.specs.Tree.{index_in}
@@ -13,6 +13,7 @@ invariant-loop-due g l =
     record {
       same : content l.source ≡ content l.fn.source;
       later : g.S.PageSource.faults l.fn.source ≤ g.S.PageSource.faults l.source;
+      asked : AsksNoMore g.S.PageSource l.fn.source l.source l.fn.steps l.steps;
       room : HasSameRoom l.fn.walk l.walk;
       held : IsHeldNode l.walk l.tree.leaf.now l.tree.node.now l.due;
       most : l.steps + l.due.stand.level ≤ l.fn.steps + 51;

@@ -14,6 +14,7 @@ loop-due-init g c =
     record {
       same = refl;
       later = omega arith;
+      asked = omega arith;
       members = refl;
       spent = omega arith;
       few = omega arith;
@@ -43,6 +44,7 @@ loop-due-preserved g c =
     record {
       same = c.check_page.ensures.over.same ∙ inv.same;
       later = omega (arith, inv.later, c.check_page.ensures.over.cause.later);
+      asked = omega (arith, inv.asked, c.check_page.ensures.over.asked);
       members = c.mark.ensures.members ∙ inv.members;
       spent = omega (arith, inv.spent, c.check_page.ensures.cost, c.mark.ensures.fewer c.in_ok-length.ensures.new);
       few = omega (arith, inv.few, few, part.1.part.0, part.0);

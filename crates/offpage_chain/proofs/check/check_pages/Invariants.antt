@@ -1,6 +1,6 @@
 use Rattle.std.proofs.Common.{◌≡◌, ◌≤◌, ◌+◌, ◌-◌, length}
 use Rattle.page_source.specs.Lists.{unmarked}
-use Rattle.page_source.specs.Calls.{OfFile}
+use Rattle.page_source.specs.Calls.{OfFile, AsksNoMore}
 use Rattle.column_values.specs.Utf8Reader.{CountsUpTo}
 use Rattle.offpage_chain.proofs.Alongs.{IsAlong, walk_of}
 use Rattle.offpage_chain.proofs.check.check_pages.Given as goal
@@ -12,6 +12,7 @@ invariant-loop-due g l =
     record {
       same : content l.source ≡ content l.fn.source;
       later : g.S.PageSource.faults l.fn.source ≤ g.S.PageSource.faults l.source;
+      asked : AsksNoMore g.S.PageSource l.fn.source l.source l.fn.steps l.steps;
       members : length l.marks ≡ length l.fn.marks;
       spent : l.steps + unmarked l.marks ≤ l.fn.steps + unmarked l.fn.marks;
       few : l.count + l.due.left ≤ l.chain.reference.now.length;

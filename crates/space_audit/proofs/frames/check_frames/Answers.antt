@@ -40,6 +40,7 @@ loop-n-preserved g c =
     record {
       same = c.find_kind.ensures.over.same ∙ i.same;
       later = omega (arith, i.later, c.find_kind.ensures.over.cause.later);
+      asked = omega (arith, i.asked, c.find_kind.ensures.over.asked);
       cost = omega (arith, c.in_ok-kind.ensures.cost, i.cost, cost_more pages n inside);
       count = ap length c.in_ok-push.ensures.kinds
           ∙ (length-append c.loop-n.kinds.kinds.items (unwrap_or c.in_ok-kind.kind 0 ∷ []) ∙ ap (λ k. k + 1) i.count);

@@ -25,6 +25,7 @@ pub loop-s-init : goal.loop-s-init
 loop-s-init g c = record {
   held = λ file h j d l. absurd (omega (arith, l));
   spent = omega (arith, c.in_ok-check_three.ensures.followed, below_three c.args.homes.now.numbers 0);
+  onward = c.in_ok-check_three.ensures.onward;
 }
 
 pub returns-in_err-check_three-2-clause-bound : goal.returns-in_err-check_three-2-clause-bound
@@ -62,6 +63,7 @@ returns-in_err-check_three-2-clause-exact g c = λ file h.
 
 pub loop-s-preserved : goal.loop-s-preserved
 loop-s-preserved g c = record {
+  onward = omega (arith, c.in_ok-check_three-2.ensures.onward, c.loop-s.invariant.onward);
   spent =
       let homes = c.args.homes.now.numbers in
       let h = 3 + 3 * c.loop-s.s in

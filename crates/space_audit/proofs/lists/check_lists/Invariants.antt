@@ -11,4 +11,5 @@ invariant-loop-s g l =
       held : (file : List ℕ) → IsListed file l.header l.inodes l.nodes l.homes.numbers
           → AllBefore (segments file) (SegmentListsCheck file) l.s;
       spent : l.steps ≤ l.fn.steps + homes_below l.homes.numbers (3 + 3 * l.s);
+      onward : l.fn.steps ≤ l.steps;
     }

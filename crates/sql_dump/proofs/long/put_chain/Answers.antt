@@ -12,6 +12,7 @@ pub loop-length-init : goal.loop-length-init
 loop-length-init g c = record {
   same = refl;
   source_later = omega arith;
+  asked = omega arith;
   sink_later = omega arith;
   cost = refl;
   came = refl;
@@ -52,6 +53,7 @@ loop-length-preserved g c =
     record {
       same = c.in_ok-length.ensures.over.same ∙ i.same;
       source_later = omega (arith, i.source_later, c.in_ok-length.ensures.over.cause.later);
+      asked = omega (arith, i.asked, c.in_ok-length.ensures.over.asked);
       sink_later = omega (arith, i.sink_later, c.in_ok-put_part.ensures.puts.cause.later);
       cost = c.in_ok-length.ensures.cost ∙ i.cost;
       came = ap (λ (w : Writer). w.came) counts ∙ i.came;

@@ -1,4 +1,5 @@
 use Rattle.std.proofs.Common.{◌≡◌, ◌+◌, ◌≤◌, IfSome}
+use Rattle.page_source.specs.Calls.{AsksNoMore}
 use Rattle.sql_dump.proofs.Chains.{ChainSoFar}
 use Rattle.sql_dump.proofs.SomeValues.{SomeSoFar}
 use Rattle.sql_dump.proofs.long.put_chain.Given as goal
@@ -10,6 +11,7 @@ invariant-loop-length g l =
     record {
       same : content l.source ≡ content l.fn.source;
       source_later : g.S.PageSource.faults l.fn.source ≤ g.S.PageSource.faults l.source;
+      asked : AsksNoMore g.S.PageSource l.fn.source l.source l.fn.steps l.steps;
       sink_later : g.O.ByteSink.faults l.fn.sink ≤ g.O.ByteSink.faults l.sink;
       cost : l.steps + l.room.left ≡ l.fn.steps + l.fn.room.left;
       came : l.writer.came ≡ l.fn.writer.came;

@@ -64,6 +64,7 @@ loop-c-init g c =
     record {
       same = refl;
       source_later = omega arith;
+      asked = omega arith;
       sink_later = c.in_ok-writer.ensures.puts.cause.later;
       cost = refl;
       came = ap (λ (w : Writer). w.came) c.in_ok-writer.ensures.fresh;
@@ -149,6 +150,7 @@ loop-c-preserved g c =
     record {
       same = c.in_ok-put_value.ensures.over.same ∙ i.same;
       source_later = omega (arith, i.source_later, c.in_ok-put_value.ensures.over.source_later);
+      asked = omega (arith, i.asked, c.in_ok-put_value.ensures.over.asked);
       sink_later = omega (arith, i.sink_later, c.in_ok-put_value.ensures.over.sink_later);
       cost = c.in_ok-put_value.ensures.cost ∙ i.cost;
       came = omega (arith, c.in_ok-put_value.ensures.came, i.came);

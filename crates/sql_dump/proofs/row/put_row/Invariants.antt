@@ -1,6 +1,7 @@
 use Rattle.std.proofs.Common.{◌≡◌, ◌+◌, ◌≤◌, List, length, All, IfSome}
 use Rattle.column_values.specs.declared.value.Value.{Value}
 use Rattle.page_source.specs.Objects.{GrowsBy}
+use Rattle.page_source.specs.Calls.{AsksNoMore}
 use Rattle.sql_dump.specs.Cells.{IsNear, ReadsRow, pages_of_columns}
 use Rattle.sql_dump.proofs.RowLines.{line_so_far}
 use Rattle.sql_dump.proofs.SomeRows.{SomeValues}
@@ -13,6 +14,7 @@ invariant-loop-c g l =
     record {
       same : content l.source ≡ content l.fn.source;
       source_later : g.S.PageSource.faults l.fn.source ≤ g.S.PageSource.faults l.source;
+      asked : AsksNoMore g.S.PageSource l.fn.source l.source l.fn.steps l.steps;
       sink_later : g.O.ByteSink.faults l.fn.sink ≤ g.O.ByteSink.faults l.sink;
       cost : l.steps + l.room.left ≡ l.fn.steps + l.fn.room.left;
       came : l.writer.came ≡ l.c;

@@ -76,6 +76,7 @@ loop-origin-preserved g c =
         c.in_ok-origin.ensures.over.cause.later,
         c.in_ok-put_line.ensures.over.source_later,
       );
+      asked = omega (arith, i.asked, c.in_ok-origin.ensures.over.asked, c.in_ok-put_line.ensures.over.asked);
       sink_later = omega (arith, i.sink_later, c.in_ok-put_line.ensures.over.sink_later);
       cost = omega (arith, i.cost, c.in_ok-origin.ensures.steps, c.in_ok-put_line.ensures.cost);
       goes_on = goes_on;

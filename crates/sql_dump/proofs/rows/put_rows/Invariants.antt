@@ -1,4 +1,5 @@
 use Rattle.std.proofs.Common.{◌≡◌, ◌+◌, ◌≤◌, IfSome, false}
+use Rattle.page_source.specs.Calls.{AsksNoMore}
 use Rattle.sql_dump.proofs.TableLines.{RowsSoFar}
 use Rattle.sql_dump.proofs.SomeRows.{SomeSoFar}
 use Rattle.sql_dump.proofs.rows.put_rows.Given as goal
@@ -10,6 +11,7 @@ invariant-loop-origin g l =
     record {
       same : content l.source ≡ content l.fn.source;
       source_later : g.S.PageSource.faults l.fn.source ≤ g.S.PageSource.faults l.source;
+      asked : AsksNoMore g.S.PageSource l.fn.source l.source l.fn.steps l.steps;
       sink_later : g.O.ByteSink.faults l.fn.sink ≤ g.O.ByteSink.faults l.sink;
       cost : l.steps + l.rows.leaf.may_fetch + l.room.left ≡ l.fn.steps + l.fn.rows.leaf.may_fetch + l.fn.room.left;
       goes_on : l.rows.ended ≡ false;

@@ -7,7 +7,7 @@ use Rattle.table_check.proofs.RecordMarks.{field_holds, all_held}
 use Rattle.table_check.proofs.record.check_record.Goals as goal
 
 pub loop-i-init : goal.loop-i-init
-loop-i-init g c = record { have = none_held c.args.marks.now c.args.steps.now }
+loop-i-init g c = record { have = none_held c.args.marks.now c.args.steps.now; asked = omega arith }
 
 pub bounds-places-i : goal.bounds-places-i
 bounds-places-i g c =
@@ -27,8 +27,8 @@ check_field-requires-clause-ready g c =
       members = has.members ∙ c.requires.ready.members;
     }
 
-pub returns-in_err-count : goal.returns-in_err-count
-returns-in_err-count g c =
+pub returns-in_err-count-clause-checks : goal.returns-in_err-count-clause-checks
+returns-in_err-count-clause-checks g c =
     let leaf = c.args.leaf.now in
     let fields = leaf.leaves.fields.now in
     let within : c.loop-i.i < field_count fields =
@@ -39,14 +39,14 @@ returns-in_err-count g c =
     (field_read fields c.fields-field-items.result.now c.loop-i.i _ c.fields-field-items.ensures.same within)
     (place_read leaf.page.now c.args.located.now.origin fields c.places.result.now c.loop-i.i _
     (c.places.ensures ∙ c.requires.whole.read.holds) within)
-    _ _ _ c.in_err-count.field-0.0 c.in_err-count.ensures)
+    _ _ _ c.in_err-count.field-0.0 c.in_err-count.ensures.checks)
 
 pub overflow_add-count : goal.overflow_add-count
 overflow_add-count g c =
     omega (
       arith,
       c.loop-i.invariant.have.has.fewer,
-      c.in_ok-count.ensures.fewer,
+      c.in_ok-count.ensures.checks.fewer,
       unmarked_most c.args.marks.now,
       c.requires.ready.members,
       c.size-size.ensures.is,
@@ -65,10 +65,11 @@ loop-i-preserved g c =
           (field_read fields c.fields-field-items.result.now c.loop-i.i _ c.fields-field-items.ensures.same within)
           (place_read leaf.page.now c.args.located.now.origin fields c.places.result.now c.loop-i.i _
           (c.places.ensures ∙ c.requires.whole.read.holds) within)
-          _ _ _ c.in_ok-count.field-0 c.in_ok-count.ensures;
+          _ _ _ c.in_ok-count.field-0 c.in_ok-count.ensures.checks;
+      asked = omega (arith, c.loop-i.invariant.asked, c.in_ok-count.ensures.asked);
     }
 
-pub returns : goal.returns
-returns g c =
+pub returns-clause-checks : goal.returns-clause-checks
+returns-clause-checks g c =
     all_held c.loop-i.invariant.have
     (omega (arith, ap length c.fields-field-items.ensures.same, c.loop-i-test.false, c.loop-i.auto.i-end))

@@ -25,6 +25,7 @@ loop-j-init g c =
     let first_leaves = tree_leaves_more [] c.push.new.list c.in_ok-clustered.clustered first_list in record {
       same = c.in_ok-clustered.ensures.over.same;
       later = c.in_ok-clustered.ensures.over.cause.later;
+      asked = c.in_ok-clustered.ensures.over.asked;
       members = c.in_ok-clustered.ensures.members;
       segments = c.in_ok-clustered.ensures.segments;
       room = c.in_ok-clustered.ensures.room;
@@ -71,6 +72,7 @@ loop-j-preserved g c =
     record {
       same = c.in_ok-ends.ensures.over.same ∙ inv.same;
       later = omega (arith, inv.later, c.in_ok-ends.ensures.over.cause.later);
+      asked = omega (arith, inv.asked, c.in_ok-ends.ensures.over.asked);
       members = c.in_ok-ends.ensures.members ∙ inv.members;
       segments = c.in_ok-ends.ensures.segments ∙ inv.segments;
       room = c.in_ok-ends.ensures.room;

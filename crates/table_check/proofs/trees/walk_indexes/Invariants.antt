@@ -1,5 +1,5 @@
 use Rattle.std.proofs.Common.{◌≡◌, ◌≤◌, length}
-use Rattle.page_source.specs.Calls.{OfFile}
+use Rattle.page_source.specs.Calls.{OfFile, AsksNoMore}
 use Rattle.tree_walk.specs.Room.{HasRoom}
 use Rattle.table_check.specs.Taken.{AreWalked, AreEnds, LeavesRoom, leaves_of}
 use Rattle.table_check.proofs.trees.walk_indexes.Given as goal
@@ -11,6 +11,7 @@ invariant-loop-j g l =
     record {
       same : content l.source ≡ content l.fn.source;
       later : g.S.PageSource.faults l.fn.source ≤ g.S.PageSource.faults l.source;
+      asked : AsksNoMore g.S.PageSource l.fn.source l.source l.fn.steps l.steps;
       members : length l.taken.pages ≡ length l.fn.taken.pages;
       segments : length l.taken.segments ≡ length l.fn.taken.segments;
       room : HasRoom l.walk 128;

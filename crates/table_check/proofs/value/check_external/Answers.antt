@@ -18,8 +18,8 @@ check_chain-requires-clause-count g c =
     (arith, c.cut.ensures.size, c.requires.most))
     (c.feed.ensures.counts 0 c.text_of-text.ensures.count)
 
-pub returns : goal.returns
-returns g c =
+pub returns-clause-checks : goal.returns-clause-checks
+returns-clause-checks g c =
     let leaf = c.args.leaf.now in
     let local = c.args.local.now in
     let kind = c.args.kind.now in
@@ -51,5 +51,6 @@ returns g c =
       fewer = c.check_chain.ensures.fewer;
       cost = c.check_chain.ensures.cost;
       at_ok = c.check_chain.ensures.spent;
-      over = c.check_chain.ensures.over;
+      same = c.check_chain.ensures.over.same;
+      cause = c.check_chain.ensures.over.cause;
     }

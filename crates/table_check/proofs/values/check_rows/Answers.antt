@@ -13,6 +13,7 @@ pub loop-origin-init : goal.loop-origin-init
 loop-origin-init g c = record {
   have = none_held c.args.leaves.now.segment c.args.marks.now (c.args.steps.now + c.args.rows.now.leaf.may_fetch)
       (c.args.rows.now.live - c.args.rows.now.live) (omega arith) c.requires.told;
+  asked = omega arith;
   few = omega arith;
   goes_on = c.requires.goes_on;
   room = refl;
@@ -30,8 +31,8 @@ next-requires-clause-reads g c =
     t.walked gives)
     c.requires.told have.gives)
 
-pub returns-in_err-origin : goal.returns-in_err-origin
-returns-in_err-origin g c =
+pub returns-in_err-origin-clause-checks : goal.returns-in_err-origin-clause-checks
+returns-in_err-origin-clause-checks g c =
     let have = c.loop-origin.invariant.have in
     let table = c.args.schema.now in
     let given = c.args.rows.now.live - c.loop-origin.rows.live in
@@ -73,8 +74,8 @@ check_row-requires-clause-ready g c =
       members = has.members ∙ c.requires.ready.members;
     }
 
-pub returns-in_err-count : goal.returns-in_err-count
-returns-in_err-count g c =
+pub returns-in_err-count-clause-checks : goal.returns-in_err-count-clause-checks
+returns-in_err-count-clause-checks g c =
     let left = c.next.new.self.leaf.may_fetch in
     let rows = c.args.rows.now in
     let leaves = c.args.leaves.now in
@@ -121,13 +122,14 @@ loop-origin-preserved g c =
           c.in_ok-origin.ensures.exact)
           c.number.ensures c.page.ensures c.requires.list c.in_ok-count.field-0
           (rows.live - c.next.new.self.live) (omega (arith, fewer, inv.few)) c.in_ok-count.ensures.checks;
+      asked = omega (arith, inv.asked, c.in_ok-origin.ensures.over.asked, c.in_ok-count.ensures.asked);
       few = omega (arith, fewer, inv.few);
       goes_on = rw c.in-Some.is at c.in_ok-origin.ensures.goes_on;
       room = c.check_row.ensures.room ∙ inv.room;
     }
 
-pub returns : goal.returns
-returns g c =
+pub returns-clause-checks : goal.returns-clause-checks
+returns-clause-checks g c =
     all_held
     (searched c.args.rows.now c.args.leaves.now.segment c.next.new.steps None c.requires.told
     c.loop-origin.invariant.have (none_found c.in_ok-origin.field-0 c.in_default.not-Some)

@@ -10,10 +10,10 @@ returns-in_err-check_rows-clause-exact g c =
     rw (r.1, r.2)
     (told2 (g.S.PageSource.content c.args.source.now)
     (λ file exactly at. values_stop file c.args.schema.now c.args.marks.now exactly c.in_err-check_rows.field-0.0 at)
-    c.requires.trees c.in_err-check_rows.ensures.exact)
+    c.requires.trees c.in_err-check_rows.ensures.checks.exact)
 
 pub returns-clause-exact : goal.returns-clause-exact
 returns-clause-exact g c =
     told2 (g.S.PageSource.content c.args.source.now)
     (λ file exactly check. values_checked file c.args.schema.now c.args.marks.now exactly None check)
-    c.requires.trees c.in_ok-check_rows.ensures.exact
+    c.requires.trees c.in_ok-check_rows.ensures.checks.exact

@@ -2,6 +2,7 @@ use Rattle.std.proofs.Common.{Ok, Err}
 use Rattle.std.proofs.lemmas.Result.{err_from_is_err_and}
 use Rattle.page_source.proofs.Told.{told1}
 use Rattle.table_check.specs.declared.table.Checked.{Checked}
+use Rattle.table_check.proofs.Asked.{asks_at_most}
 use Rattle.table_check.proofs.Validity.{tells_valid}
 use Rattle.table_check.proofs.whole.check.Goals as goal
 
@@ -20,3 +21,11 @@ returns-clause-valid g c =
     (λ file at. tells_valid c.checks_are_validity.ensures c.first_has_one_answer.ensures file c.args.schema.now
     (Ok c.in_ok-check_table.field-0) at)
     c.in_ok-check_table.ensures.exact
+
+pub returns-in_err-check_table-clause-fetches : goal.returns-in_err-check_table-clause-fetches
+returns-in_err-check_table-clause-fetches g c =
+    asks_at_most c.check_table.new.source c.in_err-check_table.ensures.steps c.in_err-check_table.ensures.over.asked
+
+pub returns-clause-fetches : goal.returns-clause-fetches
+returns-clause-fetches g c =
+    asks_at_most c.check_table.new.source c.in_ok-check_table.ensures.steps c.in_ok-check_table.ensures.over.asked

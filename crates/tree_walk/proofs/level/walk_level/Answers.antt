@@ -26,6 +26,7 @@ places-init g c =
       same = c.in_ok-fetch.ensures.same;
       members = refl;
       later = c.in_ok-fetch.ensures.cause.later;
+      asked = omega (arith, c.in_ok-fetch.ensures.asked.most, c.in_ok-fetch.ensures.step);
       spent = omega (arith, c.in_ok-fetch.ensures.step, c.requires.some);
       told =
           rw ep (told2 (g.S.PageSource.content c.args.source.now)
@@ -132,6 +133,7 @@ places-preserved g c =
       same = c.in_ok-found.ensures.stays.over.same ∙ i.same;
       members = c.in_ok-found.ensures.stays.members ∙ i.members;
       later = omega (arith, k, i.later);
+      asked = omega (arith, i.asked, c.in_ok-found.ensures.stays.over.asked);
       spent = omega (arith, n, i.spent, c.in_ok-found.ensures.spent, c.in-Some.ensures.more);
       told =
           told5 o

@@ -21,6 +21,7 @@ loop-depth-init g c = record {
   same = c.in_ok-top.ensures.stays.over.same;
   members = c.in_ok-top.ensures.stays.members;
   later = c.in_ok-top.ensures.stays.over.cause.later;
+  asked = c.in_ok-top.ensures.stays.over.asked;
   spent = let a = c.in_ok-top.ensures.fewer in let b = c.in_ok-top.ensures.steps in omega arith;
   told =
       told2 (g.S.PageSource.content c.args.source.now)
@@ -64,6 +65,7 @@ loop-depth-preserved g c =
       same = c.in_ok-row.ensures.stays.over.same ∙ c.loop-depth.invariant.same;
       members = c.in_ok-row.ensures.stays.members ∙ c.loop-depth.invariant.members;
       later = let a = c.in_ok-row.ensures.stays.over.cause.later in let b = c.loop-depth.invariant.later in omega arith;
+      asked = let a = c.in_ok-row.ensures.stays.over.asked in let b = c.loop-depth.invariant.asked in omega arith;
       spent = let a = c.in_ok-row.ensures.spent in let b = c.loop-depth.invariant.spent in omega arith;
       told =
           told4 (g.S.PageSource.content c.args.source.now)

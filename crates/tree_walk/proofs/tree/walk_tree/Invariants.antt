@@ -1,5 +1,6 @@
 use Rattle.std.proofs.Common.{◌≡◌, ◌≤◌, ◌+◌, ◌*◌, length, IfSome}
 use Rattle.page_source.specs.Lists.{unmarked}
+use Rattle.page_source.specs.Calls.{AsksNoMore}
 use Rattle.tree_walk.specs.Index.{index_of}
 use Rattle.tree_walk.specs.Room.{HasSameRoom}
 use Rattle.tree_walk.specs.Walk.{TreeState}
@@ -12,6 +13,7 @@ invariant-loop-depth g l =
       same : content l.source ≡ content l.fn.source;
       members : length l.marks ≡ length l.fn.marks;
       later : g.S.PageSource.faults l.fn.source ≤ g.S.PageSource.faults l.source;
+      asked : AsksNoMore g.S.PageSource l.fn.source l.source l.fn.steps l.steps;
       spent : l.steps + 2 * unmarked l.marks + l.row.pages ≤ l.fn.steps + 2 * unmarked l.fn.marks;
       fewer : l.row.pages + unmarked l.marks ≤ unmarked l.fn.marks;
       some : 1 ≤ l.row.pages;

@@ -22,6 +22,7 @@ loop-source-init g c =
     record {
       same = refl;
       later = omega arith;
+      asked = omega arith;
       size = refl;
       spent = refl;
       room = omega (arith, count_by-le-length not c.args.inodes.now.pages);
@@ -72,6 +73,7 @@ loop-source-preserved g c =
     record {
       same = c.in_ok-next.ensures.over.same ∙ i.same;
       later = omega (arith, i.later, c.in_ok-next.ensures.over.cause.later);
+      asked = omega (arith, i.asked, c.in_ok-next.ensures.over.asked);
       size = ap length now ∙ length-set pages n true ∙ i.size;
       spent = omega (arith, i.spent, c.in_ok-next.ensures.cost, ap unmarked now, fewer);
       room = omega (arith, i.room, ap unmarked now, fewer, ap length now, length-set pages n true);

@@ -1,5 +1,6 @@
 use Rattle.std.proofs.Common.{◌≡◌, ℕ, ◌+◌, ◌≤◌, ◌++◌, List, length, IfSome}
 use Rattle.page_source.specs.Lists.{AreMarked, flag_in, unmarked}
+use Rattle.page_source.specs.Calls.{AsksNoMore}
 use Rattle.inode_segments.specs.Inodes.{stepped_pages}
 use Rattle.inode_segments.specs.InodeChecks.{inode_list}
 use Rattle.inode_segments.specs.Walk.{IsAt, Held, Grew}
@@ -12,6 +13,7 @@ invariant-loop-source g l =
     record {
       same : content l.source ≡ content l.fn.source;
       later : g.S.PageSource.faults l.fn.source ≤ g.S.PageSource.faults l.source;
+      asked : AsksNoMore g.S.PageSource l.fn.source l.source l.fn.steps l.steps;
       size : length l.inodes.pages ≡ length l.fn.inodes.pages;
       spent : l.steps + unmarked l.inodes.pages ≡ l.fn.steps + unmarked l.fn.inodes.pages;
       room : l.count + unmarked l.inodes.pages ≤ length l.inodes.pages;

@@ -19,6 +19,7 @@ loop-origin-init g c =
     record {
       same = refl;
       later = omega arith;
+      asked = omega arith;
       goes_on = ended ∙ c.requires.goes_on;
       live = live;
       spent = ap (λ n. c.args.steps.now + n) leaf;
@@ -61,7 +62,7 @@ pub returns-in_err-origin-clause-over : goal.returns-in_err-origin-clause-over
 returns-in_err-origin-clause-over g c =
     let i = c.loop-origin.invariant in
     let r = err_from_is_err_and c.from_residual.result c.from_residual.ensures.1 in
-    rw (r.1, r.2) (over_both _ i.same i.later (halt_as c.in_err-origin.field-0.0) c.in_err-origin.ensures.keeps)
+    rw (r.1, r.2) (over_both _ i.same i.later i.asked (halt_as c.in_err-origin.field-0.0) c.in_err-origin.ensures.keeps)
 
 pub returns-in_err-origin-clause-steps : goal.returns-in_err-origin-clause-steps
 returns-in_err-origin-clause-steps g c = c.next.ensures.steps ∙ c.loop-origin.invariant.spent
@@ -91,7 +92,7 @@ returns-then-left-eq0-clause-exact g c =
 pub returns-then-left-eq0-clause-over : goal.returns-then-left-eq0-clause-over
 returns-then-left-eq0-clause-over g c =
     let i = c.loop-origin.invariant in
-    over_both _ i.same i.later (λ e. absurd (cc)) c.next.ensures.keeps
+    over_both _ i.same i.later i.asked (λ e. absurd (cc)) c.next.ensures.keeps
 
 pub returns-then-left-eq0-clause-steps : goal.returns-then-left-eq0-clause-steps
 returns-then-left-eq0-clause-steps g c = c.next.ensures.steps ∙ c.loop-origin.invariant.spent
@@ -124,7 +125,7 @@ returns-then-not-is_deleted-clause-fewer g c =
 pub returns-then-not-is_deleted-clause-over : goal.returns-then-not-is_deleted-clause-over
 returns-then-not-is_deleted-clause-over g c =
     let i = c.loop-origin.invariant in
-    over_both _ i.same i.later (λ e. absurd (cc)) c.next.ensures.keeps
+    over_both _ i.same i.later i.asked (λ e. absurd (cc)) c.next.ensures.keeps
 
 pub returns-then-not-is_deleted-clause-steps : goal.returns-then-not-is_deleted-clause-steps
 returns-then-not-is_deleted-clause-steps g c = c.next.ensures.steps ∙ c.loop-origin.invariant.spent
@@ -150,6 +151,7 @@ loop-origin-preserved g c =
           record {
             same = c.next.ensures.keeps.same ∙ i.same;
             later = omega (arith, i.later, c.next.ensures.keeps.cause.later);
+            asked = omega (arith, i.asked, c.next.ensures.keeps.asked);
             goes_on = ended;
             live = i.live;
             spent = c.next.ensures.steps ∙ i.spent;
@@ -207,7 +209,7 @@ returns-clause-exact g c =
 pub returns-clause-over : goal.returns-clause-over
 returns-clause-over g c =
     let i = c.loop-origin.invariant in
-    over_both _ i.same i.later (λ e. absurd (cc)) c.next.ensures.keeps
+    over_both _ i.same i.later i.asked (λ e. absurd (cc)) c.next.ensures.keeps
 
 pub returns-clause-steps : goal.returns-clause-steps
 returns-clause-steps g c = c.next.ensures.steps ∙ c.loop-origin.invariant.spent

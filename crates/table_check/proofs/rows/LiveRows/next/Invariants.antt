@@ -1,4 +1,5 @@
 use Rattle.std.proofs.Common.{◌≡◌, ℕ, ◌+◌, ◌≤◌, IfSome, false}
+use Rattle.page_source.specs.Calls.{AsksNoMore}
 use Rattle.column_values.specs.Types.{Fields}
 use Rattle.tree_walk.specs.Index.{index_of}
 use Rattle.tree_walk.specs.Leaf.{IsWalked}
@@ -13,6 +14,7 @@ invariant-loop-origin g l =
     record {
       same : content l.source ≡ content l.fn.source;
       later : g.S.PageSource.faults l.fn.source ≤ g.S.PageSource.faults l.source;
+      asked : AsksNoMore g.S.PageSource l.fn.source l.source l.fn.steps l.steps;
       goes_on : l.self-inside.cursor.ended ≡ false;
       live : l.self-inside.live ≡ l.fn.self.live;
       spent : l.steps + l.self-inside.cursor.leaf.may_fetch ≡ l.fn.steps + l.fn.self.leaf.may_fetch;

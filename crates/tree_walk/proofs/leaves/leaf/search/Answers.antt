@@ -66,6 +66,7 @@ pub leaves-init : goal.leaves-init
 leaves-init g c = record {
   same = refl;
   later = omega arith;
+  asked = omega arith;
   spent = refl;
   header = c.requires.header;
   along = c.requires.along;
@@ -83,6 +84,7 @@ leaves-preserved g c =
     record {
       same = c.in_ok-open.ensures.same ∙ i.same;
       later = omega (arith, i.later, c.in_ok-open.ensures.cause.later);
+      asked = omega (arith, i.asked, c.in_ok-open.ensures.asked.most, c.in_ok-open.ensures.steps);
       spent = omega (arith, i.spent, c.in_ok-open.ensures.fetches, c.in_ok-open.ensures.steps);
       header = (omega arith, omega arith);
       along = along_first c.open.new.leaf.page;

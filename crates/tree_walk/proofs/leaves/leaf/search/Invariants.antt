@@ -1,4 +1,5 @@
 use Rattle.std.proofs.Common.{◌≡◌, ◌+◌, ◌≤◌, ℕ, IfSome}
+use Rattle.page_source.specs.Calls.{AsksNoMore}
 use Rattle.column_values.specs.Types.{Fields}
 use Rattle.compact_record.specs.Header.{HasHeaderBytes}
 use Rattle.tree_walk.specs.Index.{index_of}
@@ -12,6 +13,7 @@ invariant-leaves g l =
     record {
       same : content l.source ≡ content l.fn.source;
       later : g.S.PageSource.faults l.fn.source ≤ g.S.PageSource.faults l.source;
+      asked : AsksNoMore g.S.PageSource l.fn.source l.source l.fn.steps l.steps;
       spent : l.steps + l.leaf.may_fetch ≡ l.fn.steps + l.fn.leaf.may_fetch;
       header : HasHeaderBytes l.at;
       along : IsAlong l.leaf.page l.at;
