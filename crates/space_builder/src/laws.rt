@@ -6,13 +6,15 @@ ghost use Rattle.space_builder.specs.layout.Laws.{BuildsNoLeftOvers, BuildsValid
 ghost use Rattle.space_builder.specs.layout.LowerLaws.{LowerLaws};
 ghost use Rattle.space_builder.specs.layout.TreeSpot.{PagesArePacked};
 ghost use Rattle.space_builder.specs.layout.ValuePage.{PagesAreOfChains};
+ghost use Rattle.space_builder.specs.build.StoredRows.{PicksEntries, SamePagesGiveRecords};
+ghost use Rattle.space_builder.specs.build.StoredRows.{StoredRowsGiveEntries};
 ghost use Rattle.space_builder.specs.build.Laws.{GoodTextsCanBuild, GoodTextsBuildValid, GoodTextsAreOfRows};
 
 use offpage_chain::laws::part_pages_are_read;
 use page_packer::laws::{a_page_has_its_numbers, a_page_holds_its_entries, sealing_keeps_the_body};
 use row_layout::laws::{
-    entries_are_alike, entries_can_divide, held_rows_are_rows, held_values_are_sound,
-    nothing_is_left_over,
+    entries_are_alike, entries_can_divide, entries_differ, fitted_rows_are_rows,
+    held_rows_are_rows, held_values_are_sound, nothing_is_left_over,
 };
 use space_layout::laws::{
     file_holds_space, holds_its_segments, holds_sound_space, indexes_have_sizes,
@@ -20,11 +22,11 @@ use space_layout::laws::{
 };
 use tree_layout::laws::{
     counts_are_of_sizes, divided_trees_have_rows, division_gives_levels, headers_name_segments,
-    numbers_are_different,
+    numbers_are_different, sorting_rises,
 };
 
 /// What the crates below say of pages, spaces, trees and rows.
-fn laws_below()
+pub(crate) fn laws_below()
     ensures { LowerLaws }
 {
     a_page_holds_its_entries();
@@ -123,3 +125,24 @@ pub fn pages_are_packed()
 pub fn pages_are_of_chains()
     ensures { PagesAreOfChains }
 {}
+
+/// The fields of the rows, picked in the order of an index, are its entries.
+pub fn picked_entries_are_sorted()
+    ensures { PicksEntries }
+{
+    fitted_rows_are_rows();
+    entries_differ();
+    sorting_rises();
+}
+
+/// The records of rows are the same, whatever pages are named for fields that stay on the page.
+pub fn same_pages_give_records()
+    ensures { SamePagesGiveRecords }
+{}
+
+/// The records of the rows and the entries of all other indexes are the entries of the layout.
+pub fn stored_rows_give_entries()
+    ensures { StoredRowsGiveEntries }
+{
+    picked_entries_are_sorted();
+}

@@ -1,11 +1,39 @@
 //! Builds a tablespace.
 #![tactic(auto)]
 
+#[cfg(test)]
+mod build_tests;
+mod builder;
 mod built;
+mod clustered;
+mod counts;
+mod entries;
+mod fitting;
+mod head_pages;
 pub mod laws;
+mod levels;
+#[cfg(test)]
+mod levels_tests;
+mod line_reader;
+mod next_row;
+mod order;
 mod places;
+mod plan;
+mod read_rows;
+#[cfg(test)]
+mod read_tests;
+mod row_fields;
+mod row_shape;
+#[cfg(test)]
+mod rows_tests;
+mod secondary;
+mod space;
+mod stored;
 mod tree_pages;
+mod tree_plan;
+mod values;
 
+pub use builder::build;
 pub use built::{BuildStop, Built, RowsWhy};
 pub use places::tree_number;
 pub use tree_pages::{TreeSpot, put_tree_page};

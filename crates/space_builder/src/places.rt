@@ -10,7 +10,7 @@ use space_layout::segment_page;
 use tree_layout::laws::numbers_are_different;
 
 /// How many pages the levels above one have, by how many each has, from the leaves up.
-fn pages_above(counts: &[u32], l: usize) -> u32
+pub(crate) fn pages_above(counts: &[u32], l: usize) -> u32
     requires level { l < length counts.now }
     requires small { pages_above counts.now l < 2 ^ 32 }
     ensures { result ≡ pages_above counts.now l }

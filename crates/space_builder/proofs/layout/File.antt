@@ -142,7 +142,7 @@ module _ (laws : LowerLaws) (table : TableDef) (rows : Rows) (can : CanBuild tab
       apart a.j a.l a.k b.r b.i b.k a.index (inside_counts laws table rows can a.j a.index a.l a.k a.inside a.within)
       (within_counts laws table rows can a.j a.index a.l a.k a.inside a.within) b.part (sym a.number ∙ b.number)
 
-  one_page : (n : ℕ) (p q : List ℕ) → IsLaid table rows (n, p) → IsLaid table rows (n, q) → p ≡ q
+  pub one_page : (n : ℕ) (p q : List ℕ) → IsLaid table rows (n, p) → IsLaid table rows (n, q) → p ≡ q
   one_page n p q (inl a) (inl b) = two_trees n p q a b
   one_page n p q (inl a) (inr b) = absurd (tree_apart n p q a b)
   one_page n p q (inr a) (inl b) = absurd (tree_apart n q p b a)

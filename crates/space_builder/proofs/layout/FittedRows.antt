@@ -8,22 +8,27 @@ use Rattle.schema_text.specs.TableDef.{TableDef}
 use Rattle.row_layout.specs.StoredRow.{Stored, fitted_row}
 use Rattle.row_layout.specs.HoldsValues.{AreFitted}
 use Rattle.space_builder.specs.layout.Layout.{Rows, stored_rows}
-use Rattle.space_builder.specs.layout.Laws.{CanBuild}
+use Rattle.row_layout.specs.RowKeys.{AreTableRows}
+use Rattle.space_builder.specs.layout.Laws.{CanBuild, HaveFittedRows}
 
 some_is : {A : Type 0} (o : Option A) (d : A) → is_some o ≡ true → o ≡ Some (unwrap_or o d)
 some_is None d some = absurd (false≢true some)
 some_is (Some x) d some = refl
 
-pub are_fitted : (table : TableDef) (rows : Rows) → CanBuild table rows → AreFitted table rows (stored_rows table rows)
+pub fitted_if : (table : TableDef) (rows : Rows) → AreTableRows table rows → HaveFittedRows table rows
+    → AreFitted table rows (stored_rows table rows)
 unfolding stored_rows
-are_fitted table rows can = record {
+fitted_if table rows are_rows fitted = record {
   count = length-map-range_with_len stored 0 (length rows);
-  are_rows = can.are_rows;
+  are_rows = are_rows;
   fit = λ r within.
-      some_is (fitted_row table r (get_or rows r [])) [] (can.fitted r within)
+      some_is (fitted_row table r (get_or rows r [])) [] (fitted r within)
       ∙ ap (λ (row : List Stored). Some row)
       (sym (get_or-map-range_with_len stored 0 (length rows) r r [] within (omega arith)));
 }
   where
     stored : ℕ → List Stored
     stored r = unwrap_or (fitted_row table r (get_or rows r [])) []
+
+pub are_fitted : (table : TableDef) (rows : Rows) → CanBuild table rows → AreFitted table rows (stored_rows table rows)
+are_fitted table rows can = fitted_if table rows can.are_rows can.fitted

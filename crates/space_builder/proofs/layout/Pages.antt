@@ -1,6 +1,6 @@
 -- The map of the pages of a built tablespace has each page at its number, and so has the file.
 use Rattle.std.proofs.Common.{◌≡◌, ◌≢◌, ℕ, ◌+◌, ◌-◌, ◌*◌, ◌/◌, ◌%◌, ◌<◌, ◌≤◌, ◌==◌, cond, List, []}
-use Rattle.std.proofs.Common.{true, false, eqb, length, map, get_or, slice_index, Contains, ◌⊎◌}
+use Rattle.std.proofs.Common.{true, false, eqb, length, map, get_or, Contains, ◌⊎◌}
 use Rattle.std.proofs.Common.{refl, sym, ap, ◌∙◌, subst, arith, inl, inr}
 use Rattle.std.specs.List.{All, flat_map, range_with_len}
 use Rattle.std.proofs.lemmas.Bool.{cases_lt}
@@ -9,19 +9,22 @@ use Rattle.std.proofs.lemmas.List.Elements.{All-append, Contains-append_left, Co
 use Rattle.schema_text.specs.TableDef.{TableDef}
 use Rattle.space_layout.specs.Numbers.{size_at, segment_page, IsPlace}
 use Rattle.space_layout.specs.NumberedPages.{Numbered, IsNumbered, AreSegmentPages}
-use Rattle.space_layout.specs.ValuePlaces.{row_at, IsPart}
+use Rattle.space_layout.specs.ValuePlaces.{IsPart}
 use Rattle.tree_layout.specs.Levels.{width_at}
 use Rattle.tree_layout.specs.Places.{place_for, leaf_size, IsTreePlace}
 use Rattle.space_builder.specs.layout.Layout.{Rows, tree_counts, value_counts, value_total, segment_sizes, value_number}
 use Rattle.space_builder.specs.layout.Layout.{page_number, index_levels, layout_tree_page, level_pages, index_pages}
-use Rattle.space_builder.specs.layout.Layout.{layout_value_page, field_pages, row_pages, segment_pages}
+use Rattle.space_builder.specs.layout.Layout.{stored_rows, layout_value_page, value_pages, segment_pages}
+use Rattle.space_builder.specs.layout.ValuePage.{pages_of_field, pages_of_row, pages_of_values}
+use Rattle.row_layout.specs.StoredRow.{Stored, stored_at}
+use Rattle.row_layout.specs.HoldsValues.{stored_in, pages_of_stored}
 use Rattle.space_builder.specs.layout.LowerLaws.{LowerLaws}
 use Rattle.space_builder.specs.layout.Laws.{CanBuild}
 use Rattle.tree_layout.proofs.Numbers.{page_at_place}
 use Rattle.row_layout.proofs.Ranges.{all_map}
 use Rattle.space_builder.proofs.layout.Laid.{all_flat, contains_flat, contains_mapped, contains_image}
 use Rattle.space_builder.proofs.layout.Laid.{fits, levels_length, levels_width}
-use Rattle.space_builder.proofs.layout.Laid.{tree_numbered, places}
+use Rattle.space_builder.proofs.layout.Laid.{tree_numbered, places, parts_long, row_long, field_is}
 use Rattle.space_builder.proofs.layout.Laid.{value_numbered}
 use Rattle.space_builder.proofs.layout.Sizes.{top_is, leaf_is, segments_are}
 
@@ -64,11 +67,23 @@ module _ (laws : LowerLaws) (table : TableDef) (rows : Rows) (can : CanBuild tab
   abbrev parts : List (List ℕ)
   parts = value_counts table rows
 
+  abbrev stored : List (List Stored)
+  stored = stored_rows table rows
+
+  -- a page of a stored field is a part
+  part_of : (r i k : ℕ) → r < length stored → i < length (stored_in stored r)
+      → k < pages_of_stored table.format (stored_at (stored_in stored r) i) → IsPart parts r i k
+  part_of r i k row field within =
+      let long = parts_long laws table rows can in
+      let size = row_long laws table rows can r row in
+      let here = field_is laws table rows can r i row field in
+      record { row = omega arith; field = omega arith; part = omega arith }
+
   pub all_laid : All (IsLaid table rows) (segment_pages table rows)
-  unfolding segment_pages
+  unfolding segment_pages pages_of_values
   all_laid =
       All-append (IsLaid table rows) (flat_map (index_pages table rows) (range_with_len 0 (length table.indexes)))
-      (flat_map (row_pages table rows) (range_with_len 0 (length parts)))
+      (value_pages table rows)
       (all_flat (IsLaid table rows) (index_pages table rows) 0 (length table.indexes)
       (λ j low index. all_flat (IsLaid table rows) (level_pages table rows j) 0 (length (index_levels table rows j))
       (λ l under inside. all_map (IsLaid table rows)
@@ -84,16 +99,19 @@ module _ (laws : LowerLaws) (table : TableDef) (rows : Rows) (can : CanBuild tab
         number = refl;
         page = refl;
       }))))
-      (all_flat (IsLaid table rows) (row_pages table rows) 0 (length parts)
-      (λ r low row. all_flat (IsLaid table rows) (field_pages table rows r) 0 (length (row_at parts r))
+      (all_flat (IsLaid table rows) (λ r. pages_of_row table.format (value_number table rows r) (stored_in stored r)) 0
+      (length stored)
+      (λ r low row. all_flat (IsLaid table rows)
+      (λ i. pages_of_field table.format (value_number table rows r i) (stored_at (stored_in stored r) i)) 0
+      (length (stored_in stored r))
       (λ i under field. all_map (IsLaid table rows)
-      (λ k. (value_number table rows r i k, layout_value_page table rows r i k)) (slice_index (row_at parts r) i)
-      no_page
+      (λ k. (value_number table rows r i k, layout_value_page table rows r i k))
+      (pages_of_stored table.format (stored_at (stored_in stored r) i)) no_page
       (λ k within. inr record {
         r = r;
         i = i;
         k = k;
-        part = record { row = omega arith; field = omega arith; part = within };
+        part = part_of r i k (omega arith) (omega arith) within;
         number = refl;
         page = refl;
       }))))
@@ -107,7 +125,7 @@ module _ (laws : LowerLaws) (table : TableDef) (rows : Rows) (can : CanBuild tab
       contains_image (λ (entry : Numbered). entry.0) (segment_pages table rows)
       (page_number table rows j l k, layout_tree_page table rows j l k)
       (Contains-append_left (flat_map (index_pages table rows) (range_with_len 0 (length table.indexes)))
-      (flat_map (row_pages table rows) (range_with_len 0 (length parts)))
+      (value_pages table rows)
       (page_number table rows j l k, layout_tree_page table rows j l k)
       (contains_flat (index_pages table rows) (length table.indexes) j
       (page_number table rows j l k, layout_tree_page table rows j l k) index
@@ -118,19 +136,29 @@ module _ (laws : LowerLaws) (table : TableDef) (rows : Rows) (can : CanBuild tab
 
   value_there : (r i k : ℕ) → IsPart parts r i k
       → Contains (map (λ (entry : Numbered). entry.0) (segment_pages table rows)) (value_number table rows r i k)
-  unfolding segment_pages
+  unfolding segment_pages pages_of_values
   value_there r i k part =
+      let long = parts_long laws table rows can in
+      let in_rows = part.row in
+      let row : r < length stored = omega arith in
+      let size = row_long laws table rows can r row in
+      let in_row = part.field in
+      let field : i < length (stored_in stored r) = omega arith in
+      let here = field_is laws table rows can r i row field in
+      let in_field = part.part in
       contains_image (λ (entry : Numbered). entry.0) (segment_pages table rows)
       (value_number table rows r i k, layout_value_page table rows r i k)
       (Contains-append_right (flat_map (index_pages table rows) (range_with_len 0 (length table.indexes)))
-      (flat_map (row_pages table rows) (range_with_len 0 (length parts)))
+      (value_pages table rows)
       (value_number table rows r i k, layout_value_page table rows r i k)
-      (contains_flat (row_pages table rows) (length parts) r
-      (value_number table rows r i k, layout_value_page table rows r i k) part.row
-      (contains_flat (field_pages table rows r) (length (row_at parts r)) i
-      (value_number table rows r i k, layout_value_page table rows r i k) part.field
+      (contains_flat (λ r. pages_of_row table.format (value_number table rows r) (stored_in stored r)) (length stored) r
+      (value_number table rows r i k, layout_value_page table rows r i k) row
+      (contains_flat
+      (λ i. pages_of_field table.format (value_number table rows r i) (stored_at (stored_in stored r) i))
+      (length (stored_in stored r)) i
+      (value_number table rows r i k, layout_value_page table rows r i k) field
       (contains_mapped (λ k. (value_number table rows r i k, layout_value_page table rows r i k))
-      (slice_index (row_at parts r) i) k part.part))))
+      (pages_of_stored table.format (stored_at (stored_in stored r) i)) k (omega arith)))))
 
   -- each place of the tree of an index has its page
   place_there : (j s i : ℕ) → j < length table.indexes → IsTreePlace (counts j) j s i

@@ -1,6 +1,6 @@
 -- What a build answers, and what its store then holds.
-use Rattle.std.specs.Prelude.{◌≡◌, ◌≢◌, ℕ, ◌<◌, ◌≤◌, ◌⊎◌, List, length, Some, None, IfSome, IsNone, IsSome, Result, Ok}
-use Rattle.std.specs.Prelude.{Err}
+use Rattle.std.specs.Prelude.{◌≡◌, ◌≢◌, ℕ, ◌<◌, ◌≤◌, ◌⊎◌, List, length, Some, None, Option, IfSome, IsNone, IsSome, Result}
+use Rattle.std.specs.Prelude.{Ok, Err, [], ⊤}
 use Rattle.std.specs.FinMap.{get}
 use Rattle.page_source.specs.Faults.{Rose}
 use Rattle.page_source.specs.Objects.{IsTold, Store}
@@ -8,8 +8,9 @@ use Rattle.schema_text.specs.TableDef.{TableDef}
 use Rattle.space_builder.specs.declared.built.Built.{Built}
 use Rattle.space_builder.specs.declared.built.BuildStop.{BuildStop}
 use Rattle.space_builder.specs.declared.built.BuildStop.TheVariants as stops
-use Rattle.space_builder.specs.layout.Layout.{Rows, layout_extents, layout_size, layout_map}
+use Rattle.space_builder.specs.layout.Layout.{Rows, FitsSpace, layout_extents, layout_size, layout_map}
 use Rattle.space_builder.specs.build.BadLine.{RootOrderChecks, RowsChecks, AreRowsOf}
+use Rattle.space_builder.specs.build.ReadRows.{AreGoodRows}
 
 -- the store has the layout's size, and holds its pages
 pub record HoldsLayout (table : TableDef) (rows : Rows) (before now : Store) : Type 0 where
@@ -25,26 +26,36 @@ pub record HoldsPart (table : TableDef) (rows : Rows) (before now : Store) : Typ
 abbrev pub LacksHead : Store → Type 0
 LacksHead store = IfSome store.held (λ held. IsNone (get held 0))
 
--- the text holds rows that can be built, and this is so of them
-abbrev pub OfRows : TableDef → List ℕ → (Rows → Type 0) → Type 0
-OfRows table text Fact =
-    RootOrderChecks table None
-    × ((rows : Rows) × AreRowsOf table text rows × (layout_extents table rows ≤ 256) × Fact rows)
+-- rows that are good, and those of the text where it is told
+pub record AreRowsRead (table : TableDef) (text : Option (List ℕ)) (rows : Rows) : Type 0 where
+  pub good : AreGoodRows table rows
+  pub of_text : IfSome text (λ text. AreRowsOf table text rows)
 
--- what a build over a told rows text answers, and leaves in its store
-abbrev pub Builds : TableDef → List ℕ → Result Built BuildStop → Store → Store → Type 0
+-- the roots are in order, and the text has such rows, of which this is so
+abbrev pub OfRows : TableDef → Option (List ℕ) → (Rows → Type 0) → Type 0
+OfRows table text Fact = RootOrderChecks table None × ((rows : Rows) × AreRowsRead table text rows × Fact rows)
+
+-- what a build over a rows text answers, which may be told, and what it leaves in its store
+abbrev pub Builds : TableDef → Option (List ℕ) → Result Built BuildStop → Store → Store → Type 0
 Builds table text (Ok built) before now =
-    OfRows table text (λ rows. HoldsLayout table rows before now × (built.pages ≡ layout_size table rows)
-    × (built.rows ≡ length rows))
+    OfRows table text (λ rows. FitsSpace table rows × HoldsLayout table rows before now
+    × (built.pages ≡ layout_size table rows) × (built.rows ≡ length rows))
 Builds table text (Err (stops.RootPlace line)) before now = RootOrderChecks table (Some line) × (now ≡ before)
 Builds table text (Err (stops.RowsRefused line why)) before now =
-    RootOrderChecks table None × RowsChecks table text (Some (record { line = line; why = why })) × (now ≡ before)
+    RootOrderChecks table None
+    × IfSome text (λ text. RowsChecks table text (Some (record { line = line; why = why }))) × (now ≡ before)
 Builds table text (Err stops.Full) before now =
-    RootOrderChecks table None × ((rows : Rows) × AreRowsOf table text rows × (256 < layout_extents table rows))
-    × (now ≡ before)
-Builds table text (Err stops.Source) before now = now ≡ before
-Builds table text (Err stops.Store) before now = OfRows table text (λ rows. HoldsPart table rows before now)
+    OfRows table text (λ rows. 256 < layout_extents table rows) × (now ≡ before)
+Builds table text (Err stops.Source) before now = RootOrderChecks table None × (now ≡ before)
+Builds table text (Err stops.Store) before now =
+    OfRows table text (λ rows. FitsSpace table rows × HoldsPart table rows before now)
 Builds table text (Err stops.Memory) before now = LacksHead now
+
+-- what is left of the text: all of it where the roots aren't in order, and nothing where it was built
+abbrev pub ReadsText : {R : Type 0} → (R → Option (List ℕ)) → R → R → Result Built BuildStop → Type 0
+ReadsText left old new (Ok built) = IfSome (left old) (λ text. left new ≡ Some [])
+ReadsText left old new (Err (stops.RootPlace line)) = new ≡ old
+ReadsText left old new (Err stop) = ⊤
 
 -- a fault is answered only where the count of that object rose
 pub record BuildsWithCause (source source_now store store_now : ℕ) (result : Result Built BuildStop) : Type 0 where

@@ -1,6 +1,6 @@
 -- The whole tablespace of some rows of a table.
-use Rattle.std.specs.Prelude.{ℕ, ◌+◌, ◌≤◌, ◌==◌, if◌then◌else◌, List, [], ◌++◌, length, map, flat_map}
-use Rattle.std.specs.Prelude.{slice_index, slice_index_or, unwrap_or}
+use Rattle.std.specs.Prelude.{ℕ, ◌+◌, ◌≤◌, ◌==◌, if◌then◌else◌, List, [], ◌∷◌, ◌++◌, length, map, flat_map}
+use Rattle.std.specs.Prelude.{slice_index_or, unwrap_or}
 use Rattle.std.specs.List.{range_with_len}
 use Rattle.page_source.specs.Objects.{PageMap, file_of}
 use Rattle.column_values.specs.declared.value.Value.{Value}
@@ -9,16 +9,16 @@ use Rattle.schema_text.specs.TableDef.{TableDef}
 use Rattle.schema_text.specs.IndexFields.{leaf_fields, node_fields}
 use Rattle.tree_layout.specs.Entries.{Entry}
 use Rattle.space_layout.specs.Numbers.{sizes_of, extents_needed, space_pages, segment_page}
+use Rattle.space_layout.specs.HeadPages.{bitmap_page, inode_page}
 use Rattle.space_layout.specs.NumberedPages.{Numbered, numbered_map}
-use Rattle.space_layout.specs.ValuePlaces.{value_page_number, value_page_count, row_at}
+use Rattle.space_layout.specs.ValuePlaces.{value_page_number, value_page_count}
 use Rattle.tree_layout.specs.Division.{Level, tree_levels, level_counts}
-use Rattle.tree_layout.specs.Levels.{width_at}
 use Rattle.tree_layout.specs.Places.{top_size, leaf_size, tree_number}
 use Rattle.row_layout.specs.StoredRow.{Stored, stored_at, fitted_row, off_bytes}
-use Rattle.row_layout.specs.HoldsValues.{stored_in, pages_of_stored}
+use Rattle.row_layout.specs.HoldsValues.{stored_in}
 use Rattle.row_layout.specs.LeafEntries.{leaf_entries}
-use Rattle.space_builder.specs.layout.TreePage.{tree_page}
-use Rattle.space_builder.specs.layout.ValuePage.{value_page_bytes}
+use Rattle.space_builder.specs.layout.TreePage.{tree_page, pages_of_level, pages_of_tree}
+use Rattle.space_builder.specs.layout.ValuePage.{value_page_bytes, page_counts, pages_of_values}
 
 -- the rows of a table, each by its values
 abbrev pub Rows : Type 0
@@ -41,7 +41,7 @@ tree_counts table rows j =
 
 -- how many pages each field of each row goes on in, and how many they are
 unfoldable pub value_counts : TableDef → Rows → List (List ℕ)
-value_counts table rows = map (λ row. map (pages_of_stored table.format) row) (stored_rows table rows)
+value_counts table rows = page_counts table.format (stored_rows table rows)
 
 abbrev pub value_total : TableDef → Rows → ℕ
 value_total table rows = value_page_count (value_counts table rows)
@@ -80,33 +80,32 @@ layout_tree_page table rows j l k =
 
 abbrev pub level_pages : TableDef → Rows → ℕ → ℕ → List Numbered
 level_pages table rows j l =
-    map (λ k. (page_number table rows j l k, layout_tree_page table rows j l k))
-    (range_with_len 0 (width_at (index_levels table rows j) l))
+    pages_of_level (leaf_fields table j) (node_fields table j) (page_number table rows j) (index_levels table rows j) j l
 
 abbrev pub index_pages : TableDef → Rows → ℕ → List Numbered
-index_pages table rows j = flat_map (level_pages table rows j) (range_with_len 0 (length (index_levels table rows j)))
+index_pages table rows j =
+    pages_of_tree (leaf_fields table j) (node_fields table j) (page_number table rows j) (index_levels table rows j) j
 
--- the page of part k of field i of row r, the pages of that field, and of that row
+-- the page of part k of field i of row r, and the pages of all values
 abbrev pub field_bytes : TableDef → Rows → ℕ → ℕ → List ℕ
 field_bytes table rows r i = off_bytes table.format (stored_at (stored_in (stored_rows table rows) r) i)
 
 abbrev pub layout_value_page : TableDef → Rows → ℕ → ℕ → ℕ → List ℕ
 layout_value_page table rows r i k = value_page_bytes (value_number table rows r i) (field_bytes table rows r i) k
 
-abbrev pub field_pages : TableDef → Rows → ℕ → ℕ → List Numbered
-field_pages table rows r i =
-    map (λ k. (value_number table rows r i k, layout_value_page table rows r i k))
-    (range_with_len 0 (slice_index (row_at (value_counts table rows) r) i))
+abbrev pub value_pages : TableDef → Rows → List Numbered
+value_pages table rows = pages_of_values table.format (value_number table rows) (stored_rows table rows)
 
-abbrev pub row_pages : TableDef → Rows → ℕ → List Numbered
-row_pages table rows r =
-    flat_map (field_pages table rows r) (range_with_len 0 (length (row_at (value_counts table rows) r)))
+-- the pages of all trees, and of all segments
+abbrev pub trees_pages : TableDef → Rows → List Numbered
+trees_pages table rows = flat_map (index_pages table rows) (range_with_len 0 (length table.indexes))
 
--- the pages of all segments
 unfoldable pub segment_pages : TableDef → Rows → List Numbered
-segment_pages table rows =
-    flat_map (index_pages table rows) (range_with_len 0 (length table.indexes))
-    ++ flat_map (row_pages table rows) (range_with_len 0 (length (value_counts table rows)))
+segment_pages table rows = trees_pages table rows ++ value_pages table rows
+
+-- the second and the third page of the tablespace
+abbrev pub system_pages : List ℕ → List Numbered
+system_pages sizes = (2, inode_page sizes) ∷ (1, bitmap_page) ∷ []
 
 -- how many extents the tablespace needs, its size in pages, and its pages by number
 abbrev pub layout_extents : TableDef → Rows → ℕ

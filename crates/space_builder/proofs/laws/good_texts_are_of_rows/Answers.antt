@@ -1,4 +1,4 @@
-use Rattle.space_builder.proofs.build.Texts.{texts_are_of_rows}
+use Rattle.space_builder.proofs.building.Texts.{texts_are_of_rows}
 use Rattle.space_builder.proofs.laws.good_texts_are_of_rows.Goals as goal
 
 pub returns : goal.returns

@@ -1,4 +1,4 @@
-use Rattle.space_builder.proofs.build.Good.{good_texts}
+use Rattle.space_builder.proofs.building.Good.{good_texts}
 use Rattle.space_builder.proofs.laws.good_texts_can_be_built.Goals as goal
 
 pub returns : goal.returns

@@ -1,0 +1,118 @@
+-- What a build answers at each of its ends.
+use Rattle.std.proofs.Common.{◌≡◌, ℕ, ◌≤◌, List, [], length, None, Ok, Err, refl}
+use Rattle.std.proofs.Common.{ap, ◌∙◌, unwrap_or, slice_index_or}
+use Rattle.std.specs.FinMap.{get, get-empty}
+use Rattle.std.specs.Option.{is_some}
+use Rattle.std.specs.Ordering.{nat_cmp}
+use Rattle.std.proofs.lemmas.List.FromFn.{length-map-range_with_len}
+use Rattle.page_source.specs.declared.objects.ByteSource.{Ghosts as TextOf}
+use Rattle.page_source.specs.declared.objects.PageStore.{Ghosts as StoreOf}
+use Rattle.page_source.specs.Objects.{PageMap, Store, IsFresh}
+use Rattle.page_source.proofs.Told.{told1}
+use Rattle.schema_text.specs.Grammar.{IsTable}
+use Rattle.schema_text.specs.TableDef.{TableDef}
+use Rattle.row_layout.specs.StoredRow.{Stored, fitted_row}
+use Rattle.space_builder.specs.declared.built.Built.{Built}
+use Rattle.space_builder.specs.declared.built.BuildStop.{BuildStop}
+use Rattle.space_builder.specs.declared.built.BuildStop.TheVariants as stops
+use Rattle.space_builder.specs.declared.built.PutStop.{PutStop}
+use Rattle.space_builder.specs.declared.built.PutStop.TheVariants as puts
+use Rattle.space_builder.specs.declared.plan.PlanStop.{PlanStop}
+use Rattle.space_builder.specs.declared.plan.PlanStop.TheVariants as plans
+use Rattle.space_builder.specs.build.BadLine.{RootOrderChecks}
+use Rattle.space_builder.specs.build.Build.{AreRowsRead, Builds, BuildsWithCause, LacksHead}
+use Rattle.space_builder.specs.build.Plan.{FindsPlan}
+use Rattle.space_builder.specs.build.ReadRows.{AreReadRows, FindsRows}
+use Rattle.space_builder.specs.build.Space.{PutsSpace, LeavesSpace}
+use Rattle.space_builder.specs.build.StoredRows.{AreStoredRows}
+use Rattle.space_builder.specs.build.Stops.{stop_of_put, stop_of_plan}
+use Rattle.space_builder.specs.layout.Laws.{CanBuild}
+use Rattle.space_builder.specs.layout.Layout.{Rows, FitsSpace, layout_size, stored_rows}
+
+-- a fresh store lacks page 0
+pub fresh_lacks : (store : Store) → IsFresh store → LacksHead store
+fresh_lacks store fresh =
+    told1 store.held (λ held is. ap is_some (ap (λ (map : PageMap). get map 0) is ∙ get-empty nat_cmp 0)) fresh.held
+
+module _ {R : Type 0} (g : TextOf R) (table : TableDef) (old new : R) where
+  -- reading failed
+  pub read_failed : (stop : BuildStop) (store : Store) → RootOrderChecks table None → IsFresh store
+      → FindsRows g table old new (Err stop) → Builds table (g.left old) (Err stop) store store
+  read_failed (stops.RootPlace line) store roots fresh finds = absurd finds
+  read_failed (stops.RowsRefused line why) store roots fresh finds = (roots, finds, refl)
+  read_failed stops.Full store roots fresh finds = absurd finds
+  read_failed stops.Source store roots fresh finds = (roots, refl)
+  read_failed stops.Store store roots fresh finds = absurd finds
+  read_failed stops.Memory store roots fresh finds = fresh_lacks store fresh
+
+  -- rows were read
+  module _ (stored : List (List Stored)) (is_table : IsTable table) (roots : RootOrderChecks table None)
+      (read : AreReadRows g table old new stored) where
+    pub are_stored : AreStoredRows table read.rows stored
+    are_stored = record { is_table = is_table; good = read.good; same = read.same }
+
+    rows_read : AreRowsRead table (g.left old) read.rows
+    rows_read = record { good = read.good; of_text = told1 (g.left old) (λ text of. of.0) read.of_text }
+
+    pub can_build : FitsSpace table read.rows → CanBuild table read.rows
+    can_build fits = record {
+      is_table = is_table;
+      roots = roots;
+      are_rows = read.good.are_rows;
+      rise = read.good.rise;
+      fitted = read.good.fitted;
+      few = read.good.few;
+      fits = fits;
+    }
+
+    -- there is no plan
+    pub no_plan : (stop : PlanStop) (store : Store) → IsFresh store → FindsPlan table stored (Err stop)
+        → Builds table (g.left old) (Err (stop_of_plan stop)) store store
+    no_plan plans.Full store fresh full = ((roots, (read.rows, rows_read, full read.rows are_stored)), refl)
+    no_plan plans.Memory store fresh finds = fresh_lacks store fresh
+
+    -- putting stopped, or all is put
+    pub not_put : (stop : PutStop) (before now : Store) → FitsSpace table read.rows
+        → LeavesSpace {A = Unit {0}} table read.rows (Err stop) before now
+        → Builds table (g.left old) (Err (stop_of_put stop)) before now
+    not_put puts.Store before now fits part = (roots, (read.rows, rows_read, (fits, part)))
+    not_put puts.Memory before now fits lacks = lacks
+
+    pub all_put : (built : Built) (before now : Store) → FitsSpace table read.rows
+        → LeavesSpace {A = Unit {0}} table read.rows (Ok tt) before now → built.pages ≡ layout_size table read.rows
+        → built.rows ≡ length read.rows → Builds table (g.left old) (Ok built) before now
+    all_put built before now fits holds pages count =
+        (roots, (read.rows, rows_read, (fits, holds, pages, count)))
+
+-- the store alone is blamed where putting stopped
+pub put_cause : {T A : Type 0} (g : StoreOf T) (table : TableDef) (rows : Rows) (old new : T) (source source_now : ℕ)
+    (stop : PutStop) → source ≤ source_now → PutsSpace {A = A} g table rows old new (Err stop)
+    → BuildsWithCause source source_now (g.faults old) (g.faults new) (Err (stop_of_put stop))
+put_cause g table rows old new source source_now puts.Store later ends = record {
+  source_later = later;
+  store_later = ends.later;
+  source_rose = λ same. absurd (cc);
+  store_rose = λ same. ends.store_rose refl;
+}
+put_cause g table rows old new source source_now puts.Memory later ends = record {
+  source_later = later;
+  store_later = ends.later;
+  source_rose = λ same. absurd (cc);
+  store_rose = λ same. absurd (cc);
+}
+
+pub no_cause : {T A : Type 0} (g : StoreOf T) (table : TableDef) (rows : Rows) (old new : T) (source source_now : ℕ)
+    (a : A) (built : Built) → source ≤ source_now → PutsSpace g table rows old new (Ok a)
+    → BuildsWithCause source source_now (g.faults old) (g.faults new) (Ok built)
+no_cause g table rows old new source source_now a built later ends = record {
+  source_later = later;
+  store_later = ends.later;
+  source_rose = λ same. absurd (cc);
+  store_rose = λ same. absurd (cc);
+}
+
+-- as many rows are stored as there are
+pub stored_count : (table : TableDef) (rows : Rows) → length (stored_rows table rows) ≡ length rows
+unfolding stored_rows
+stored_count table rows =
+    length-map-range_with_len (λ r. unwrap_or (fitted_row table r (slice_index_or rows r [])) []) 0 (length rows)

@@ -1,0 +1,177 @@
+use Rattle.std.proofs.Common.{◌∙◌, length, ap, sym, subst}
+use Rattle.std.proofs.lemmas.Result.{err_from_is_err_and}
+use Rattle.space_builder.specs.build.Plan.{AreOrders}
+use Rattle.space_builder.proofs.Builds.{fresh_lacks, read_failed, are_stored, can_build, no_plan, not_put, all_put}
+use Rattle.space_builder.proofs.Builds.{put_cause, no_cause, stored_count}
+use Rattle.space_builder.proofs.builder.build.Goals as goal
+
+pub returns-in_err-stored-clause-built : goal.returns-in_err-stored-clause-built
+returns-in_err-stored-clause-built g c =
+    let r = err_from_is_err_and c.from_residual.result c.from_residual.ensures.1 in
+    rw (r.1, r.2)
+    (read_failed g.R.ByteSource c.args.schema.now c.args.rows.now c.read_rows.new.text
+    c.in_err-stored.field-0.0 (g.T.PageStore.told c.args.store.now) c.in_default.ensures.roots c.requires
+    c.in_err-stored.ensures.finds)
+
+pub returns-in_err-orders-clause-built : goal.returns-in_err-orders-clause-built
+returns-in_err-orders-clause-built g c =
+    let r = err_from_is_err_and c.from_residual-in_err-orders.result c.from_residual-in_err-orders.ensures.1 in
+    rw (r.1, r.2) (fresh_lacks (g.T.PageStore.told c.args.store.now) c.requires)
+
+pub plan_space-requires-clause-rows : goal.plan_space-requires-clause-rows
+plan_space-requires-clause-rows g c = (
+  c.in_ok-stored.ensures.finds.rows,
+  are_stored g.R.ByteSource c.args.schema.now c.args.rows.now c.read_rows.new.text c.in_ok-stored.stored c.in_default.ensures.table c.in_default.ensures.roots
+      c.in_ok-stored.ensures.finds,
+)
+
+pub returns-in_err-plan-clause-built : goal.returns-in_err-plan-clause-built
+returns-in_err-plan-clause-built g c =
+    let r = err_from_is_err_and c.from_residual-in_err-plan.result c.from_residual-in_err-plan.ensures.1 in
+    rw (r.1, r.2)
+    (no_plan g.R.ByteSource c.args.schema.now c.args.rows.now c.read_rows.new.text c.in_ok-stored.stored c.in_default.ensures.table c.in_default.ensures.roots
+    c.in_ok-stored.ensures.finds
+    c.in_err-plan.field-0.0 (g.T.PageStore.told c.args.store.now) c.requires c.in_err-plan.ensures)
+
+pub put-requires-clause-space : goal.put-requires-clause-space
+put-requires-clause-space g c = (
+  c.in_ok-stored.ensures.finds.rows,
+  record {
+    can = can_build g.R.ByteSource c.args.schema.now c.args.rows.now c.read_rows.new.text c.in_ok-stored.stored c.in_default.ensures.table c.in_default.ensures.roots
+        c.in_ok-stored.ensures.finds
+        (c.in_ok-plan.ensures c.in_ok-stored.ensures.finds.rows
+        (are_stored g.R.ByteSource c.args.schema.now c.args.rows.now c.read_rows.new.text c.in_ok-stored.stored c.in_default.ensures.table c.in_default.ensures.roots
+        c.in_ok-stored.ensures.finds)).fits;
+    same = c.in_ok-stored.ensures.finds.same;
+    orders = subst (AreOrders c.args.schema.now c.in_ok-stored.stored) (sym c.deref-2.ensures.value)
+        c.in_ok-orders.ensures;
+    plan = c.in_ok-plan.ensures c.in_ok-stored.ensures.finds.rows
+        (are_stored g.R.ByteSource c.args.schema.now c.args.rows.now c.read_rows.new.text c.in_ok-stored.stored c.in_default.ensures.table c.in_default.ensures.roots
+        c.in_ok-stored.ensures.finds);
+  },
+)
+
+pub returns-in_err-put-clause-built : goal.returns-in_err-put-clause-built
+returns-in_err-put-clause-built g c =
+    let r = err_from_is_err_and c.from_residual-in_err-put.result c.from_residual-in_err-put.ensures.1 in
+    rw (r.1, r.2)
+    (not_put g.R.ByteSource c.args.schema.now c.args.rows.now c.read_rows.new.text c.in_ok-stored.stored c.in_default.ensures.table c.in_default.ensures.roots
+    c.in_ok-stored.ensures.finds
+    c.in_err-put.field-0.0 (g.T.PageStore.told c.args.store.now) (g.T.PageStore.told c.put.new.store)
+    (c.in_ok-plan.ensures c.in_ok-stored.ensures.finds.rows
+    (are_stored g.R.ByteSource c.args.schema.now c.args.rows.now c.read_rows.new.text c.in_ok-stored.stored c.in_default.ensures.table c.in_default.ensures.roots
+    c.in_ok-stored.ensures.finds)).fits
+    (c.in_err-put.ensures c.in_ok-stored.ensures.finds.rows
+    record {
+      can = can_build g.R.ByteSource c.args.schema.now c.args.rows.now c.read_rows.new.text c.in_ok-stored.stored c.in_default.ensures.table c.in_default.ensures.roots
+          c.in_ok-stored.ensures.finds
+          (c.in_ok-plan.ensures c.in_ok-stored.ensures.finds.rows
+          (are_stored g.R.ByteSource c.args.schema.now c.args.rows.now c.read_rows.new.text c.in_ok-stored.stored c.in_default.ensures.table c.in_default.ensures.roots
+          c.in_ok-stored.ensures.finds)).fits;
+      same = c.in_ok-stored.ensures.finds.same;
+      orders = subst (AreOrders c.args.schema.now c.in_ok-stored.stored) (sym c.deref-2.ensures.value)
+          c.in_ok-orders.ensures;
+      plan = c.in_ok-plan.ensures c.in_ok-stored.ensures.finds.rows
+          (are_stored g.R.ByteSource c.args.schema.now c.args.rows.now c.read_rows.new.text c.in_ok-stored.stored c.in_default.ensures.table c.in_default.ensures.roots
+          c.in_ok-stored.ensures.finds);
+    }).leaves)
+
+pub returns-in_err-put-clause-cause : goal.returns-in_err-put-clause-cause
+returns-in_err-put-clause-cause g c =
+    let r = err_from_is_err_and c.from_residual-in_err-put.result c.from_residual-in_err-put.ensures.1 in
+    rw (r.1, r.2)
+    (put_cause g.T.PageStore c.args.schema.now c.in_ok-stored.ensures.finds.rows c.args.store.now c.put.new.store
+    (g.R.ByteSource.faults c.args.rows.now) (g.R.ByteSource.faults c.read_rows.new.text) c.in_err-put.field-0.0
+    c.in_ok-stored.ensures.later
+    (c.in_err-put.ensures c.in_ok-stored.ensures.finds.rows
+    record {
+      can = can_build g.R.ByteSource c.args.schema.now c.args.rows.now c.read_rows.new.text c.in_ok-stored.stored c.in_default.ensures.table c.in_default.ensures.roots
+          c.in_ok-stored.ensures.finds
+          (c.in_ok-plan.ensures c.in_ok-stored.ensures.finds.rows
+          (are_stored g.R.ByteSource c.args.schema.now c.args.rows.now c.read_rows.new.text c.in_ok-stored.stored c.in_default.ensures.table c.in_default.ensures.roots
+          c.in_ok-stored.ensures.finds)).fits;
+      same = c.in_ok-stored.ensures.finds.same;
+      orders = subst (AreOrders c.args.schema.now c.in_ok-stored.stored) (sym c.deref-2.ensures.value)
+          c.in_ok-orders.ensures;
+      plan = c.in_ok-plan.ensures c.in_ok-stored.ensures.finds.rows
+          (are_stored g.R.ByteSource c.args.schema.now c.args.rows.now c.read_rows.new.text c.in_ok-stored.stored c.in_default.ensures.table c.in_default.ensures.roots
+          c.in_ok-stored.ensures.finds);
+    }))
+
+pub pages-requires : goal.pages-requires
+pages-requires g c = (
+  c.in_ok-stored.ensures.finds.rows,
+  record {
+    can = can_build g.R.ByteSource c.args.schema.now c.args.rows.now c.read_rows.new.text c.in_ok-stored.stored c.in_default.ensures.table c.in_default.ensures.roots
+        c.in_ok-stored.ensures.finds
+        (c.in_ok-plan.ensures c.in_ok-stored.ensures.finds.rows
+        (are_stored g.R.ByteSource c.args.schema.now c.args.rows.now c.read_rows.new.text c.in_ok-stored.stored c.in_default.ensures.table c.in_default.ensures.roots
+        c.in_ok-stored.ensures.finds)).fits;
+    same = c.in_ok-stored.ensures.finds.same;
+    orders = subst (AreOrders c.args.schema.now c.in_ok-stored.stored) (sym c.deref-2.ensures.value)
+        c.in_ok-orders.ensures;
+    plan = c.in_ok-plan.ensures c.in_ok-stored.ensures.finds.rows
+        (are_stored g.R.ByteSource c.args.schema.now c.args.rows.now c.read_rows.new.text c.in_ok-stored.stored c.in_default.ensures.table c.in_default.ensures.roots
+        c.in_ok-stored.ensures.finds);
+  },
+)
+
+pub returns-clause-built : goal.returns-clause-built
+returns-clause-built g c =
+    all_put g.R.ByteSource c.args.schema.now c.args.rows.now c.read_rows.new.text c.in_ok-stored.stored c.in_default.ensures.table c.in_default.ensures.roots
+    c.in_ok-stored.ensures.finds
+    (record { pages = c.pages.result; rows = c.count.result }) (g.T.PageStore.told c.args.store.now)
+    (g.T.PageStore.told c.put.new.store)
+    (c.in_ok-plan.ensures c.in_ok-stored.ensures.finds.rows
+    (are_stored g.R.ByteSource c.args.schema.now c.args.rows.now c.read_rows.new.text c.in_ok-stored.stored c.in_default.ensures.table c.in_default.ensures.roots
+    c.in_ok-stored.ensures.finds)).fits
+    (c.in_ok-put.ensures c.in_ok-stored.ensures.finds.rows
+    record {
+      can = can_build g.R.ByteSource c.args.schema.now c.args.rows.now c.read_rows.new.text c.in_ok-stored.stored c.in_default.ensures.table c.in_default.ensures.roots
+          c.in_ok-stored.ensures.finds
+          (c.in_ok-plan.ensures c.in_ok-stored.ensures.finds.rows
+          (are_stored g.R.ByteSource c.args.schema.now c.args.rows.now c.read_rows.new.text c.in_ok-stored.stored c.in_default.ensures.table c.in_default.ensures.roots
+          c.in_ok-stored.ensures.finds)).fits;
+      same = c.in_ok-stored.ensures.finds.same;
+      orders = subst (AreOrders c.args.schema.now c.in_ok-stored.stored) (sym c.deref-2.ensures.value)
+          c.in_ok-orders.ensures;
+      plan = c.in_ok-plan.ensures c.in_ok-stored.ensures.finds.rows
+          (are_stored g.R.ByteSource c.args.schema.now c.args.rows.now c.read_rows.new.text c.in_ok-stored.stored c.in_default.ensures.table c.in_default.ensures.roots
+          c.in_ok-stored.ensures.finds);
+    }).leaves
+    (c.pages.ensures c.in_ok-stored.ensures.finds.rows
+    record {
+      can = can_build g.R.ByteSource c.args.schema.now c.args.rows.now c.read_rows.new.text c.in_ok-stored.stored c.in_default.ensures.table c.in_default.ensures.roots
+          c.in_ok-stored.ensures.finds
+          (c.in_ok-plan.ensures c.in_ok-stored.ensures.finds.rows
+          (are_stored g.R.ByteSource c.args.schema.now c.args.rows.now c.read_rows.new.text c.in_ok-stored.stored c.in_default.ensures.table c.in_default.ensures.roots
+          c.in_ok-stored.ensures.finds)).fits;
+      same = c.in_ok-stored.ensures.finds.same;
+      orders = subst (AreOrders c.args.schema.now c.in_ok-stored.stored) (sym c.deref-2.ensures.value)
+          c.in_ok-orders.ensures;
+      plan = c.in_ok-plan.ensures c.in_ok-stored.ensures.finds.rows
+          (are_stored g.R.ByteSource c.args.schema.now c.args.rows.now c.read_rows.new.text c.in_ok-stored.stored c.in_default.ensures.table c.in_default.ensures.roots
+          c.in_ok-stored.ensures.finds);
+    })
+    (c.count.ensures ∙ ap length c.in_ok-stored.ensures.finds.same
+    ∙ stored_count c.args.schema.now c.in_ok-stored.ensures.finds.rows)
+
+pub returns-clause-cause : goal.returns-clause-cause
+returns-clause-cause g c =
+    no_cause g.T.PageStore c.args.schema.now c.in_ok-stored.ensures.finds.rows c.args.store.now c.put.new.store
+    (g.R.ByteSource.faults c.args.rows.now) (g.R.ByteSource.faults c.read_rows.new.text) c.in_ok-put.field-0
+    (record { pages = c.pages.result; rows = c.count.result }) c.in_ok-stored.ensures.later
+    (c.in_ok-put.ensures c.in_ok-stored.ensures.finds.rows
+    record {
+      can = can_build g.R.ByteSource c.args.schema.now c.args.rows.now c.read_rows.new.text c.in_ok-stored.stored c.in_default.ensures.table c.in_default.ensures.roots
+          c.in_ok-stored.ensures.finds
+          (c.in_ok-plan.ensures c.in_ok-stored.ensures.finds.rows
+          (are_stored g.R.ByteSource c.args.schema.now c.args.rows.now c.read_rows.new.text c.in_ok-stored.stored c.in_default.ensures.table c.in_default.ensures.roots
+          c.in_ok-stored.ensures.finds)).fits;
+      same = c.in_ok-stored.ensures.finds.same;
+      orders = subst (AreOrders c.args.schema.now c.in_ok-stored.stored) (sym c.deref-2.ensures.value)
+          c.in_ok-orders.ensures;
+      plan = c.in_ok-plan.ensures c.in_ok-stored.ensures.finds.rows
+          (are_stored g.R.ByteSource c.args.schema.now c.args.rows.now c.read_rows.new.text c.in_ok-stored.stored c.in_default.ensures.table c.in_default.ensures.roots
+          c.in_ok-stored.ensures.finds);
+    })

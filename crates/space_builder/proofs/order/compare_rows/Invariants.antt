@@ -1,0 +1,14 @@
+use Rattle.std.proofs.Common.{◌≡◌}
+use Rattle.column_values.specs.Order.{key_cmp}
+use Rattle.compact_record.specs.Reading.{key_kinds}
+use Rattle.row_layout.specs.HoldsValues.{stored_in}
+use Rattle.space_builder.specs.build.Picked.{picked_key}
+use Rattle.space_builder.proofs.building.KeyOrders.{LeftOf}
+use Rattle.space_builder.proofs.order.compare_rows.Given as goal
+
+-- the fields so far are equal
+abbrev pub invariant-loop-i : goal.invariant-loop-i
+invariant-loop-i l =
+    let a = picked_key l.keys.fields.now (stored_in l.keys.rows.now l.a) in
+    let b = picked_key l.keys.fields.now (stored_in l.keys.rows.now l.b) in
+    LeftOf (key_kinds l.keys.list.now) a b l.i ≡ key_cmp (key_kinds l.keys.list.now) a b

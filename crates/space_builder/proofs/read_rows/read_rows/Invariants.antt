@@ -1,0 +1,16 @@
+use Rattle.std.proofs.Common.{◌-◌, ◌≤◌}
+use Rattle.space_builder.specs.build.NextRow.{AreWide}
+use Rattle.space_builder.proofs.building.Reading.{IsReading}
+use Rattle.space_builder.proofs.read_rows.read_rows.Given as goal
+
+abbrev pub invariant-loop-rows : goal.invariant-loop-rows
+invariant-loop-rows g l =
+    let faults = g.R.ByteSource.faults in
+    record {
+      reading : IsReading g.R.ByteSource l.schema l.fn.text l.text l.lines l.taken l.rows;
+      wide : AreWide l.shape.fields l.rows;
+      later : faults l.fn.text ≤ faults l.text;
+    }
+
+abbrev pub decreases-loop-rows : goal.decreases-loop-rows
+decreases-loop-rows g l = 4294967297 - l.taken

@@ -1,0 +1,177 @@
+//! The rows in the order of their entries in an index.
+
+ghost use Rattle.std.specs.Prelude.{◌≡◌, ◌<◌, ◌≤◌, ◌==◌, ◌++◌, IfOk, OnOk, All, length, map, slice_index_or};
+ghost use Rattle.std.specs.Option.{option_copied};
+ghost use Rattle.std.specs.List.{list_any, range_with_len};
+ghost use Rattle.column_values.specs.Types.{field_at};
+ghost use Rattle.column_values.specs.Order.{cell_cmp, key_cmp};
+ghost use Rattle.compact_record.specs.Reading.{key_kinds};
+ghost use Rattle.schema_text.specs.Grammar.{IsTable};
+ghost use Rattle.schema_text.specs.TableDef.{index_at};
+ghost use Rattle.schema_text.specs.IndexFields.{positions_without, fields_of_columns};
+ghost use Rattle.row_layout.specs.HoldsValues.{stored_in};
+ghost use Rattle.space_builder.specs.build.Picked.{picked_key, entry_fields};
+ghost use Rattle.space_builder.specs.build.Order.{IsKeyOrder, IsIndexOrder};
+
+use crate::stored::StoredRows;
+use column_values::{Field, FieldList, FieldType, compare};
+use page_source::NoMemory;
+use schema_text::{Schema, column_fields};
+use std::alloc::Global;
+use std::cmp::Ordering;
+
+/// The keys of the rows in an index.
+#[derive(Clone, Copy)]
+pub(crate) struct IndexKeys<'a> {
+    pub(crate) rows: &'a StoredRows,
+    /// The fields of the index, and which fields of a row they are.
+    pub(crate) list: &'a FieldList,
+    pub(crate) fields: &'a [usize],
+}
+
+/// The order of two values that may be null.
+pub(crate) fn compare_values(kind: &FieldType, a: Option<&[u8]>, b: Option<&[u8]>) -> Ordering
+    ensures { result ≡ cell_cmp kind.now (option_copied a.entry) (option_copied b.entry) }
+{
+    match (a, b) {
+        (Some(a), Some(b)) => compare(kind, a, b),
+        (Some(_), None) => Ordering::Greater,
+        (None, Some(_)) => Ordering::Less,
+        (None, None) => Ordering::Equal,
+    }
+}
+
+fn kind_at(list: &FieldList, i: usize) -> FieldType
+    requires { i < length list.now.fields }
+    ensures { result ≡ (field_at list.now i).kind }
+{
+    list.fields()[i].kind
+}
+
+/// The order of the keys of two rows.
+fn compare_rows(keys: &IndexKeys, a: usize, b: usize) -> Ordering
+    requires few { keys.now.list.now.keys ≤ length keys.now.list.now.fields }
+    requires each { length keys.now.fields.now ≡ keys.now.list.now.keys }
+    ensures { result ≡ key_cmp (key_kinds keys.now.list.now)
+        (picked_key keys.now.fields.now (stored_in keys.now.rows.now a))
+        (picked_key keys.now.fields.now (stored_in keys.now.rows.now b)) }
+{
+    for i in 0..keys.fields.len() {
+        let kind = kind_at(keys.list, i);
+        let field = keys.fields[i];
+        let first = keys.rows.value(a, field);
+        let second = keys.rows.value(b, field);
+        let order = compare_values(&kind, first, second);
+        match order {
+            Ordering::Less => return Ordering::Less,
+            Ordering::Greater => return Ordering::Greater,
+            Ordering::Equal => {}
+        }
+    }
+    Ordering::Equal
+}
+
+/// So many numbers, from 0 on.
+fn numbers(alloc: Global, count: usize) -> Result<Vec<usize>, NoMemory>
+    ensures { IfOk result (λ list. list.items ≡ range_with_len 0 count) }
+{
+    let mut list = Vec::with_capacity(alloc, count)?;
+    for i in 0..count {
+        list.push(i)?;
+    }
+    Ok(list)
+}
+
+/// The rows in the order of their keys.
+fn order_of_keys(alloc: Global, keys: &IndexKeys) -> Result<Vec<usize>, NoMemory>
+    requires few { keys.now.list.now.keys ≤ length keys.now.list.now.fields }
+    requires each { length keys.now.fields.now ≡ keys.now.list.now.keys }
+    ensures { IfOk result
+        (λ order. IsKeyOrder (key_kinds keys.now.list.now) keys.now.fields.now keys.now.rows.now order.items) }
+{
+    let mut order = numbers(alloc, keys.rows.count())?;
+    order.sort_by(|a, b| compare_rows(keys, *a, *b))?;
+    Ok(order)
+}
+
+/// Whether the column is among these.
+pub(crate) fn is_among(columns: &[u16], column: usize) -> bool
+    ensures { result ≡ list_any (λ j. j == column) columns.now }
+{
+    columns.iter().any(|c| usize::from(*c) == column)
+}
+
+/// Adds the fields of those of the columns that aren't among the others.
+fn push_columns(
+    list: &mut Vec<usize>,
+    at: &[usize],
+    columns: &[u16],
+    others: &[u16],
+) -> Result<(), NoMemory>
+    requires { All (λ c. c < length at.now) columns.now }
+    ensures { OnOk result (list.new.items
+        ≡ list.old.items ++ map (λ c. slice_index_or at.now c 0) (positions_without columns.now others.now)) }
+{
+    for column in columns {
+        let place = usize::from(*column);
+        if !is_among(others, place) {
+            list.push(at[place])?;
+        }
+    }
+    Ok(())
+}
+
+/// The columns of an index.
+fn columns_of(schema: &Schema, index: usize) -> &[u16]
+    requires { index < length schema.now.indexes }
+    ensures value { result.now ≡ (index_at schema.now index).columns }
+    ensures known { All (λ c. c < length schema.now.columns) result.now }
+    ensures table { IsTable schema.now }
+{
+    schema.indexes()[index].columns.items()
+}
+
+/// Which fields of a row the entries of an index have.
+pub(crate) fn entry_fields(
+    alloc: Global,
+    schema: &Schema,
+    index: usize,
+) -> Result<Vec<usize>, NoMemory>
+    requires { index < length schema.now.indexes }
+    ensures { IfOk result (λ list. list.items ≡ entry_fields schema.now index) }
+{
+    let at = column_fields(alloc, schema)?;
+    let key = columns_of(schema, 0);
+    let own = columns_of(schema, index);
+    let mut list = Vec::new(alloc);
+    push_columns(&mut list, &at, own, &[])?;
+    push_columns(&mut list, &at, key, own)?;
+    if key.len() == 0 {
+        list.push(0)?;
+    }
+    Ok(list)
+}
+
+/// The rows in the order of their entries in an index that isn't the clustered one.
+pub(crate) fn order_of_index(
+    alloc: Global,
+    schema: &Schema,
+    rows: &StoredRows,
+    index: usize,
+) -> Result<Vec<usize>, NoMemory>
+    requires second { 0 < index }
+    requires index { index < length schema.now.indexes }
+    ensures { IfOk result (λ order. IsIndexOrder schema.now rows.now index order.items) }
+{
+    let _ = schema.indexes();
+    let list = schema.fields(alloc, index, true)?;
+    let fields = entry_fields(alloc, schema, index)?;
+    order_of_keys(
+        alloc,
+        &IndexKeys {
+            rows,
+            list: &list,
+            fields: &fields,
+        },
+    )
+}

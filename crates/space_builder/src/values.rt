@@ -1,0 +1,181 @@
+//! The pages of values that go on off the pages of their records.
+
+ghost use Rattle.std.specs.Prelude.{◌≡◌, ◌+◌, ◌<◌, [], ◌∷◌, ◌++◌, IfOk, OnOk, drop, length, map, slice_index, sum};
+ghost use Rattle.std.specs.List.{range_with_len};
+ghost use Rattle.space_layout.specs.Numbers.{IsShape, segment_page};
+ghost use Rattle.offpage_chain.specs.ValuePage.{pages_for};
+ghost use Rattle.row_layout.specs.StoredRow.{kept_prefix, stored_at};
+ghost use Rattle.row_layout.specs.HoldsValues.{stored_in};
+ghost use Rattle.space_builder.specs.layout.ValuePage.{pages_of_bytes};
+ghost use Rattle.space_builder.specs.build.Puts.{PutsPages};
+ghost use Rattle.space_builder.specs.build.Room.{TakesPages, HasLeafPages, gone_bytes, row_counts, row_pages};
+ghost use Rattle.space_builder.specs.build.Room.{first_page, row_first_pages, pages_behind, first_pages_behind};
+ghost use Rattle.space_builder.specs.build.Room.{TakesRow, TakesValues};
+
+use crate::built::PutStop;
+use crate::stored::StoredRows;
+use offpage_chain::write_chain;
+use page_source::{NoMemory, Page, PageStore};
+use schema_text::Format;
+use space_layout::laws::numbers_differ;
+use space_layout::segment_page;
+use std::alloc::Global;
+
+/// The segment of the leaves of the first index.
+const LEAVES: usize = 1;
+
+/// The id of a tablespace that is built.
+const SPACE: u32 = 1;
+
+/// The most bytes of a value on one page.
+const PART: usize = 16330;
+
+/// How many bytes of a value stay on the page of its record.
+fn kept_prefix(format: Format) -> usize
+    ensures { result ≡ kept_prefix format }
+{
+    match format {
+        Format::Compact => 768,
+        Format::Dynamic => 0,
+    }
+}
+
+/// The bytes behind the first ones, which may be fewer.
+fn bytes_behind(bytes: &[u8], kept: usize) -> &[u8]
+    ensures { result.now ≡ drop kept bytes.now }
+{
+    if kept < bytes.len() {
+        &bytes[kept..]
+    } else {
+        &[]
+    }
+}
+
+/// The bytes of field `i` of row `r` that are off the page of its record.
+fn gone_bytes(stored: &StoredRows, r: usize, i: usize, format: Format) -> &[u8]
+    requires row { r < length stored.now }
+    requires field { i < length (stored_in stored.now r) }
+    ensures { result.now ≡ gone_bytes format (stored_at (stored_in stored.now r) i) }
+{
+    if stored.is_off(r, i) {
+        bytes_behind(stored.bytes(r, i), kept_prefix(format))
+    } else {
+        &[]
+    }
+}
+
+/// Lists the numbers of so many pages of the leaf segment from a place on.
+fn list_numbers(
+    numbers: &mut Vec<u32>,
+    sizes: &[u32],
+    at: u32,
+    count: usize,
+) -> Result<(), NoMemory>
+    requires shape { IsShape sizes.now }
+    requires has { HasLeafPages sizes.now (at + count) }
+    ensures { OnOk result
+        (numbers.new.items ≡ map (λ k. segment_page sizes.now 1 (at + k)) (range_with_len 0 count)) }
+{
+    numbers.clear();
+    for k in 0..count {
+        numbers.push(segment_page(sizes, LEAVES, at + k as u32))?;
+    }
+    Ok(())
+}
+
+/// Adds the first of these numbers, 0 where there is none.
+fn list_first(first_pages: &mut Vec<u32>, numbers: &[u32]) -> Result<(), NoMemory>
+    ensures { OnOk result (first_pages.new.items ≡ first_pages.old.items ++ slice_index numbers.now 0 ∷ []) }
+{
+    let first = match numbers.first() {
+        Some(first) => *first,
+        None => 0,
+    };
+    first_pages.push(first)?;
+    Ok(())
+}
+
+/// A page to make, the numbers of the pages of one value, and the first page of each field so far.
+#[derive(Debug, Drop)]
+struct ValueRoom {
+    page: Page,
+    numbers: Vec<u32>,
+    first_pages: Vec<u32>,
+}
+
+/// Puts the pages of a value, from place `at` of the leaf segment on. Answers the place behind them.
+fn put_value<T: PageStore>(
+    store: &mut T,
+    room: &mut ValueRoom,
+    sizes: &[u32],
+    at: u32,
+    bytes: &[u8],
+) -> Result<u32, PutStop>
+    requires takes { TakesPages (T.told store.old) sizes.now }
+    requires has { HasLeafPages sizes.now (at + pages_for (length bytes.now)) }
+    ensures next { IfOk result (λ next. next ≡ at + pages_for (length bytes.now)) }
+    ensures puts { PutsPages T.PageStore store.old store.new
+        (pages_of_bytes (λ k. segment_page sizes.now 1 (at + k)) bytes.now) result }
+    ensures first { OnOk result (room.new.first_pages.items ≡ room.old.first_pages.items
+        ++ first_page (λ k. segment_page sizes.now 1 (at + k)) (pages_for (length bytes.now)) ∷ []) }
+{
+    numbers_differ();
+    let count = (bytes.len() + (PART - 1)) / PART;
+    list_numbers(&mut room.numbers, sizes, at, count)?;
+    list_first(&mut room.first_pages, &room.numbers)?;
+    write_chain(store, SPACE, &room.numbers, bytes, &mut room.page)?;
+    Ok(at + count as u32)
+}
+
+/// Puts the pages of the values of row `r`, from place `at` of the leaf segment on. Answers the place behind them.
+fn put_row<T: PageStore>(
+    store: &mut T,
+    room: &mut ValueRoom,
+    stored: &StoredRows,
+    r: usize,
+    format: Format,
+    sizes: &[u32],
+    at: u32,
+) -> Result<u32, PutStop>
+    requires row { r < length stored.now }
+    requires takes { TakesRow (T.told store.old) format sizes.now at (stored_in stored.now r) }
+    ensures next { IfOk result (λ next. next ≡ at + sum (row_counts format (stored_in stored.now r))) }
+    ensures puts { PutsPages T.PageStore store.old store.new (row_pages format sizes.now at (stored_in stored.now r))
+        result }
+    ensures first { OnOk result (room.new.first_pages.items
+        ≡ room.old.first_pages.items ++ row_first_pages format sizes.now at (stored_in stored.now r)) }
+{
+    let mut next = at;
+    for i in 0..stored.width(r) {
+        let bytes = gone_bytes(stored, r, i, format);
+        next = put_value(store, room, sizes, next, bytes)?;
+    }
+    Ok(next)
+}
+
+/// Puts the pages of the values of all rows, behind so many leaves of the first index. Answers the page on which each
+/// field of each row begins that goes on off the page of its record, and 0 for the others.
+pub(crate) fn put_values<T: PageStore>(
+    alloc: Global,
+    store: &mut T,
+    stored: &StoredRows,
+    format: Format,
+    sizes: &[u32],
+    leaves: u32,
+) -> Result<Vec<u32>, PutStop>
+    requires { TakesValues (T.told store.old) format sizes.now leaves stored.now }
+    ensures puts { PutsPages T.PageStore store.old store.new (pages_behind format sizes.now leaves stored.now) result }
+    ensures first { IfOk result
+        (λ pages. pages.items ≡ first_pages_behind format sizes.now leaves stored.now) }
+{
+    let mut room = ValueRoom {
+        page: Page::zeroed(alloc)?,
+        numbers: Vec::new(alloc),
+        first_pages: Vec::new(alloc),
+    };
+    let mut next = leaves;
+    for r in 0..stored.count() {
+        next = put_row(store, &mut room, stored, r, format, sizes, next)?;
+    }
+    Ok(room.first_pages)
+}
