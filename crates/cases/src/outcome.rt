@@ -2,7 +2,9 @@
 
 use crate::error::LineError;
 use crate::text::{put_hex, put_number};
+use cross_index::{CrossStop, Crossed};
 use fil_frame::crc32c;
+use key_lookup::GetStop;
 use page_source::{ByteList, Fault, Halt, NoMemory, Stop};
 use schema_text::{SchemaError, SchemaWhy};
 use sql_dump::DumpStop;
@@ -17,6 +19,14 @@ pub enum End {
     Sink,
     Memory,
     Schema { line: u32, why: SchemaWhy },
+    /// An index has no entry for this row.
+    Missing { index: u32, row: u64 },
+    /// An entry on this page is of no row.
+    Extra { index: u32, page: u32 },
+    /// The text is that of no key.
+    Key,
+    /// No row has the key.
+    Absent,
 }
 
 impl From<NoMemory> for End {
@@ -55,6 +65,31 @@ impl From<DumpStop> for End {
     }
 }
 
+impl From<CrossStop> for End {
+    fn from(stop: CrossStop) -> Self {
+        match stop {
+            CrossStop::Broken(fault) => End::Broken(fault),
+            CrossStop::Missing { index, row } => End::Missing { index, row },
+            CrossStop::Extra { index, page } => End::Extra { index, page },
+            CrossStop::Source => End::Source,
+            CrossStop::Memory => End::Memory,
+        }
+    }
+}
+
+impl From<GetStop> for End {
+    fn from(stop: GetStop) -> Self {
+        match stop {
+            GetStop::Refused => End::Key,
+            GetStop::Absent => End::Absent,
+            GetStop::Broken(fault) => End::Broken(fault),
+            GetStop::Source => End::Source,
+            GetStop::Sink => End::Sink,
+            GetStop::Memory => End::Memory,
+        }
+    }
+}
+
 impl From<SchemaError> for End {
     fn from(error: SchemaError) -> Self {
         match error {
@@ -68,14 +103,7 @@ impl End {
     /// Adds the line that the program writes on the standard error, without its line feed.
     pub fn put(self, text: &mut ByteList) -> Result<(), NoMemory> {
         match self {
-            End::Broken(fault) => {
-                text.extend(b"broken ")?;
-                put_number(text, u64::from(fault.rule.number()))?;
-                text.extend(b" ")?;
-                text.extend(fault.rule.name().as_bytes())?;
-                text.extend(b" page ")?;
-                put_number(text, u64::from(fault.page))
-            }
+            End::Broken(fault) => put_fault(text, fault),
             End::Source => text.extend(b"source"),
             End::Sink => text.extend(b"sink"),
             End::Memory => text.extend(b"memory"),
@@ -85,8 +113,36 @@ impl End {
                 text.extend(b" ")?;
                 text.extend(word_of(why).as_bytes())
             }
+            End::Missing { index, row } => put_difference(text, index, b" missing row ", row),
+            End::Extra { index, page } => {
+                put_difference(text, index, b" extra page ", u64::from(page))
+            }
+            End::Key => text.extend(b"key"),
+            End::Absent => text.extend(b"absent"),
         }
     }
+}
+
+fn put_fault(text: &mut ByteList, fault: Fault) -> Result<(), NoMemory> {
+    text.extend(b"broken ")?;
+    put_number(text, u64::from(fault.rule.number()))?;
+    text.extend(b" ")?;
+    text.extend(fault.rule.name().as_bytes())?;
+    text.extend(b" page ")?;
+    put_number(text, u64::from(fault.page))
+}
+
+/// Adds the index that doesn't go with the rows, and what lacks or is too much.
+fn put_difference(
+    text: &mut ByteList,
+    index: u32,
+    what: &[u8],
+    number: u64,
+) -> Result<(), NoMemory> {
+    text.extend(b"cross index ")?;
+    put_number(text, u64::from(index))?;
+    text.extend(what)?;
+    put_number(text, number)
 }
 
 fn word_of(why: SchemaWhy) -> &'static str {
@@ -175,4 +231,12 @@ pub fn put_checked(text: &mut ByteList, checked: &Checked) -> Result<(), NoMemor
     put_number(text, checked.deleted)?;
     text.extend(b" unreached=")?;
     put_number(text, u64::from(checked.unreached))
+}
+
+/// Adds the numbers of indexes that go with their rows.
+pub fn put_crossed(text: &mut ByteList, crossed: &Crossed) -> Result<(), NoMemory> {
+    text.extend(b"indexes=")?;
+    put_number(text, u64::from(crossed.indexes))?;
+    text.extend(b" entries=")?;
+    put_number(text, crossed.entries)
 }

@@ -1,7 +1,7 @@
 //! The file of a case, as a file of pages.
 
 ghost use Rattle.std.specs.Prelude.{◌≡◌, ◌+◌, ℕ, None};
-ghost use Rattle.page_source.specs.Faults.{HasCause};
+ghost use Rattle.page_source.specs.Faults.{HasCause, AsksOne};
 
 use crate::sheaf::Sheaf;
 use page_source::{Failed, Page, PageSource, Steps};
@@ -42,13 +42,16 @@ pub struct CasePages<'a> {
     fails_at: u64,
     made: u64,
     faults: u64,
+    fetches: u64,
     fetched: Vec<u32>,
 }
 
 impl<'a> Model for CasePages<'a> {
-    ghost Value = { ℕ };
+    ghost use Rattle.page_source.specs.Sources.{FileCounts};
 
-    ghost view = { λ file. file.faults };
+    ghost Value = { FileCounts };
+
+    ghost view = { λ file. record { faults = file.faults; fetches = file.fetches } };
 }
 
 impl<'a> CasePages<'a> {
@@ -61,6 +64,7 @@ impl<'a> CasePages<'a> {
             fails_at: 0,
             made: 0,
             faults: 0,
+            fetches: 0,
             fetched: Vec::new(alloc),
         }
     }
@@ -99,10 +103,13 @@ impl<'a> CasePages<'a> {
 impl PageSource for CasePages<'_> {
     ghost content = { λ file. None };
 
-    ghost faults = { λ count. count };
+    ghost faults = { λ count. count.faults };
+
+    ghost fetches = { λ count. count.fetches };
 
     fn pages(&mut self) -> Result<u32, Failed>
-        ensures cause { HasCause self.old self.new result }
+        ensures cause { HasCause self.old.faults self.new.faults result }
+        ensures asked { self.new.fetches ≡ self.old.fetches }
     {
         match self.count_call() {
             Some(image) => Ok(image.pages),
@@ -120,9 +127,11 @@ impl PageSource for CasePages<'_> {
         steps: &mut Steps<L>,
     ) -> Result<(), Failed>
         ensures step { steps.new ≡ steps.old + 1 }
-        ensures cause { HasCause self.old self.new result }
+        ensures cause { HasCause self.old.faults self.new.faults result }
+        ensures asked { AsksOne self.old.fetches self.new.fetches }
     {
         steps.tick();
+        self.fetches = self.fetches.saturating_add(1);
         let is_there = match self.count_call() {
             Some(image) => image.fill(page, n),
             None => false,

@@ -3,12 +3,14 @@
 ghost use Rattle.std.specs.Prelude.{◌≡◌, ◌<◌};
 
 use crate::error::LineError;
-use crate::outcome::{End, Outcome, put_checked};
+use crate::outcome::{End, Outcome, put_checked, put_crossed};
 use crate::pages::{CasePages, Image};
 use crate::plan::{Plan, Trouble};
 use crate::sheaf::Sheaf;
 use crate::shelf::{Base, Shelf, edited};
 use crate::words::Range;
+use cross_index::cross;
+use key_lookup::get;
 use page_source::{ByteList, Fails, MemorySink, NoMemory, PAGE_SIZE, Steps};
 use schema_text::Schema;
 use sql_dump::dump;
@@ -20,27 +22,36 @@ use table_check::check;
 /// The room of a sink of which a line says nothing.
 const ROOM: u64 = 16_777_216;
 
-/// Which of the two is run.
+/// What is run.
 #[derive(Clone, Copy, Debug, PartialEq, Eq)]
-pub enum Task {
+pub enum Task<'a> {
     Check,
     Dump,
+    /// The indexes are compared with the rows.
+    Cross,
+    /// The row with this key is looked up.
+    Get(&'a [u8]),
 }
 
-impl Task {
-    pub fn read(word: &str) -> Result<Task, LineError> {
+impl Task<'static> {
+    /// `check` or `dump`.
+    pub fn read(word: &str) -> Result<Task<'static>, LineError> {
         match word {
             "check" => Ok(Task::Check),
             "dump" => Ok(Task::Dump),
             _ => Err(LineError::Word),
         }
     }
+}
 
+impl Task<'_> {
     /// The words for it behind what came.
     pub fn which(self) -> &'static [u8] {
         match self {
             Task::Check => b" of check",
             Task::Dump => b" of dump",
+            Task::Cross => b" of cross",
+            Task::Get(_) => b" of get",
         }
     }
 }
@@ -152,13 +163,13 @@ impl<'a> Ready<'a> {
     }
 
     /// How the task ends, and what it writes.
-    pub fn run(&self, alloc: Global, task: Task, hitch: Hitch) -> Result<Outcome, LineError> {
+    pub fn run(&self, alloc: Global, task: Task<'_>, hitch: Hitch) -> Result<Outcome, LineError> {
         let mut file = self.file(alloc, hitch);
         self.run_over(alloc, task, hitch, &mut file)
     }
 
     /// The numbers of the pages that are fetched, in order.
-    pub fn fetches(&self, alloc: Global, task: Task) -> Result<CasePages<'_>, LineError> {
+    pub fn fetches(&self, alloc: Global, task: Task<'_>) -> Result<CasePages<'_>, LineError> {
         let mut file = self.file(alloc, Hitch::None);
         self.run_over(alloc, task, Hitch::None, &mut file)?;
         Ok(file)
@@ -167,7 +178,7 @@ impl<'a> Ready<'a> {
     fn run_over(
         &self,
         alloc: Global,
-        task: Task,
+        task: Task<'_>,
         hitch: Hitch,
         file: &mut CasePages<'_>,
     ) -> Result<Outcome, LineError> {
@@ -177,15 +188,30 @@ impl<'a> Ready<'a> {
         };
         match task {
             Task::Check => Ok(check_file::<Brand>(alloc, file, &schema, Blank::new(1))?),
+            Task::Cross => Ok(cross_file::<Brand>(alloc, file, &schema, Blank::new(1))?),
             Task::Dump => {
                 let mut sink = sink_of(alloc, hitch)?;
                 let end = dump_file::<Brand>(alloc, file, &schema, &mut sink, Blank::new(1));
-                let mut written = ByteList::new(alloc);
-                written.extend(sink.bytes())?;
-                Ok(Outcome { end, written })
+                written_of(alloc, end, &sink)
+            }
+            Task::Get(key) => {
+                let mut sink = sink_of(alloc, hitch)?;
+                let end = get_row::<Brand>(alloc, file, &schema, key, &mut sink, Blank::new(1));
+                written_of(alloc, end, &sink)
             }
         }
     }
+}
+
+/// How it ended, with what the sink was given.
+fn written_of(
+    alloc: Global,
+    end: Result<(), End>,
+    sink: &MemorySink,
+) -> Result<Outcome, LineError> {
+    let mut written = ByteList::new(alloc);
+    written.extend(sink.bytes())?;
+    Ok(Outcome { end, written })
 }
 
 /// A check of the file, and its numbers.
@@ -210,6 +236,47 @@ fn check_file<L: Ledger>(
         }
         Err(stop) => Ok(Outcome::stopped(alloc, End::from(stop))),
     }
+}
+
+/// A comparison of the file's indexes with its rows, and its numbers.
+fn cross_file<L: Ledger>(
+    alloc: Global,
+    file: &mut CasePages<'_>,
+    schema: &Schema,
+    blank: Blank,
+) -> Result<Outcome, NoMemory>
+    requires name { blank.name ≡ L.name }
+    requires parts { blank.parts ≡ L.parts }
+    requires shared { 0 < blank.parts }
+{
+    match cross(alloc, file, schema, &mut Steps::<L>::new(blank)) {
+        Ok(crossed) => {
+            let mut written = ByteList::new(alloc);
+            put_crossed(&mut written, &crossed)?;
+            Ok(Outcome {
+                end: Ok(()),
+                written,
+            })
+        }
+        Err(stop) => Ok(Outcome::stopped(alloc, End::from(stop))),
+    }
+}
+
+/// A look-up of the row with this key, into the sink.
+fn get_row<L: Ledger>(
+    alloc: Global,
+    file: &mut CasePages<'_>,
+    schema: &Schema,
+    key: &[u8],
+    sink: &mut MemorySink,
+    blank: Blank,
+) -> Result<(), End>
+    requires name { blank.name ≡ L.name }
+    requires parts { blank.parts ≡ L.parts }
+    requires shared { 0 < blank.parts }
+{
+    get(alloc, file, schema, key, sink, &mut Steps::<L>::new(blank))?;
+    Ok(())
 }
 
 /// A dump of the file into the sink.

@@ -1,4 +1,4 @@
-//! The commands `check`, `dump`, `both` and `fetches`: a file through all rules.
+//! The commands `check`, `dump`, `both`, `cross` and `fetches`: a file through all rules.
 
 use crate::error::LineError;
 use crate::plan::{Plan, Trouble};
@@ -13,7 +13,7 @@ use std::alloc::Global;
 /// The most tries of a line.
 const MOST_TRIES: u64 = 100_000;
 
-/// `check BASE ITEM ..` or `dump BASE ITEM ..`, and with both, `both BASE ITEM ..`.
+/// `check BASE ITEM ..` or `dump BASE ITEM ..`, with both, `both BASE ITEM ..`, and `cross BASE ITEM ..`.
 #[derive(Debug, Drop)]
 pub struct FileCase<'a> {
     plan: Plan<'a>,
@@ -26,12 +26,22 @@ impl<'a> FileCase<'a> {
         Ok(FileCase { plan })
     }
 
+    /// That of this file.
+    pub fn of(plan: Plan<'a>) -> FileCase<'a> {
+        FileCase { plan }
+    }
+
+    /// What the line says of its file.
+    pub fn plan(&self) -> &Plan<'a> {
+        &self.plan
+    }
+
     /// Runs the tasks, and compares.
     pub fn run(
         &self,
         alloc: Global,
         shelf: &Shelf,
-        tasks: &[Task],
+        tasks: &[Task<'_>],
         answer: &str,
         report: &mut Report,
     ) -> Result<(), LineError> {
@@ -48,7 +58,7 @@ impl<'a> FileCase<'a> {
         &self,
         alloc: Global,
         ready: &Ready<'_>,
-        task: Task,
+        task: Task<'_>,
         wanted: &[u8],
         report: &mut Report,
     ) -> Result<(), LineError> {
@@ -74,7 +84,7 @@ impl<'a> FileCase<'a> {
 /// Which of a line's tries it is.
 fn which_of(
     alloc: Global,
-    task: Task,
+    task: Task<'_>,
     trouble: Trouble<'_>,
     number: u64,
 ) -> Result<ByteList, LineError> {
@@ -89,7 +99,7 @@ fn which_of(
 /// `fetches check BASE ITEM ..`: which pages are fetched, in order.
 #[derive(Debug, Drop)]
 pub struct FetchCase<'a> {
-    task: Task,
+    task: Task<'static>,
     plan: Plan<'a>,
 }
 

@@ -1,8 +1,9 @@
-//! The commands, one module each. A command that comes later (`build`, `cross`, `get`) gets a module of its own here, a
-//! variant of `Command`, and its arms in `read` and `run`.
+//! The commands, one module each. A command that comes later, as `build`, gets a module of its own here, a variant of
+//! `Command`, and its arms in `read` and `run`.
 
 mod audit;
 mod file;
+mod get;
 mod page;
 mod row;
 mod schema;
@@ -17,6 +18,7 @@ use crate::shelf::Shelf;
 use crate::words::Words;
 use audit::AuditCase;
 use file::{FetchCase, FileCase};
+use get::GetCase;
 use page::PageCase;
 use row::{RowCase, RowText};
 pub use schema::try_schema;
@@ -31,6 +33,8 @@ pub enum Command<'a> {
     Check(FileCase<'a>),
     Dump(FileCase<'a>),
     Both(FileCase<'a>),
+    Cross(FileCase<'a>),
+    Get(GetCase<'a>),
     Fetches(FetchCase<'a>),
     Audit(AuditCase<'a>),
     Walk(WalkCase<'a>),
@@ -45,6 +49,7 @@ impl<'a> Command<'a> {
     pub fn read(alloc: Global, what: &'a str) -> Result<Command<'a>, LineError> {
         let (word, rest) = what.split_once(' ').ok_or(LineError::Command)?;
         match word {
+            "get" => Ok(Command::Get(GetCase::read(alloc, rest)?)),
             "value" => Ok(Command::Value(ValueCase::read(alloc, rest)?)),
             "line" => Ok(Command::Row(RowCase::read(alloc, RowText::Line, rest)?)),
             "key" => Ok(Command::Row(RowCase::read(alloc, RowText::Key, rest)?)),
@@ -62,6 +67,7 @@ impl<'a> Command<'a> {
             "check" => Ok(Command::Check(FileCase::read(alloc, words)?)),
             "dump" => Ok(Command::Dump(FileCase::read(alloc, words)?)),
             "both" => Ok(Command::Both(FileCase::read(alloc, words)?)),
+            "cross" => Ok(Command::Cross(FileCase::read(alloc, words)?)),
             "fetches" => Ok(Command::Fetches(FetchCase::read(alloc, words)?)),
             "audit" => Ok(Command::Audit(AuditCase::read(alloc, words)?)),
             "walk" => Ok(Command::Walk(WalkCase::read(alloc, words)?)),
@@ -85,6 +91,8 @@ impl<'a> Command<'a> {
             Command::Both(case) => {
                 case.run(alloc, shelf, &[Task::Check, Task::Dump], answer, report)
             }
+            Command::Cross(case) => case.run(alloc, shelf, &[Task::Cross], answer, report),
+            Command::Get(case) => case.run(alloc, shelf, answer, report),
             Command::Fetches(case) => case.run(alloc, shelf, answer, report),
             Command::Audit(case) => case.run(alloc, shelf, answer, report),
             Command::Walk(case) => case.run(alloc, shelf, answer, report),

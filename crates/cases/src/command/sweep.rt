@@ -107,7 +107,7 @@ fn wanted_of(alloc: Global, answer: &str, sound: &[u8], page: u32) -> Result<Byt
 /// `sweep check BASE BYTES-TRIED`.
 #[derive(Debug, Drop)]
 pub struct SweepCase<'a> {
-    task: Task,
+    task: Task<'static>,
     base: &'a str,
     tried: Tried,
 }

@@ -116,7 +116,7 @@ fn line_of(alloc: Global, value: &[u8]) -> Result<ByteList, LineError> {
 fn expect(
     alloc: Global,
     ready: &Ready<'_>,
-    task: Task,
+    task: Task<'_>,
     wanted: &[u8],
     report: &mut Report,
 ) -> Result<(), LineError> {

@@ -12,7 +12,13 @@ any_bytes (Ok u) = tt
 any_bytes (Err e) = tt
 
 pub pages-tells : goal.pages-tells
-pages-tells g c = record { same = refl; count = any_count c.result; cause = c.ensures.cause }
+pages-tells g c = record { same = refl; count = any_count c.result; cause = c.ensures.cause; asked = c.ensures.asked }
 
 pub fetch-tells : goal.fetch-tells
-fetch-tells g c = record { same = refl; bytes = any_bytes c.result; step = c.ensures.step; cause = c.ensures.cause }
+fetch-tells g c = record {
+  same = refl;
+  bytes = any_bytes c.result;
+  step = c.ensures.step;
+  cause = c.ensures.cause;
+  asked = c.ensures.asked;
+}
