@@ -1,5 +1,5 @@
 #!/usr/bin/env python3
-"""Times `check` and `dump` of large tables against reading the same file with `dd`, and prints the peak memory.
+"""Times `check`, `cross` and `dump` of large tables against reading the same file with `dd`, and prints the peak memory.
 
 usage: bench/tables.py [--server] [--runs N] PROGRAM
 
@@ -33,7 +33,7 @@ from tablespace import PAGE_SIZE, Tablespace
 
 TOP = pathlib.Path(__file__).resolve().parent.parent
 TICKS = os.sysconf("SC_CLK_TCK")
-KEYED = "table t dynamic\ncolumn id int notnull\n{columns}clustered root 3 id\n"
+KEYED = "table t dynamic\ncolumn id int notnull\n{columns}clustered root 3 id\n{index}"
 VALUE_SIZE = 60_000
 
 
@@ -44,12 +44,22 @@ class Took(typing.NamedTuple):
     clock: float
 
 
+class Index(typing.NamedTuple):
+    """Another index, whose entries are as long as their keys."""
+
+    line: str
+    create: str
+    entry: typing.Callable
+    key_size: int
+
+
 class Table(typing.NamedTuple):
     rows: int
     columns: str
     create: str
     record: typing.Callable
     line: typing.Callable
+    index: typing.Optional[Index] = None
 
 
 def stored_int(number):
@@ -61,13 +71,21 @@ def stored_key(number):
     return stored_int(number) + bytes(13)
 
 
+def scattered(number):
+    return number * 7919 % 1000003
+
+
 def short_record(_, number):
     text = b"row %d" % number
-    return bytes([len(text)]), stored_key(number) + stored_int(number * 7919 % 1000003) + text
+    return bytes([len(text)]), stored_key(number) + stored_int(scattered(number)) + text
 
 
 def short_line(number):
-    return b"INSERT INTO `t` VALUES (%d,%d,'row %d');\n" % (number, number * 7919 % 1000003, number)
+    return b"INSERT INTO `t` VALUES (%d,%d,'row %d');\n" % (number, scattered(number), number)
+
+
+def scattered_entry(number):
+    return stored_int(scattered(number)) + stored_int(number)
 
 
 def long_table(rows, kind, create, value_of, text_of):
@@ -107,13 +125,17 @@ def hexadecimal(value):
     return b"0x" + value.hex().encode()
 
 
+SHORT = Table(
+    1_000_000,
+    "column a int notnull\ncolumn b varchar 40 notnull\n",
+    "a int NOT NULL, b varchar(40) CHARACTER SET latin1 COLLATE latin1_bin NOT NULL",
+    short_record,
+    short_line,
+)
 TABLES = {
-    "1,000,000 short rows": Table(
-        1_000_000,
-        "column a int notnull\ncolumn b varchar 40 notnull\n",
-        "a int NOT NULL, b varchar(40) CHARACTER SET latin1 COLLATE latin1_bin NOT NULL",
-        short_record,
-        short_line,
+    "1,000,000 short rows": SHORT,
+    "1,000,000 short rows with an index": SHORT._replace(
+        index=Index("index i root 4 a\n", ", KEY i (a)", scattered_entry, 8)
     ),
     "5,000 long texts": long_table(5_000, "longtext", "longtext CHARACTER SET latin1", plain_value, quoted),
     "2,500 long binary values": long_table(2_500, "longblob", "longblob", binary_value, hexadecimal),
@@ -125,8 +147,11 @@ TABLES = {
 
 def make(path, table):
     with open(path, "wb") as file:
-        space = Tablespace(file)
+        space = Tablespace(file, (4, table.index.key_size) if table.index else (4,))
         space.put_tree([table.record(space, number) for number in range(table.rows)])
+        if table.index:
+            entries = sorted(table.index.entry(number) for number in range(table.rows))
+            space.put_tree([(b"", entry) for entry in entries], space.trees[1])
         space.put_space()
 
 
@@ -201,7 +226,9 @@ def with_server(server, words):
 
 def load(server, table):
     """Makes the table in the server, with the same rows."""
-    server.run(f"DROP TABLE IF EXISTS t; CREATE TABLE t (id int NOT NULL, {table.create}, PRIMARY KEY (id))", "bench")
+    index = table.index.create if table.index else ""
+    create = f"CREATE TABLE t (id int NOT NULL, {table.create}, PRIMARY KEY (id){index})"
+    server.run(f"DROP TABLE IF EXISTS t; {create}", "bench")
     with subprocess.Popen(server.client("--default-character-set=binary", "bench"), stdin=subprocess.PIPE) as child:
         child.stdin.write(b"SET autocommit = 0;\n")
         for number in range(table.rows):
@@ -227,10 +254,10 @@ def server_commands(server, table):
 def measure(program, name, table, folder, server, runs):
     schema, file = (os.path.join(folder, word) for word in ("schema", "file"))
     with open(schema, "w") as out:
-        out.write(KEYED.format(columns=table.columns))
+        out.write(KEYED.format(columns=table.columns, index=table.index.line if table.index else ""))
     make(file, table)
     compare([program, "dump", schema, file], table)
-    words = {command: [program, command, schema, file] for command in ("check", "dump")}
+    words = {command: [program, command, schema, file] for command in ("check", "cross", "dump")}
     commands = {"dd": lambda: run(["dd", "bs=16384", f"if={file}", "of=/dev/null"])}
     commands |= {command: lambda each=each: run(each) for command, each in words.items()}
     if server:

@@ -1,8 +1,9 @@
 """Makes the tablespace of a table that has an `id int notnull` as its clustered key, of as many pages as it takes.
 
 The extents whose first page is one of descriptors hold the pages of the space itself, and the first of them the pages
-of the tree above its leaves, too. The leaves and the pages of long values fill whole extents of the leaf segment.
+of the trees above their leaves, too. The leaves and the pages of long values fill whole extents of the leaf segments.
 """
+import dataclasses
 import functools
 import itertools
 import struct
@@ -16,7 +17,6 @@ INODE, IBUF_BITMAP, FSP_HDR, XDES, BLOB, INDEX = 3, 5, 8, 9, 10, 17855
 FREE_FRAG, FSEG = 2, 4
 FIRST_DESCRIPTOR, DESCRIPTOR_SIZE = 150, 40
 FIRST_INODE, INODE_SIZE, FRAGMENT_SLOTS, INODE_MAGIC = 50, 192, 32, 97937874
-TOP_SEGMENT, LEAF_SEGMENT = 1, 2
 SPACE_ID = LSN = 1
 DYNAMIC = 33
 
@@ -83,6 +83,34 @@ def slots_of(count):
     return 1 + max(1, (count + 1) // 4)
 
 
+@dataclasses.dataclass
+class Tree:
+    """The pages of a tree so far: its root and what stands above the leaves, and the extents of its leaves."""
+
+    number: int
+    top_pages: list
+    key_size: int = 4
+    extents: list = dataclasses.field(default_factory=list)
+    leaf_pages: int = 0
+
+    @property
+    def root(self):
+        return self.top_pages[0]
+
+    @property
+    def top_segment(self):
+        return 2 * self.number - 1
+
+    @property
+    def leaf_segment(self):
+        return 2 * self.number
+
+    @property
+    def last_used(self):
+        """How many pages of the last extent are used, none where it is full."""
+        return self.leaf_pages % EXTENT_PAGES
+
+
 def pages_of(records):
     """The records of a level, cut into pages."""
     page, room = [], 0
@@ -97,25 +125,33 @@ def pages_of(records):
 
 
 class Tablespace:
-    """A record is the pair of its bytes in front of the header and behind it, its key the first four behind it."""
+    """A record is the pair of its bytes in front of the header and behind it; the key is the first bytes behind it: four
+    in the tree of the rows, as many as its `key_size` in the tree of an index."""
 
-    def __init__(self, file):
+    def __init__(self, file, key_sizes=(4,)):
         self.file = file
-        self.top_pages = [ROOT]
-        self.leaf_pages = 0
+        self.trees = [Tree(number, [ROOT + number - 1], size) for number, size in enumerate(key_sizes, 1)]
+        self.extents = 0
 
-    def new_top_page(self):
-        self.top_pages.append(self.top_pages[-1] + 1)
-        return self.top_pages[-1]
+    @property
+    def top_pages(self):
+        return sum(len(tree.top_pages) for tree in self.trees)
 
-    def new_leaf_page(self):
-        extent, place = divmod(self.leaf_pages, EXTENT_PAGES)
-        self.leaf_pages += 1
-        return self.leaf_extent(extent) * EXTENT_PAGES + place
+    def new_top_page(self, tree):
+        tree.top_pages.append(ROOT + self.top_pages)
+        return tree.top_pages[-1]
+
+    def new_leaf_page(self, tree):
+        extent, place = divmod(tree.leaf_pages, EXTENT_PAGES)
+        if place == 0:
+            tree.extents.append(self.leaf_extent(self.extents))
+            self.extents += 1
+        tree.leaf_pages += 1
+        return tree.extents[extent] * EXTENT_PAGES + place
 
     @staticmethod
     def leaf_extent(number):
-        """The extents of the leaf segment in their order: all but those with a page of descriptors."""
+        """The extents of the leaf segments in their order: all but those with a page of descriptors."""
         return number + 1 + number // (DESCRIBED_EXTENTS - 1)
 
     def write(self, number, kind, page, state_of_body=None):
@@ -134,7 +170,7 @@ class Tablespace:
     def put_value(self, value):
         """Writes the pages of a long value; gives the reference to it."""
         parts = [value[at:at + PART_ROOM] for at in range(0, len(value), PART_ROOM)]
-        numbers = [self.new_leaf_page() for _ in parts]
+        numbers = [self.new_leaf_page(self.trees[0]) for _ in parts]
         for number, following, part in zip(numbers, [*numbers[1:], FIL_NULL], parts):
             page = bytearray(PAGE_SIZE)
             struct.pack_into(">II", page, 38, len(part), following)
@@ -142,20 +178,22 @@ class Tablespace:
             self.write(number, BLOB, page, carry_over_end(carry(0xFFFFFFFF, page[38:46]), bytes(page[46:16376])))
         return struct.pack(">IIIQ", SPACE_ID, numbers[0], 38, len(value))
 
-    def put_tree(self, records):
-        """Writes the levels of the tree, from its leaves up to the root."""
+    def put_tree(self, records, tree=None):
+        """Writes the levels of a tree, that of the rows where none is named, from its leaves up to the root."""
+        tree = tree or self.trees[0]
         for level in itertools.count():
             pages = list(pages_of(records))
             new_page = self.new_leaf_page if level == 0 else self.new_top_page
-            numbers = [ROOT] if level > 0 and len(pages) == 1 else [new_page() for _ in pages]
+            numbers = [tree.root] if level > 0 and len(pages) == 1 else [new_page(tree) for _ in pages]
             siblings = zip([FIL_NULL, *numbers], [*numbers[1:], FIL_NULL])
             for number, page, beside in zip(numbers, pages, siblings):
-                self.put_index_page(number, level, page, beside)
-            if numbers == [ROOT]:
+                self.put_index_page(tree, number, level, page, beside)
+            if numbers == [tree.root]:
                 return
-            records = [(b"", page[0][1][:4] + struct.pack(">I", number)) for page, number in zip(pages, numbers)]
+            keys = [page[0][1][:tree.key_size] for page in pages]
+            records = [(b"", key + struct.pack(">I", number)) for key, number in zip(keys, numbers)]
 
-    def put_index_page(self, number, level, records, siblings):
+    def put_index_page(self, tree, number, level, records, siblings):
         page = bytearray(PAGE_SIZE)
         count, slots = len(records), slots_of(len(records))
         page[94:120] = b"\1\0\2\0\0infimum\0" + b"\0\0\x0b\0\0supremum"
@@ -177,31 +215,37 @@ class Tablespace:
         for place, origin in enumerate([*directory, SUPREMUM]):
             struct.pack_into(">H", page, LAST_SLOT - 2 * place, origin)
         struct.pack_into(">II", page, 8, *siblings)
-        struct.pack_into(">HHHIHHHHQHQ", page, 38, slots, at, 0x8000 + count + 2, 0, 0, 5, 0, count, 0, level, 1)
-        if number == ROOT:
-            for at, segment in ((74, LEAF_SEGMENT), (84, TOP_SEGMENT)):
+        struct.pack_into(">HHHIHHHHQHQ", page, 38, slots, at, 0x8000 + count + 2, 0, 0, 5, 0, count, 0, level,
+                         tree.number)
+        if number == tree.root:
+            for at, segment in ((74, tree.leaf_segment), (84, tree.top_segment)):
                 struct.pack_into(">II", page, at, SPACE_ID, 2)
                 struct.pack_into(">H", page, at + 8, FIRST_INODE + INODE_SIZE * (segment - 1))
         self.write(number, INDEX, page)
 
     def put_space(self):
-        """Writes the pages that tell what each page of the file is for; the pages of the tree stand."""
-        count = -(-self.leaf_pages // EXTENT_PAGES)
-        extents = self.leaf_extent(count - 1) + 1
+        """Writes the pages that tell what each page of the file is for; the pages of the trees stand."""
+        extents = self.leaf_extent(self.extents - 1) + 1
         fragments = [extent for extent in range(extents) if extent % DESCRIBED_EXTENTS == 0]
-        own = [self.leaf_extent(number) for number in range(count)]
-        last = self.leaf_pages - (count - 1) * EXTENT_PAGES
-        used = {**{extent: 2 for extent in fragments}, **{extent: EXTENT_PAGES for extent in own},
-                0: 3 + len(self.top_pages), own[-1]: last}
-        lists = [fragments, own, []] if last == EXTENT_PAGES else [fragments, own[:-1], own[-1:]]
-        lists = [[extent_address(extent) for extent in members] for members in lists]
-        self.put_descriptors(extents, used, lists)
+        used = {extent: 2 for extent in fragments} | {0: 3 + self.top_pages}
+        owners = {}
+        for tree in self.trees:
+            used |= {extent: EXTENT_PAGES for extent in tree.extents}
+            used |= {tree.extents[-1]: tree.last_used or EXTENT_PAGES}
+            owners |= {extent: tree.leaf_segment for extent in tree.extents}
+        lists = [fragments, *(members for tree in self.trees for members in self.leaf_lists(tree))]
+        self.put_descriptors(extents, used, owners, [list(map(extent_address, members)) for members in lists])
         for extent in fragments:
             self.write(extent * EXTENT_PAGES + 1, IBUF_BITMAP, bytearray(PAGE_SIZE))
-        self.put_inodes(lists, last % EXTENT_PAGES)
+        self.put_inodes()
         self.file.truncate(extents * EXTENT_PAGES * PAGE_SIZE)
 
-    def put_descriptors(self, extents, used, lists):
+    @staticmethod
+    def leaf_lists(tree):
+        """The full extents of the leaves, and the one that isn't."""
+        return (tree.extents[:-1], tree.extents[-1:]) if tree.last_used else (tree.extents, [])
+
+    def put_descriptors(self, extents, used, owners, lists):
         around = {}
         for members in lists:
             around.update(zip(members, zip([NOWHERE, *members], [*members[1:], NOWHERE])))
@@ -209,26 +253,29 @@ class Tablespace:
             page = bytearray(PAGE_SIZE)
             for extent in range(first, min(first + DESCRIBED_EXTENTS, extents)):
                 bits = sum((2 if place < used[extent] else 3) << 2 * place for place in range(EXTENT_PAGES))
-                owner, state = (0, FREE_FRAG) if extent % DESCRIBED_EXTENTS == 0 else (LEAF_SEGMENT, FSEG)
+                owner, state = (owners[extent], FSEG) if extent in owners else (0, FREE_FRAG)
                 struct.pack_into(">Q6s6sI16s", page, FIRST_DESCRIPTOR + DESCRIPTOR_SIZE * (extent - first), owner,
                                  *around[extent_address(extent)], state, bits.to_bytes(16, "little"))
             if first == 0:
                 fragment_used = sum(used[extent] for extent in range(0, extents, DESCRIBED_EXTENTS))
                 pages = extents * EXTENT_PAGES
                 struct.pack_into(">IIIIII", page, 38, SPACE_ID, 0, pages, pages, DYNAMIC, fragment_used)
-                struct.pack_into(">16s16s16sQ16s16s", page, 62, base([]), base(lists[0]), base([]), LEAF_SEGMENT + 1,
-                                 base([]), base([address(2, 38)]))
+                struct.pack_into(">16s16s16sQ16s16s", page, 62, base([]), base(lists[0]), base([]),
+                                 self.trees[-1].leaf_segment + 1, base([]), base([address(2, 38)]))
             self.write(first * EXTENT_PAGES, XDES if first > 0 else FSP_HDR, page)
 
-    def put_inodes(self, lists, not_full_used):
+    def put_inodes(self):
         page = bytearray(PAGE_SIZE)
         page[38:50] = NOWHERE + NOWHERE
-        for segment in (TOP_SEGMENT, LEAF_SEGMENT):
-            _, full, not_full = lists if segment == LEAF_SEGMENT else ([], [], [])
-            slots = self.top_pages if segment == TOP_SEGMENT else []
-            at = FIRST_INODE + INODE_SIZE * (segment - 1)
-            struct.pack_into(">QI16s16s16sI", page, at, segment, not_full_used if not_full else 0,
-                             base([]), base(not_full), base(full), INODE_MAGIC)
-            slots = slots + [FIL_NULL] * (FRAGMENT_SLOTS - len(slots))
-            struct.pack_into(f">{FRAGMENT_SLOTS}I", page, at + 64, *slots)
+        for tree in self.trees:
+            self.put_inode(page, tree.top_segment, tree.top_pages, [], [], 0)
+            self.put_inode(page, tree.leaf_segment, [], *self.leaf_lists(tree), tree.last_used)
         self.write(2, INODE, page)
+
+    @staticmethod
+    def put_inode(page, segment, slots, full, not_full, not_full_used):
+        at = FIRST_INODE + INODE_SIZE * (segment - 1)
+        full, not_full = (base(list(map(extent_address, members))) for members in (full, not_full))
+        struct.pack_into(">QI16s16s16sI", page, at, segment, not_full_used, base([]), not_full, full, INODE_MAGIC)
+        slots = slots + [FIL_NULL] * (FRAGMENT_SLOTS - len(slots))
+        struct.pack_into(f">{FRAGMENT_SLOTS}I", page, at + 64, *slots)
