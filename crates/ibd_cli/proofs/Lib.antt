@@ -4,5 +4,7 @@ pub mod Joined
 pub mod SchemaReading
 pub mod OneAnswer
 pub mod DumpEnds
+pub mod CrossEnds
+pub mod GetEnds
 pub mod Outcomes
 pub mod Serving

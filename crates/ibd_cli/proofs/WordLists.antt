@@ -3,7 +3,7 @@ use Rattle.std.proofs.Common.{◌≡◌, ℕ, List, [], ◌∷◌, length, slice
 use Rattle.ibd_cli.specs.declared.words.Form.{Form}
 use Rattle.ibd_cli.specs.declared.words.Form.TheVariants.{Table, Build, Sample}
 use Rattle.ibd_cli.specs.declared.words.Task.{Task}
-use Rattle.ibd_cli.specs.declared.words.Task.TheVariants.{Check, Dump}
+use Rattle.ibd_cli.specs.declared.words.Task.TheVariants.{Check, Dump, Cross, Get}
 use Rattle.ibd_cli.specs.Forms.{IsForm, AsksNoTable}
 
 pub two_words : (words : List (List ℕ)) (name last : List ℕ) → length words ≡ 2 → slice_get words 0 ≡ Some name
@@ -36,6 +36,11 @@ first_letters : (words : List (List ℕ)) (a b : ℕ) (xs ys : List ℕ) (rest m
 first_letters words a b xs ys rest more is same =
     let e : (a ∷ xs) ∷ rest ≡ (b ∷ ys) ∷ more = sym is ∙ same in cc
 
+second_letters : (words : List (List ℕ)) (x y a b : ℕ) (xs ys : List ℕ) (rest more : List (List ℕ))
+    → words ≡ (x ∷ a ∷ xs) ∷ rest → words ≡ (y ∷ b ∷ ys) ∷ more → a ≡ b
+second_letters words x y a b xs ys rest more is same =
+    let e : (x ∷ a ∷ xs) ∷ rest ≡ (y ∷ b ∷ ys) ∷ more = sym is ∙ same in cc
+
 -- no other words are those of a command on a table
 only_task : (words : List (List ℕ)) (other task : Task) → IsForm words (Table other) → IsForm words (Table task)
     → other ≡ task
@@ -43,14 +48,30 @@ only_task words Check Check is same = refl
 only_task words Check Dump is same = absurd (omega (arith, first_letters words _ _ _ _ _ _ is.2 same.2))
 only_task words Dump Check is same = absurd (omega (arith, first_letters words _ _ _ _ _ _ is.2 same.2))
 only_task words Dump Dump is same = refl
+only_task words Check Cross is same = absurd (omega (arith, second_letters words _ _ _ _ _ _ _ _ is.2 same.2))
+only_task words Cross Check is same = absurd (omega (arith, second_letters words _ _ _ _ _ _ _ _ is.2 same.2))
+only_task words Dump Cross is same = absurd (omega (arith, first_letters words _ _ _ _ _ _ is.2 same.2))
+only_task words Cross Dump is same = absurd (omega (arith, first_letters words _ _ _ _ _ _ is.2 same.2))
+only_task words Cross Get is same = absurd (omega (arith, first_letters words _ _ _ _ _ _ is.2 same.3))
+only_task words Get Cross is same = absurd (omega (arith, first_letters words _ _ _ _ _ _ is.3 same.2))
+only_task words Cross Cross is same = refl
+only_task words Check Get is same = absurd (omega (arith, first_letters words _ _ _ _ _ _ is.2 same.3))
+only_task words Dump Get is same = absurd (omega (arith, first_letters words _ _ _ _ _ _ is.2 same.3))
+only_task words Get Check is same = absurd (omega (arith, first_letters words _ _ _ _ _ _ is.3 same.2))
+only_task words Get Dump is same = absurd (omega (arith, first_letters words _ _ _ _ _ _ is.3 same.2))
+only_task words Get Get is same = refl
 
 only_table : (words : List (List ℕ)) (form : Form) (task : Task) → IsForm words form → IsForm words (Table task)
     → form ≡ Table task
 only_table words (Table other) task is same = ap Table (only_task words other task is same)
 only_table words Build Check is same = absurd (omega (arith, first_letters words _ _ _ _ _ _ is.3 same.2))
 only_table words Build Dump is same = absurd (omega (arith, first_letters words _ _ _ _ _ _ is.3 same.2))
+only_table words Build Cross is same = absurd (omega (arith, first_letters words _ _ _ _ _ _ is.3 same.2))
+only_table words Build Get is same = absurd (omega (arith, first_letters words _ _ _ _ _ _ is.3 same.3))
+only_table words (Sample n) Get is same = absurd (omega (arith, first_letters words _ _ _ _ _ _ is.1 same.3))
 only_table words (Sample n) Check is same = absurd (omega (arith, first_letters words _ _ _ _ _ _ is.1 same.2))
 only_table words (Sample n) Dump is same = absurd (omega (arith, first_letters words _ _ _ _ _ _ is.1 same.2))
+only_table words (Sample n) Cross is same = absurd (omega (arith, first_letters words _ _ _ _ _ _ is.1 same.2))
 
 tables_same : (a b : Task) → Table a ≡ Table b → a ≡ b
 tables_same a b e = cc

@@ -11,17 +11,24 @@ use Rattle.schema_text.specs.declared.errors.SchemaError.{SchemaError}
 use Rattle.schema_text.specs.declared.errors.SchemaError.TheVariants as refusals
 use Rattle.schema_text.specs.TableDef.{TableDef}
 use Rattle.schema_text.specs.Grammar.{IsTextOf}
-use Rattle.table_check.specs.First.{First, TakesSteps}
+use Rattle.table_check.specs.First.{First, TakesSteps, AsksAtMost}
 use Rattle.sql_dump.specs.declared.stop.DumpStop.{DumpStop}
 use Rattle.sql_dump.specs.declared.stop.DumpStop.TheVariants as dumps
+use Rattle.cross_index.specs.declared.crossed.CrossStop.{CrossStop}
+use Rattle.cross_index.specs.declared.crossed.CrossStop.TheVariants as crosses
+use Rattle.cross_index.specs.Differ.{Missing, Extra}
+use Rattle.key_lookup.specs.declared.stop.GetStop.{GetStop}
+use Rattle.key_lookup.specs.declared.stop.GetStop.TheVariants as gets
+use Rattle.key_lookup.specs.Get.{IsLineFound}
 use Rattle.ibd_cli.specs.declared.schema_file.SchemaStop.{SchemaStop}
 use Rattle.ibd_cli.specs.declared.schema_file.SchemaStop.TheVariants.{Refused, Source, Memory}
 use Rattle.ibd_cli.specs.declared.status.Status.{Status}
 use Rattle.ibd_cli.specs.declared.status.Status.TheVariants as statuses
 use Rattle.ibd_cli.specs.declared.words.Task.{Task}
-use Rattle.ibd_cli.specs.declared.words.Task.TheVariants.{Check, Dump}
-use Rattle.ibd_cli.specs.Outcome.{IsRefusedText, IsDone, task_steps}
-use Rattle.ibd_cli.specs.Run.{ComesBefore}
+use Rattle.ibd_cli.specs.declared.words.Task.TheVariants.{Check, Dump, Cross, Get}
+use Rattle.ibd_cli.specs.Outcome.{IsRefusedText, OfKey, FirstOf, IsDone, IsNoKeyOf, IsAbsentOf, task_steps}
+use Rattle.ibd_cli.specs.Outcome.{FindsDifference}
+use Rattle.ibd_cli.specs.Run.{ComesBefore, EndsAs}
 
 -- the stop that a refusal is
 abbrev pub stop_of_schema : SchemaError → SchemaStop
@@ -45,6 +52,23 @@ status_of_dump dumps.Source = statuses.SourceFault
 status_of_dump dumps.Sink = statuses.SinkFault
 status_of_dump dumps.Memory = statuses.Memory
 
+-- of a comparison
+abbrev pub status_of_cross : CrossStop → Status
+status_of_cross (crosses.Broken fault) = statuses.Broken fault
+status_of_cross (crosses.Missing index row) = statuses.CrossMissing index row
+status_of_cross (crosses.Extra index page) = statuses.CrossExtra index page
+status_of_cross crosses.Source = statuses.SourceFault
+status_of_cross crosses.Memory = statuses.Memory
+
+-- and of a look-up
+abbrev pub status_of_get : GetStop → Status
+status_of_get gets.Refused = statuses.KeyRefused
+status_of_get gets.Absent = statuses.Absent
+status_of_get (gets.Broken fault) = statuses.Broken fault
+status_of_get gets.Source = statuses.SourceFault
+status_of_get gets.Sink = statuses.SinkFault
+status_of_get gets.Memory = statuses.Memory
+
 -- the text was read to its end and is that of the schema, or it is refused
 abbrev pub ReadsSchema : List ℕ → Option (List ℕ) → Result TableDef SchemaStop → Type 0
 ReadsSchema text left (Ok table) = IsTextOf table text × (left ≡ Some [])
@@ -53,24 +77,35 @@ ReadsSchema text left (Err Source) = ⊤
 ReadsSchema text left (Err Memory) = ⊤
 
 -- a prefix of the output was written
-abbrev pub HasPart : Task → List ℕ → TableDef → Option (List ℕ) → Option (List ℕ) → Type 0
-HasPart task file table old new = (output : List ℕ) × IsDone task file table output × GrowsByPart old new output
+abbrev pub HasPart : Task → List ℕ → List ℕ → TableDef → Option (List ℕ) → Option (List ℕ) → Type 0
+HasPart task key file table old new =
+    (output : List ℕ) × IsDone task key file table output × GrowsByPart old new output
 
 -- what was written where the file can't be read
-abbrev pub EndsUnread : Task → List ℕ → TableDef → Option (List ℕ) → Option (List ℕ) → Type 0
-EndsUnread Check file table old new = new ≡ old
-EndsUnread Dump file table old new =
-    (First file table None → HasPart Dump file table old new) × (¬ (First file table None) → new ≡ old)
+abbrev pub EndsUnread : Task → List ℕ → List ℕ → TableDef → Option (List ℕ) → Option (List ℕ) → Type 0
+EndsUnread Check key file table old new = new ≡ old
+EndsUnread Dump key file table old new =
+    (First file table None → HasPart Dump key file table old new) × (¬ (First file table None) → new ≡ old)
+EndsUnread Cross key file table old new = new ≡ old
+EndsUnread Get key file table old new =
+    OfKey table key (λ sought. ((line : List ℕ) → IsLineFound file table sought line → GrowsByPart old new line)
+    × (((line : List ℕ) → ¬ (IsLineFound file table sought line)) → new ≡ old))
 
 -- how a task ends at a file, and what was written
-abbrev pub Ends : Task → List ℕ → TableDef → Status → Option (List ℕ) → Option (List ℕ) → Type 0
-Ends task file table statuses.Done old new =
-    (output : List ℕ) × IsDone task file table output × GrowsBy old new output
-Ends task file table (statuses.Broken fault) old new = First file table (Some fault) × (new ≡ old)
-Ends task file table statuses.SourceFault old new = EndsUnread task file table old new
-Ends task file table statuses.SinkFault old new = HasPart task file table old new
-Ends task file table statuses.Memory old new = new ≡ old
-Ends task file table _ old new = ⊥
+abbrev pub Ends : Task → List ℕ → List ℕ → TableDef → Status → Option (List ℕ) → Option (List ℕ) → Type 0
+Ends task key file table statuses.Done old new =
+    (output : List ℕ) × IsDone task key file table output × GrowsBy old new output
+Ends task key file table statuses.KeyRefused old new = IsNoKeyOf task key table × (new ≡ old)
+Ends task key file table (statuses.Broken fault) old new = FirstOf task key file table (Some fault) × (new ≡ old)
+Ends task key file table statuses.Absent old new = IsAbsentOf task key file table × (new ≡ old)
+Ends task key file table (statuses.CrossMissing index row) old new =
+    FindsDifference task file (Missing index row) table × (new ≡ old)
+Ends task key file table (statuses.CrossExtra index page) old new =
+    FindsDifference task file (Extra index page) table × (new ≡ old)
+Ends task key file table statuses.SourceFault old new = EndsUnread task key file table old new
+Ends task key file table statuses.SinkFault old new = HasPart task key file table old new
+Ends task key file table statuses.Memory old new = new ≡ old
+Ends task key file table _ old new = ⊥
 
 -- such a status ends a task that has read its schema
 abbrev pub IsOfFile : Status → Type 0
@@ -80,12 +115,16 @@ IsOfFile statuses.Unbuilt = ⊥
 IsOfFile _ = ⊤
 
 -- what a task does to the file and the output, and how it ends
-pub record ServesFile {F O : Type 0} (f : FileOf F) (o : SinkOf O) (task : Task) (file file_now : F) (table : TableDef)
-    (out out_now : O) (steps steps_now : ℕ) (status : Status) : Type 0 where
-  pub ends : OfFile f file (λ content. Ends task content table status (o.written out) (o.written out_now))
+pub record ServesFile {F O : Type 0} (f : FileOf F) (o : SinkOf O) (task : Task) (key : List ℕ) (file file_now : F)
+    (table : TableDef) (out out_now : O) (steps steps_now : ℕ) (status : Status) : Type 0 where
+  pub ends : OfFile f file (λ content. Ends task key content table status (o.written out) (o.written out_now))
   pub of_file : IsOfFile status
+  -- a text that is no key's is refused before the file is touched
+  pub unkeyed : status ≡ statuses.KeyRefused → IsNoKeyOf task key table
+  pub unsought : IsNoKeyOf task key table → (file_now ≡ file) × (steps_now ≡ steps) × EndsAs statuses.KeyRefused status
   pub unwritten : ComesBefore task status → out_now ≡ out
   pub source : status ≡ statuses.SourceFault → Rose (f.faults file) (f.faults file_now)
   pub sink : status ≡ statuses.SinkFault → Rose (o.faults out) (o.faults out_now)
   pub content : f.content file_now ≡ f.content file
   pub cost : TakesSteps f file (task_steps task) steps steps_now
+  pub fetches : AsksAtMost f file file_now (task_steps task)

@@ -1,7 +1,7 @@
 -- The forms of the command line: the words behind the program's name.
-use Rattle.std.specs.Prelude.{◌≡◌, ℕ, ◌≤◌, List, [], ◌∷◌, codes, decimal}
+use Rattle.std.specs.Prelude.{◌≡◌, ℕ, ◌≤◌, List, [], ◌∷◌, codes, decimal, slice_index_or}
 use Rattle.ibd_cli.specs.declared.words.Task.{Task}
-use Rattle.ibd_cli.specs.declared.words.Task.TheVariants.{Check, Dump}
+use Rattle.ibd_cli.specs.declared.words.Task.TheVariants.{Check, Dump, Cross, Get}
 use Rattle.ibd_cli.specs.declared.words.Form.{Form}
 use Rattle.ibd_cli.specs.declared.words.Form.TheVariants.{Table, Build, Sample}
 
@@ -9,13 +9,21 @@ use Rattle.ibd_cli.specs.declared.words.Form.TheVariants.{Table, Build, Sample}
 abbrev pub task_word : Task → List ℕ
 task_word Check = codes "check"
 task_word Dump = codes "dump"
+task_word Cross = codes "cross"
+task_word Get = codes "get"
 
 -- the words have this form
 abbrev pub IsForm : List (List ℕ) → Form → Type 0
+IsForm words (Table Get) =
+    (schema : List ℕ) × (file : List ℕ) × (key : List ℕ) × (words ≡ task_word Get ∷ schema ∷ file ∷ key ∷ [])
 IsForm words (Table task) = (schema : List ℕ) × (file : List ℕ) × (words ≡ task_word task ∷ schema ∷ file ∷ [])
 IsForm words Build =
     (schema : List ℕ) × (rows : List ℕ) × (file : List ℕ) × (words ≡ codes "build" ∷ schema ∷ rows ∷ file ∷ [])
 IsForm words (Sample n) = (n ≤ 200000) × (words ≡ codes "sample" ∷ decimal n ∷ [])
+
+-- the text of the key of a row that is wanted: the fourth word; nothing where there is none
+abbrev pub key_word : List (List ℕ) → List ℕ
+key_word words = slice_index_or words 3 []
 
 abbrev pub HasSomeForm : List (List ℕ) → Type 0
 HasSomeForm words = (form : Form) × IsForm words form

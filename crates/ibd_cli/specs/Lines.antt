@@ -7,6 +7,7 @@ use Rattle.schema_text.specs.declared.errors.SchemaWhy.TheVariants as whys
 use Rattle.ibd_cli.specs.declared.status.Status.{Status}
 use Rattle.ibd_cli.specs.declared.status.Status.TheVariants.{Done, Usage, SchemaRefused, Broken}
 use Rattle.ibd_cli.specs.declared.status.Status.TheVariants.{SourceFault, SinkFault, Memory, Unbuilt}
+use Rattle.ibd_cli.specs.declared.status.Status.TheVariants.{CrossMissing, CrossExtra, KeyRefused, Absent}
 
 -- a number behind its name
 abbrev pub counted : List ℕ → ℕ → List ℕ
@@ -29,6 +30,10 @@ fault_line fault =
     counted (codes "broken ") (rule_number fault.rule) ++ codes " " ++ rule_name fault.rule
     ++ counted (codes " page ") fault.page ++ codes "\n"
 
+-- where the rows and an index differ: the number of the index, and the place that one side has alone
+abbrev pub difference_line : ℕ → List ℕ → ℕ → List ℕ
+difference_line index side place = counted (codes "cross index ") index ++ counted side place ++ codes "\n"
+
 -- what a status writes to the standard error: nothing where all is done
 abbrev pub status_line : Status → List ℕ
 status_line Done = []
@@ -39,6 +44,10 @@ status_line SourceFault = codes "source\n"
 status_line SinkFault = codes "sink\n"
 status_line Memory = codes "memory\n"
 status_line Unbuilt = codes "unbuilt\n"
+status_line (CrossMissing index row) = difference_line index (codes " missing row ") row
+status_line (CrossExtra index page) = difference_line index (codes " extra page ") page
+status_line KeyRefused = codes "key\n"
+status_line Absent = codes "absent\n"
 
 -- the exit status of the process
 abbrev pub status_number : Status → ℕ
@@ -50,3 +59,7 @@ status_number SourceFault = 5
 status_number SinkFault = 6
 status_number Memory = 8
 status_number Unbuilt = 10
+status_number (CrossMissing index row) = 11
+status_number (CrossExtra index page) = 12
+status_number KeyRefused = 13
+status_number Absent = 14

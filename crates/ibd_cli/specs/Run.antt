@@ -8,15 +8,16 @@ use Rattle.page_source.specs.Faults.{Rose}
 use Rattle.page_source.specs.Objects.{GrowsBy, GrowsByPart}
 use Rattle.page_source.specs.Calls.{OfFile}
 use Rattle.schema_text.specs.TableDef.{TableDef}
+use Rattle.schema_text.specs.Grammar.{IsTextOf}
 use Rattle.schema_text.specs.declared.errors.SchemaWhy.{SchemaWhy}
-use Rattle.table_check.specs.First.{First, TakesSteps}
+use Rattle.table_check.specs.First.{TakesSteps, AsksAtMost}
 use Rattle.ibd_cli.specs.declared.status.Status.{Status}
 use Rattle.ibd_cli.specs.declared.status.Status.TheVariants.{Done, Usage, SchemaRefused, Broken}
-use Rattle.ibd_cli.specs.declared.status.Status.TheVariants.{SourceFault, SinkFault, Memory}
+use Rattle.ibd_cli.specs.declared.status.Status.TheVariants.{SourceFault, SinkFault, Memory, KeyRefused, Absent}
 use Rattle.ibd_cli.specs.declared.words.Task.{Task}
-use Rattle.ibd_cli.specs.declared.words.Task.TheVariants.{Check, Dump}
+use Rattle.ibd_cli.specs.declared.words.Task.TheVariants.{Check, Dump, Cross, Get}
 use Rattle.ibd_cli.specs.Reading.{IsReadUpTo}
-use Rattle.ibd_cli.specs.Outcome.{IsRefusedText, IsOfNoTable, Told, Gives, task_steps}
+use Rattle.ibd_cli.specs.Outcome.{IsRefusedText, IsOfNoTable, IsNoKeyOf, FirstOf, Told, Gives, task_steps}
 
 -- it ended as the inputs define, unless an object failed or memory ran out
 abbrev pub EndsAs : Status → Status → Type 0
@@ -26,8 +27,12 @@ EndsAs given Memory = ⊤
 EndsAs given status = status ≡ given
 
 -- the fault is the first one of the file, as that of some table
-abbrev pub BreaksFile : List ℕ → Fault → Type 0
-BreaksFile file fault = (table : TableDef) × First file table (Some fault)
+abbrev pub BreaksFile : Task → List ℕ → List ℕ → Fault → Type 0
+BreaksFile task key file fault = (table : TableDef) × FirstOf task key file table (Some fault)
+
+-- the schema text is that of a table, of which the text is no key's
+abbrev pub IsNoKeyIn : Task → List ℕ → List ℕ → Type 0
+IsNoKeyIn task key schema = (table : TableDef) × IsTextOf table schema × IsNoKeyOf task key table
 
 -- schema and file tell this
 pub record Tells {F Q : Type 0} (f : FileOf F) (q : SourceOf Q) (file : F) (schema : Q) (told : Told) : Type 0 where
@@ -35,7 +40,7 @@ pub record Tells {F Q : Type 0} (f : FileOf F) (q : SourceOf Q) (file : F) (sche
   pub content : f.content file ≡ Some told.file
 
 -- what a task does to its inputs, and how they decide its status
-pub record ReadsInputs {F Q : Type 0} (f : FileOf F) (q : SourceOf Q) (task : Task) (file file_now : F)
+pub record ReadsInputs {F Q : Type 0} (f : FileOf F) (q : SourceOf Q) (task : Task) (key : List ℕ) (file file_now : F)
     (schema schema_now : Q) (steps steps_now : ℕ) (status : Status) : Type 0 where
   -- the schema text is read first, and at most one byte more than it may have
   pub read : IfSome (q.left schema) (λ text. IsReadUpTo 65537 text (q.left schema_now))
@@ -47,52 +52,77 @@ pub record ReadsInputs {F Q : Type 0} (f : FileOf F) (q : SourceOf Q) (task : Ta
       → (file_now ≡ file) × (steps_now ≡ steps)
   pub alone : (text : List ℕ) (line : ℕ) (why : SchemaWhy) → q.left schema ≡ Some text → IsRefusedText text line why
       → EndsAs (SchemaRefused line why) status
+  -- a refused key is no key of the table, and the file is untouched
+  pub unkeyed : status ≡ KeyRefused
+      → IfSome (q.left schema) (IsNoKeyIn task key) × (file_now ≡ file) × (steps_now ≡ steps)
+  -- where it is none, the file is untouched in any case, and the refusal ends it
+  pub unsought : (text : List ℕ) → q.left schema ≡ Some text → IsNoKeyIn task key text
+      → (file_now ≡ file) × (steps_now ≡ steps) × EndsAs KeyRefused status
   -- a broken rule is one of the file
-  pub broken : (fault : Fault) → status ≡ Broken fault → OfFile f file (λ content. BreaksFile content fault)
+  pub broken : (fault : Fault) → status ≡ Broken fault → OfFile f file (λ content. BreaksFile task key content fault)
   -- the status is the one that the inputs define
   pub complete : (told : Told) (given : Status) (output : List ℕ) → Tells f q file schema told
-      → Gives task told given output → EndsAs given status
+      → Gives task key told given output → EndsAs given status
   -- a fault of the inputs was counted
   pub source : status ≡ SourceFault
       → Rose (f.faults file) (f.faults file_now) ⊎ Rose (q.faults schema) (q.faults schema_now)
   -- the file is as before, and few pages of it were fetched
   pub content : f.content file_now ≡ f.content file
   pub cost : TakesSteps f file (task_steps task) steps steps_now
+  pub fetches : AsksAtMost f file file_now (task_steps task)
 
--- where the file can't be read, a dump of a sound one has written a prefix of its output
-abbrev pub LeavesUnread : Task → Told → Option (List ℕ) → Option (List ℕ) → Type 0
-LeavesUnread Check told old new = new ≡ old
-LeavesUnread Dump told old new =
-    ((output : List ℕ) → Gives Dump told Done output
-    → (text : List ℕ) × Gives Dump told Done text × GrowsByPart old new text)
-    × (((output : List ℕ) → ¬ (Gives Dump told Done output)) → new ≡ old)
+-- where the file can't be read, a prefix of the output was written, if there is one
+abbrev pub LeavesPart : Task → List ℕ → Told → Option (List ℕ) → Option (List ℕ) → Type 0
+LeavesPart task key told old new =
+    ((output : List ℕ) → Gives task key told Done output
+    → (text : List ℕ) × Gives task key told Done text × GrowsByPart old new text)
+    × (((output : List ℕ) → ¬ (Gives task key told Done output)) → new ≡ old)
+
+-- so it is with a dump and a row; a check and a comparison have written nothing
+abbrev pub LeavesUnread : Task → List ℕ → Told → Option (List ℕ) → Option (List ℕ) → Type 0
+LeavesUnread Check key told old new = new ≡ old
+LeavesUnread Dump key told old new = LeavesPart Dump key told old new
+LeavesUnread Cross key told old new = new ≡ old
+LeavesUnread Get key told old new = LeavesPart Get key told old new
 
 -- the status is the one that the inputs define, and what was written goes with it: all of the output at Done, a
 -- prefix of it where the sink took no more, and else nothing
-abbrev pub Leaves : Task → Told → Status → Option (List ℕ) → Option (List ℕ) → Option (List ℕ) → Type 0
-Leaves task told Done old new schema =
-    ((output : List ℕ) × Gives task told Done output × GrowsBy old new output) × (schema ≡ Some [])
-Leaves task told Usage old new schema = ⊥
-Leaves task told SourceFault old new schema = LeavesUnread task told old new
-Leaves task told SinkFault old new schema = (output : List ℕ) × Gives task told Done output × GrowsByPart old new output
-Leaves task told Memory old new schema = new ≡ old
-Leaves task told status old new schema = Gives task told status [] × (new ≡ old)
+abbrev pub Leaves : Task → List ℕ → Told → Status → Option (List ℕ) → Option (List ℕ) → Option (List ℕ) → Type 0
+Leaves task key told Done old new schema =
+    ((output : List ℕ) × Gives task key told Done output × GrowsBy old new output) × (schema ≡ Some [])
+Leaves task key told Usage old new schema = ⊥
+Leaves task key told SourceFault old new schema = LeavesUnread task key told old new
+Leaves task key told SinkFault old new schema =
+    (output : List ℕ) × Gives task key told Done output × GrowsByPart old new output
+Leaves task key told Memory old new schema = new ≡ old
+Leaves task key told status old new schema = Gives task key told status [] × (new ≡ old)
+
+-- such a status comes before the line of numbers
+abbrev pub ComesBeforeLine : Status → Type 0
+ComesBeforeLine status = (status ≢ Done) × (status ≢ SinkFault)
 
 -- such a status comes before the first byte of the output, whatever the inputs tell
 abbrev pub ComesBefore : Task → Status → Type 0
-ComesBefore Check status = (status ≢ Done) × (status ≢ SinkFault)
+ComesBefore Check status = ComesBeforeLine status
+ComesBefore Cross status = ComesBeforeLine status
 ComesBefore Dump Usage = ⊤
 ComesBefore Dump (SchemaRefused line why) = ⊤
 ComesBefore Dump Memory = ⊤
 ComesBefore Dump _ = ⊥
+ComesBefore Get Usage = ⊤
+ComesBefore Get (SchemaRefused line why) = ⊤
+ComesBefore Get KeyRefused = ⊤
+ComesBefore Get Absent = ⊤
+ComesBefore Get Memory = ⊤
+ComesBefore Get _ = ⊥
 
 -- the whole promise of a command on a table
-pub record Serves {F Q O : Type 0} (f : FileOf F) (q : SourceOf Q) (o : SinkOf O) (task : Task) (file file_now : F)
-    (schema schema_now : Q) (out out_now : O) (steps steps_now : ℕ) (status : Status) : Type 0 where
-  pub inputs : ReadsInputs f q task file file_now schema schema_now steps steps_now status
+pub record Serves {F Q O : Type 0} (f : FileOf F) (q : SourceOf Q) (o : SinkOf O) (task : Task) (key : List ℕ)
+    (file file_now : F) (schema schema_now : Q) (out out_now : O) (steps steps_now : ℕ) (status : Status) : Type 0 where
+  pub inputs : ReadsInputs f q task key file file_now schema schema_now steps steps_now status
   -- what is written, where the inputs are told
   pub leaves : (told : Told) → Tells f q file schema told
-      → Leaves task told status (o.written out) (o.written out_now) (q.left schema_now)
+      → Leaves task key told status (o.written out) (o.written out_now) (q.left schema_now)
   -- and whatever they tell
   pub unwritten : ComesBefore task status → out_now ≡ out
   pub sink : status ≡ SinkFault → Rose (o.faults out) (o.faults out_now)

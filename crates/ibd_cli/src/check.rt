@@ -1,5 +1,6 @@
 //! The command `check`: all checks, and then the line of the numbers.
 
+ghost use Rattle.std.specs.Prelude.{ℕ, List};
 ghost use Rattle.page_source.specs.Calls.{Puts};
 ghost use Rattle.ibd_cli.specs.Outcome.{checked_line};
 ghost use Rattle.ibd_cli.specs.Answers.{ServesFile};
@@ -21,8 +22,8 @@ pub fn check_file<F: PageSource, O: ByteSink, L: Ledger>(
     out: &mut O,
     steps: &mut Steps<L>,
 ) -> Status
-    ensures { ServesFile F.PageSource O.ByteSink Task.Check file.old file.new table.now out.old out.new
-        steps.old steps.new result }
+    ensures { (key : List ℕ) → ServesFile F.PageSource O.ByteSink Task.Check key file.old file.new table.now
+        out.old out.new steps.old steps.new result }
 {
     match check(alloc, file, table, steps) {
         Ok(checked) => match put_checked(out, &checked) {

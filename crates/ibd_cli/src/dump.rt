@@ -1,5 +1,6 @@
 //! The command `dump`: all checks, and then the lines of the rows.
 
+ghost use Rattle.std.specs.Prelude.{ℕ, List};
 ghost use Rattle.ibd_cli.specs.Answers.{ServesFile};
 ghost use Rattle.ibd_cli.specs.declared.words.Task.{Task};
 
@@ -19,8 +20,8 @@ pub fn dump_file<F: PageSource, O: ByteSink, L: Ledger>(
     out: &mut O,
     steps: &mut Steps<L>,
 ) -> Status
-    ensures { ServesFile F.PageSource O.ByteSink Task.Dump file.old file.new table.now out.old out.new
-        steps.old steps.new result }
+    ensures { (key : List ℕ) → ServesFile F.PageSource O.ByteSink Task.Dump key file.old file.new table.now
+        out.old out.new steps.old steps.new result }
 {
     checks_are_validity();
     match dump(alloc, file, table, out, steps) {

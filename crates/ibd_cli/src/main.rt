@@ -7,7 +7,9 @@ ghost use Rattle.ibd_cli.specs.Forms.{HasSomeForm, HasNoForm, AsksNoTable};
 
 mod check;
 mod command_line;
+mod cross;
 mod dump;
+mod get;
 mod report;
 mod run;
 mod schema_file;

@@ -3,7 +3,7 @@
 ghost use Rattle.std.specs.Prelude.{◌≡◌, ◌≤◌};
 ghost use Rattle.page_source.specs.Calls.{Puts};
 ghost use Rattle.ibd_cli.specs.Causes.{Reports};
-ghost use Rattle.ibd_cli.specs.Lines.{status_line, fault_line, why_word};
+ghost use Rattle.ibd_cli.specs.Lines.{status_line, fault_line, difference_line, why_word};
 
 use crate::status::Status;
 use itoa::Buffer;
@@ -31,6 +31,12 @@ fn put_status<E: ByteSink>(err: &mut E, status: Status) -> Result<(), Failed>
         Status::SinkFault => err.put(b"sink\n"),
         Status::Memory => err.put(b"memory\n"),
         Status::Unbuilt => err.put(b"unbuilt\n"),
+        Status::CrossMissing { index, row } => put_difference(err, index, " missing row ", row),
+        Status::CrossExtra { index, page } => {
+            put_difference(err, index, " extra page ", u64::from(page))
+        }
+        Status::KeyRefused => err.put(b"key\n"),
+        Status::Absent => err.put(b"absent\n"),
     }
 }
 
@@ -60,6 +66,26 @@ fn put_fault<E: ByteSink>(err: &mut E, fault: Fault) -> Result<(), Failed>
         fault.rule.name().as_bytes(),
         b" page ",
         page.format(fault.page).as_bytes(),
+        b"\n",
+    ];
+    put_pieces(err, &pieces)
+}
+
+fn put_difference<E: ByteSink>(
+    err: &mut E,
+    index: u32,
+    side: &str,
+    place: u64,
+) -> Result<(), Failed>
+    ensures { Puts E.ByteSink err.old err.new (difference_line index side.now place) result }
+{
+    let mut indexes = Buffer::new();
+    let mut places = Buffer::new();
+    let pieces = [
+        b"cross index ".as_slice(),
+        indexes.format(index).as_bytes(),
+        side.as_bytes(),
+        places.format(place).as_bytes(),
         b"\n",
     ];
     put_pieces(err, &pieces)

@@ -1,24 +1,28 @@
 //! The whole program as one call over the objects that reach outside.
 
 ghost use Rattle.std.specs.Prelude.{◌≡◌, ◌≢◌, ◌↔◌};
-ghost use Rattle.ibd_cli.specs.Forms.{IsForm, HasSomeForm, HasNoForm, AsksNoTable};
+ghost use Rattle.ibd_cli.specs.Forms.{IsForm, HasSomeForm, HasNoForm, AsksNoTable, key_word};
 ghost use Rattle.ibd_cli.specs.Lines.{status_line};
 ghost use Rattle.ibd_cli.specs.Causes.{Reports};
 ghost use Rattle.ibd_cli.specs.Answers.{ServesFile};
 ghost use Rattle.ibd_cli.specs.Run.{Serves};
 
 use crate::check::check_file;
+use crate::cross::cross_file;
 use crate::dump::dump_file;
+use crate::get::get_row;
 use crate::report::report;
 use crate::schema_file::read_schema;
 use crate::status::Status;
 use crate::words::{Form, Task, Words};
+use cross_index::laws::has_one_difference;
+use key_lookup::laws::{look_up_has_one_answer, text_spells_one_key};
 use page_source::{ByteSink, ByteSource, PageSource, PageStore, Steps};
 use schema_text::Schema;
 use schema_text::laws::{has_one_schema, texts_pass};
 use std::alloc::Global;
 use std::sync::ledger::Ledger;
-use table_check::laws::first_has_one_answer;
+use table_check::laws::{checks_are_validity, first_has_one_answer};
 
 /// Does what the words ask for, and answers how it ended. The words are those of the command line
 /// without the program's name; `file` and `schema` are read, `out` and `err` written. `rows` and
@@ -56,7 +60,7 @@ pub fn run<
 
     // What a command on a table does to the objects that it names, and how it ends.
     ensures serves { (task : Task) → IsForm words.now (Form.Table task)
-        → Serves F.PageSource Q.ByteSource O.ByteSink task file.old file.new
+        → Serves F.PageSource Q.ByteSource O.ByteSink task (key_word words.now) file.old file.new
         schema.old schema.new out.old out.new steps.old steps.new result }
 
     ensures report { Reports (E.written err.old) (E.written err.new) (E.faults err.old) (E.faults err.new)
@@ -64,7 +68,7 @@ pub fn run<
 {
     let status = match words.form() {
         None => Status::Usage,
-        Some(Form::Table(task)) => serve(alloc, task, file, schema, out, steps),
+        Some(Form::Table(task)) => serve(alloc, task, words.key(), file, schema, out, steps),
         Some(Form::Build) => Status::Unbuilt,
         Some(Form::Sample(_)) => Status::Unbuilt,
     };
@@ -76,22 +80,28 @@ pub fn run<
 fn serve<F: PageSource, Q: ByteSource, O: ByteSink, L: Ledger>(
     alloc: Global,
     task: Task,
+    key: &[u8],
     file: &mut F,
     schema: &mut Q,
     out: &mut O,
     steps: &mut Steps<L>,
 ) -> Status
-    ensures serves { Serves F.PageSource Q.ByteSource O.ByteSink task file.old file.new
+    ensures serves { Serves F.PageSource Q.ByteSource O.ByteSink task key.now file.old file.new
         schema.old schema.new out.old out.new steps.old steps.new result }
     ensures usage { result ≢ Status.Usage }
     ensures built { result ≢ Status.Unbuilt }
 {
-    // A schema text is that of one table, and a table's checks of a file have one answer.
+    // A schema text is that of one table, a table's checks of a file have one answer, so has the comparison of its
+    // indexes with its rows, and a text spells one key.
     has_one_schema();
     texts_pass();
     first_has_one_answer();
+    checks_are_validity();
+    has_one_difference();
+    look_up_has_one_answer();
+    text_spells_one_key();
     match read_schema(alloc, schema) {
-        Ok(table) => serve_table(alloc, task, file, &table, out, steps),
+        Ok(table) => serve_table(alloc, task, key, file, &table, out, steps),
         Err(stop) => Status::from(stop),
     }
 }
@@ -99,16 +109,19 @@ fn serve<F: PageSource, Q: ByteSource, O: ByteSink, L: Ledger>(
 fn serve_table<F: PageSource, O: ByteSink, L: Ledger>(
     alloc: Global,
     task: Task,
+    key: &[u8],
     file: &mut F,
     table: &Schema,
     out: &mut O,
     steps: &mut Steps<L>,
 ) -> Status
-    ensures { ServesFile F.PageSource O.ByteSink task file.old file.new table.now out.old out.new
+    ensures { ServesFile F.PageSource O.ByteSink task key.now file.old file.new table.now out.old out.new
         steps.old steps.new result }
 {
     match task {
         Task::Check => check_file(alloc, file, table, out, steps),
         Task::Dump => dump_file(alloc, file, table, out, steps),
+        Task::Cross => cross_file(alloc, file, table, out, steps),
+        Task::Get => get_row(alloc, file, table, key, out, steps),
     }
 }

@@ -2,9 +2,12 @@
 
 ghost use Rattle.std.specs.Prelude.{◌≡◌};
 ghost use Rattle.ibd_cli.specs.Answers.{status_of_schema, status_of_stop, status_of_dump};
+ghost use Rattle.ibd_cli.specs.Answers.{status_of_cross, status_of_get};
 ghost use Rattle.ibd_cli.specs.Lines.{status_number};
 
 use crate::schema_file::SchemaStop;
+use cross_index::CrossStop;
+use key_lookup::GetStop;
 use page_source::{Fault, Stop};
 use schema_text::SchemaWhy;
 use sql_dump::DumpStop;
@@ -28,6 +31,14 @@ pub enum Status {
     Memory,
     /// The command isn't served yet. Nothing was written.
     Unbuilt,
+    /// The least key that only one side has is that of a row, counted from 1, which this index lacks.
+    CrossMissing { index: u32, row: u64 },
+    /// It is that of an entry of this index, on this leaf page, which is of no row.
+    CrossExtra { index: u32, page: u32 },
+    /// The text is that of no key of the table. The file wasn't touched.
+    KeyRefused,
+    /// No row has the key, or one with the delete mark. Nothing was written.
+    Absent,
 }
 
 impl Status {
@@ -44,6 +55,10 @@ impl Status {
             Status::SinkFault => 6,
             Status::Memory => 8,
             Status::Unbuilt => 10,
+            Status::CrossMissing { .. } => 11,
+            Status::CrossExtra { .. } => 12,
+            Status::KeyRefused => 13,
+            Status::Absent => 14,
         }
     }
 }
@@ -81,6 +96,35 @@ impl From<DumpStop> for Status {
             DumpStop::Source => Status::SourceFault,
             DumpStop::Sink => Status::SinkFault,
             DumpStop::Memory => Status::Memory,
+        }
+    }
+}
+
+impl From<GetStop> for Status {
+    ghost from_gives = { λ stop status. status ≡ status_of_get stop };
+
+    fn from(stop: GetStop) -> Self {
+        match stop {
+            GetStop::Refused => Status::KeyRefused,
+            GetStop::Absent => Status::Absent,
+            GetStop::Broken(fault) => Status::Broken(fault),
+            GetStop::Source => Status::SourceFault,
+            GetStop::Sink => Status::SinkFault,
+            GetStop::Memory => Status::Memory,
+        }
+    }
+}
+
+impl From<CrossStop> for Status {
+    ghost from_gives = { λ stop status. status ≡ status_of_cross stop };
+
+    fn from(stop: CrossStop) -> Self {
+        match stop {
+            CrossStop::Broken(fault) => Status::Broken(fault),
+            CrossStop::Missing { index, row } => Status::CrossMissing { index, row },
+            CrossStop::Extra { index, page } => Status::CrossExtra { index, page },
+            CrossStop::Source => Status::SourceFault,
+            CrossStop::Memory => Status::Memory,
         }
     }
 }

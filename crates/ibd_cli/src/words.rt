@@ -31,12 +31,16 @@ pub enum Task {
     Check,
     /// `dump SCHEMA FILE`
     Dump,
+    /// `cross SCHEMA FILE`
+    Cross,
+    /// `get SCHEMA FILE KEY`
+    Get,
 }
 
 /// What the words ask for.
 #[derive(Clone, Copy, Debug, PartialEq, Eq)]
 pub enum Form {
-    /// `check SCHEMA FILE` or `dump SCHEMA FILE`
+    /// `check SCHEMA FILE`, `dump SCHEMA FILE`, `cross SCHEMA FILE` or `get SCHEMA FILE KEY`
     Table(Task),
     /// `build SCHEMA ROWS FILE`
     Build,
@@ -45,7 +49,7 @@ pub enum Form {
 }
 
 impl Words {
-    ghost use Rattle.ibd_cli.specs.Forms.{IsForm, HasNoForm};
+    ghost use Rattle.ibd_cli.specs.Forms.{IsForm, HasNoForm, key_word};
 
     /// No word, and no memory taken yet.
     pub fn new(alloc: Global) -> Words
@@ -79,6 +83,17 @@ impl Words {
         }
     }
 
+    /// The text of the key of a row that is wanted: the fourth word.
+    pub fn key(&self) -> &[u8]
+        ensures { result.now ≡ key_word self.now }
+    {
+        if self.words.len() > 3 {
+            self.words[3].bytes()
+        } else {
+            b""
+        }
+    }
+
     /// What the words ask for; none where they have no form.
     pub fn form(&self) -> Option<Form>
         ensures { MatchOption result (HasNoForm self.now) (λ form. IsForm self.now form) }
@@ -87,6 +102,10 @@ impl Words {
             Some(Form::Table(Task::Check))
         } else if self.is_command("dump", 3) {
             Some(Form::Table(Task::Dump))
+        } else if self.is_command("cross", 3) {
+            Some(Form::Table(Task::Cross))
+        } else if self.is_command("get", 4) {
+            Some(Form::Table(Task::Get))
         } else if self.is_command("build", 4) {
             Some(Form::Build)
         } else {

@@ -1,7 +1,7 @@
 //! Which pages the commands fetch, in what order: those of the parts that they consist of, one after another.
 
 ghost use Rattle.std.specs.Prelude.{◌≡◌, ◌+◌, ◌<◌, None, IfOk, false, length};
-ghost use Rattle.page_source.specs.Faults.{HasCause};
+ghost use Rattle.page_source.specs.Faults.{HasCause, AsksOne};
 ghost use Rattle.tree_walk.specs.Room.{HasRoom};
 
 use super::command::{CHECK, Command, DUMP};
@@ -31,8 +31,11 @@ impl PageSource for Untold {
 
     ghost faults = { λ file. file.pages.file.calls.faults };
 
+    ghost fetches = { λ file. file.pages.file.calls.fetches };
+
     fn pages(&mut self) -> Result<u32, Failed>
         ensures cause { HasCause self.old.pages.file.calls.faults self.new.pages.file.calls.faults result }
+        ensures asked { self.new.pages.file.calls.fetches ≡ self.old.pages.file.calls.fetches }
     {
         self.pages.pages()
     }
@@ -45,6 +48,7 @@ impl PageSource for Untold {
     ) -> Result<(), Failed>
         ensures step { steps.new ≡ steps.old + 1 }
         ensures cause { HasCause self.old.pages.file.calls.faults self.new.pages.file.calls.faults result }
+        ensures asked { AsksOne self.old.pages.file.calls.fetches self.new.pages.file.calls.fetches }
     {
         self.pages.fetch(n, page, steps)
     }

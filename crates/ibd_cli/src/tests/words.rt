@@ -23,7 +23,7 @@ const SCHEMAS: [(&str, &str); 3] = [
 
 #[test]
 fn serves_no_other_words(rt: HostRuntime) -> Result<(), Fail> {
-    let commands: [(&[&str], &str); 17] = [
+    let commands: [(&[&str], &str); 19] = [
         (&[], "1||usage\n"),
         (&["dump"], "1||usage\n"),
         (&["dump", "s"], "1||usage\n"),
@@ -33,6 +33,8 @@ fn serves_no_other_words(rt: HostRuntime) -> Result<(), Fail> {
         (&["check", "s", "f", "g"], "1||usage\n"),
         (&["cheque", "s", "f"], "1||usage\n"),
         (&["build", "s", "r"], "1||usage\n"),
+        (&["get", "s", "f"], "1||usage\n"),
+        (&["get", "s", "f", "1", "2"], "1||usage\n"),
         (&["sample"], "1||usage\n"),
         (&["sample", "07"], "1||usage\n"),
         (&["sample", "200001"], "1||usage\n"),

@@ -3,7 +3,7 @@ use Rattle.ibd_cli.proofs.dump.dump_file.Goals as goal
 
 pub returns-in-Err : goal.returns-in-Err
 returns-in-Err g c =
-    rw c.from.ensures
-    (dump_stopped c.checks_are_validity.ensures g.F.PageSource g.O.ByteSink c.args.file.now c.dump.new.source c.args.table.now c.args.out.now
-    c.dump.new.sink c.args.steps.now c.dump.new.steps c.in-Err.stop c.in-Err.ensures.told c.in-Err.ensures.over
-    c.in-Err.ensures.steps)
+    λ key. rw c.from.ensures
+    (dump_stopped c.checks_are_validity.ensures key g.F.PageSource g.O.ByteSink c.args.file.now c.dump.new.source
+    c.args.table.now c.args.out.now c.dump.new.sink c.args.steps.now c.dump.new.steps c.in-Err.stop
+    c.in-Err.ensures.told c.in-Err.ensures.over c.in-Err.ensures.steps c.in-Err.ensures.fetches)

@@ -11,10 +11,14 @@ returns-clause-unbuilt g c = (
       elim c.match-form.branch [
         | in-None w ↦ absurd (usage_is_built (sym w.status-is ∙ unbuilt))
         | in-Some-Table w ↦ absurd (w.serve-status.ensures.built (sym w.status-is ∙ unbuilt))
-        | in-Some-Build w ↦
-            ((_, w.in-Some-Build.ensures), (λ task is. never_build _ _ task w.in-Some-Build.field-0-is w.in-Some-Build.ensures is))
-        | in-Some-Sample w ↦
-            ((_, w.in-Some-Sample.ensures), (λ task is. never_sample _ _ _ task w.in-Some-Sample.field-0-is w.in-Some-Sample.ensures is))
+        | in-Some-Build w ↦ (
+          (_, w.in-Some-Build.ensures),
+          (λ task is. never_build _ _ task w.in-Some-Build.field-0-is w.in-Some-Build.ensures is),
+        )
+        | in-Some-Sample w ↦ (
+          (_, w.in-Some-Sample.ensures),
+          (λ task is. never_sample _ _ _ task w.in-Some-Sample.field-0-is w.in-Some-Sample.ensures is),
+        )
       ],
   λ form.
       elim c.match-form.branch [
@@ -67,7 +71,9 @@ returns-clause-serves g c = λ task is_task.
       | in-None w ↦ absurd (w.in-None.ensures (Table task) is_task)
       | in-Some-Table w ↦
           let e = same_task _ _ _ task w.in-Some-Table.field-0-is w.in-Some-Table.ensures is_task in
-          rw (w.status-is, w.file-is, w.schema-is, w.out-is, w.steps-is) (rw e at w.serve-status.ensures.serves)
+          rw (w.status-is, w.file-is, w.schema-is, w.out-is, w.steps-is)
+          (rw (e, w.key.ensures) at w.serve-status.ensures.serves)
       | in-Some-Build w ↦ absurd (never_build _ _ task w.in-Some-Build.field-0-is w.in-Some-Build.ensures is_task)
-      | in-Some-Sample w ↦ absurd (never_sample _ _ _ task w.in-Some-Sample.field-0-is w.in-Some-Sample.ensures is_task)
+      | in-Some-Sample w ↦
+          absurd (never_sample _ _ _ task w.in-Some-Sample.field-0-is w.in-Some-Sample.ensures is_task)
     ]

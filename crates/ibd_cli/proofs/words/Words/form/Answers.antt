@@ -12,4 +12,12 @@ returns-then-is_command-2 c =
 
 pub returns-then-is_command-3 : goal.returns-then-is_command-3
 returns-then-is_command-3 c =
-    let shape = c.if-is_command-3.ensures.0 refl in four_words c.args.self.now _ shape.0 shape.1
+    let shape = c.if-is_command-3.ensures.0 refl in three_words c.args.self.now _ shape.0 shape.1
+
+pub returns-then-is_command-4 : goal.returns-then-is_command-4
+returns-then-is_command-4 c =
+    let shape = c.if-is_command-4.ensures.0 refl in four_words c.args.self.now _ shape.0 shape.1
+
+pub returns-then-is_command-5 : goal.returns-then-is_command-5
+returns-then-is_command-5 c =
+    let shape = c.if-is_command-5.ensures.0 refl in four_words c.args.self.now _ shape.0 shape.1

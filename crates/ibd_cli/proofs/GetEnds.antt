@@ -1,0 +1,136 @@
+-- How a look-up ends.
+use Rattle.std.proofs.Common.{◌≡◌, ◌⊎◌, ℕ, List, Option, Result, Ok, Err, refl, ap, inl, inr}
+use Rattle.page_source.specs.declared.objects.PageSource.{Ghosts as FileOf}
+use Rattle.page_source.specs.declared.objects.ByteSink.{Ghosts as SinkOf}
+use Rattle.page_source.specs.Calls.{OfFile}
+use Rattle.page_source.proofs.Told.{told1}
+use Rattle.schema_text.specs.TableDef.{TableDef}
+use Rattle.table_check.specs.First.{TakesSteps, AsksAtMost}
+use Rattle.key_lookup.specs.declared.stop.GetStop.{GetStop}
+use Rattle.key_lookup.specs.declared.stop.GetStop.TheVariants.{Refused, Absent, Broken, Source, Sink, Memory}
+use Rattle.key_lookup.specs.KeyOfText.{IsNoKey}
+use Rattle.key_lookup.specs.Get.{Gets, GetsOver, TouchesNothing, get_steps}
+use Rattle.ibd_cli.specs.declared.status.Status.TheVariants as statuses
+use Rattle.ibd_cli.specs.declared.words.Task.TheVariants.{Get}
+use Rattle.ibd_cli.specs.Run.{ComesBefore, EndsAs}
+use Rattle.ibd_cli.specs.Answers.{status_of_get, Ends, IsOfFile, ServesFile}
+
+done_ends : (key file : List ℕ) (table : TableDef) (done : Unit {0}) (old new : Option (List ℕ))
+    → Gets file table key (Ok done) old new → Ends Get key file table statuses.Done old new
+done_ends key file table done old new (sought, spells, (line, found, grows)) =
+    (line, record { sound = (sought, spells, found.good); valid = tt; written = (sought, spells, found) }, grows)
+
+stop_ends : (key file : List ℕ) (table : TableDef) (stop : GetStop) (old new : Option (List ℕ))
+    → Gets file table key (Err stop) old new → Ends Get key file table (status_of_get stop) old new
+stop_ends key file table Refused old new told = told
+stop_ends key file table Absent old new (sought, spells, told) = ((sought, spells, told.0), told.1)
+stop_ends key file table (Broken fault) old new (sought, spells, told) = ((sought, spells, told.0), told.1)
+stop_ends key file table Source old new told = told
+stop_ends key file table Sink old new (sought, spells, (line, found, grows)) =
+    (line, record { sound = (sought, spells, found.good); valid = tt; written = (sought, spells, found) }, grows)
+stop_ends key file table Memory old new told = told
+
+stop_of_file : (stop : GetStop) → IsOfFile (status_of_get stop)
+stop_of_file Refused = tt
+stop_of_file Absent = tt
+stop_of_file (Broken fault) = tt
+stop_of_file Source = tt
+stop_of_file Sink = tt
+stop_of_file Memory = tt
+
+is_refused : (stop : GetStop) → status_of_get stop ≡ statuses.KeyRefused → stop ≡ Refused
+is_refused Refused is = refl
+is_refused Absent is = absurd (cc)
+is_refused (Broken fault) is = absurd (cc)
+is_refused Source is = absurd (cc)
+is_refused Sink is = absurd (cc)
+is_refused Memory is = absurd (cc)
+
+is_source : (stop : GetStop) → status_of_get stop ≡ statuses.SourceFault → stop ≡ Source
+is_source Refused is = absurd (cc)
+is_source Absent is = absurd (cc)
+is_source (Broken fault) is = absurd (cc)
+is_source Source is = refl
+is_source Sink is = absurd (cc)
+is_source Memory is = absurd (cc)
+
+is_sink : (stop : GetStop) → status_of_get stop ≡ statuses.SinkFault → stop ≡ Sink
+is_sink Refused is = absurd (cc)
+is_sink Absent is = absurd (cc)
+is_sink (Broken fault) is = absurd (cc)
+is_sink Source is = absurd (cc)
+is_sink Sink is = refl
+is_sink Memory is = absurd (cc)
+
+-- where a text is no key's, the refusal ends it
+abbrev IsUnkeyedEnd : Result (Unit {0}) GetStop → Type 0
+IsUnkeyedEnd result = (result ≡ Err Refused) ⊎ (result ≡ Err Memory)
+
+done_unkeyed : (done : Unit {0}) → IsUnkeyedEnd (Ok done) → ⊥
+done_unkeyed done (inl is) = cc
+done_unkeyed done (inr is) = cc
+
+stop_unkeyed : (stop : GetStop) → IsUnkeyedEnd (Err stop) → EndsAs statuses.KeyRefused (status_of_get stop)
+stop_unkeyed Refused ends = refl
+stop_unkeyed Absent (inl is) = absurd (cc)
+stop_unkeyed Absent (inr is) = absurd (cc)
+stop_unkeyed (Broken fault) (inl is) = absurd (cc)
+stop_unkeyed (Broken fault) (inr is) = absurd (cc)
+stop_unkeyed Source ends = tt
+stop_unkeyed Sink ends = tt
+stop_unkeyed Memory ends = tt
+
+-- what the three contracts of a look-up say of one
+pub record Got {F O : Type 0} (f : FileOf F) (o : SinkOf O) (key : List ℕ) (file file_now : F) (table : TableDef)
+    (out out_now : O) (steps steps_now : ℕ) (result : Result (Unit {0}) GetStop) : Type 0 where
+  pub told : OfFile f file (λ content. Gets content table key result (o.written out) (o.written out_now))
+  pub refused : result ≡ Err Refused → IsNoKey table key
+  pub first : IsNoKey table key → TouchesNothing file file_now out out_now steps steps_now result
+  pub over : GetsOver f o file file_now out out_now steps steps_now result
+  pub cost : TakesSteps f file get_steps steps steps_now
+  pub fetches : AsksAtMost f file file_now get_steps
+
+module _ {F O : Type 0} (f : FileOf F) (o : SinkOf O) (key : List ℕ) (file file_now : F) (table : TableDef)
+    (out out_now : O) (steps steps_now : ℕ) where
+  pub get_done : (done : Unit {0}) → Got f o key file file_now table out out_now steps steps_now (Ok done)
+      → ServesFile f o Get key file file_now table out out_now steps steps_now statuses.Done
+  get_done done got = record {
+    ends = told1 (f.content file)
+        (λ content gets. done_ends key content table done (o.written out) (o.written out_now) gets) got.told;
+    of_file = tt;
+    unkeyed = λ is. absurd (cc);
+    unsought = λ none. absurd (done_unkeyed done (got.first none).ends);
+    unwritten = λ before. absurd before;
+    source = λ is. absurd (cc);
+    sink = λ is. absurd (cc);
+    content = got.over.same;
+    cost = got.cost;
+    fetches = got.fetches;
+  }
+
+  -- nothing was written
+  unwritten_at : (stop : GetStop) → Got f o key file file_now table out out_now steps steps_now (Err stop)
+      → ComesBefore Get (status_of_get stop) → out_now ≡ out
+  unwritten_at Refused got before = (got.first (got.refused refl)).out
+  unwritten_at Absent got before = got.over.absent refl
+  unwritten_at (Broken fault) got before = absurd before
+  unwritten_at Source got before = absurd before
+  unwritten_at Sink got before = absurd before
+  unwritten_at Memory got before = got.over.unwritten refl
+
+  pub get_stopped : (stop : GetStop) → Got f o key file file_now table out out_now steps steps_now (Err stop)
+      → ServesFile f o Get key file file_now table out out_now steps steps_now (status_of_get stop)
+  get_stopped stop got = record {
+    ends = told1 (f.content file)
+        (λ content gets. stop_ends key content table stop (o.written out) (o.written out_now) gets) got.told;
+    of_file = stop_of_file stop;
+    unkeyed = λ is. got.refused (ap Err (is_refused stop is));
+    unsought = λ none.
+        let first = got.first none in (first.file, first.steps_same, stop_unkeyed stop first.ends);
+    unwritten = unwritten_at stop got;
+    source = λ is. got.over.source_rose (ap Err (is_source stop is));
+    sink = λ is. got.over.sink_rose (ap Err (is_sink stop is));
+    content = got.over.same;
+    cost = got.cost;
+    fetches = got.fetches;
+  }
