@@ -4,4 +4,5 @@ pub mod Causes
 pub mod Reading
 pub mod Outcome
 pub mod Run
+pub mod Build
 pub mod Answers
