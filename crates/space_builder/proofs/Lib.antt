@@ -14,6 +14,7 @@ pub mod SpacePuts
 pub mod TreeSpaces
 pub mod HeadPuts
 pub mod Builds
+pub mod Outcomes
 pub mod SpaceSteps
 pub mod SpaceEnds
 pub mod BigRows

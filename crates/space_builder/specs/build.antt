@@ -18,5 +18,6 @@ pub mod StoredRows
 pub mod Plan
 pub mod Room
 pub mod Build
+pub mod Outcome
 pub mod Space
 pub mod Laws

@@ -5,6 +5,7 @@ ghost use Rattle.page_source.specs.Objects.{IsFresh};
 ghost use Rattle.schema_text.specs.Grammar.{IsTable};
 ghost use Rattle.space_builder.specs.build.BadLine.{RootOrderChecks};
 ghost use Rattle.space_builder.specs.build.Build.{Builds, BuildsWithCause, ReadsText};
+ghost use Rattle.space_builder.specs.build.Outcome.{LeavesStore};
 
 use crate::built::{BuildStop, Built};
 use crate::plan::{plan_space, row_orders};
@@ -46,6 +47,9 @@ pub fn build<R: ByteSource, T: PageStore, L: Ledger>(
     ensures read { ReadsText R.left rows.old rows.new result }
     ensures cause { BuildsWithCause (R.faults rows.old) (R.faults rows.new) (T.faults store.old) (T.faults store.new)
         result }
+
+    // Before the last line is read and the layout fits, the store isn't called.
+    ensures untouched { LeavesStore result → store.new ≡ store.old }
 
     // No page is fetched.
     ensures steps { steps.new ≡ steps.old }

@@ -9,6 +9,7 @@ ghost use Rattle.space_builder.specs.layout.ValuePage.{PagesAreOfChains};
 ghost use Rattle.space_builder.specs.build.StoredRows.{PicksEntries, SamePagesGiveRecords};
 ghost use Rattle.space_builder.specs.build.StoredRows.{StoredRowsGiveEntries};
 ghost use Rattle.space_builder.specs.build.Laws.{GoodTextsCanBuild, GoodTextsBuildValid, GoodTextsAreOfRows};
+ghost use Rattle.space_builder.specs.build.Outcome.{RootsHaveOneAnswer, BuildHasOneOutcome};
 
 use offpage_chain::laws::part_pages_are_read;
 use page_packer::laws::{a_page_has_its_numbers, a_page_holds_its_entries, sealing_keeps_the_body};
@@ -16,6 +17,7 @@ use row_layout::laws::{
     entries_are_alike, entries_can_divide, entries_differ, fitted_rows_are_rows,
     held_rows_are_rows, held_values_are_sound, nothing_is_left_over,
 };
+use row_text::laws::lines_are_unique;
 use space_layout::laws::{
     file_holds_space, holds_its_segments, holds_sound_space, indexes_have_sizes,
     numbered_pages_are_held, numbers_differ, values_have_places,
@@ -115,6 +117,14 @@ pub fn good_texts_build_a_valid_tablespace()
 pub fn good_texts_are_of_rows()
     ensures { GoodTextsAreOfRows }
 {}
+
+/// A table and a text have one outcome at the most.
+pub fn a_build_has_one_outcome()
+    ensures roots { RootsHaveOneAnswer }
+    ensures outcome { BuildHasOneOutcome }
+{
+    lines_are_unique();
+}
 
 /// The packed entries of a page of a tree, at its spot, are that page of the layout.
 pub fn pages_are_packed()

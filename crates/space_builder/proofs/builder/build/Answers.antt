@@ -3,6 +3,7 @@ use Rattle.std.proofs.lemmas.Result.{err_from_is_err_and}
 use Rattle.space_builder.specs.build.Plan.{AreOrders}
 use Rattle.space_builder.proofs.Builds.{fresh_lacks, read_failed, are_stored, can_build, no_plan, not_put, all_put}
 use Rattle.space_builder.proofs.Builds.{put_cause, no_cause, stored_count}
+use Rattle.space_builder.proofs.Outcomes.{put_calls}
 use Rattle.space_builder.proofs.builder.build.Goals as goal
 
 pub returns-in_err-stored-clause-built : goal.returns-in_err-stored-clause-built
@@ -175,3 +176,11 @@ returns-clause-cause g c =
           (are_stored g.R.ByteSource c.args.schema.now c.args.rows.now c.read_rows.new.text c.in_ok-stored.stored c.in_default.ensures.table c.in_default.ensures.roots
           c.in_ok-stored.ensures.finds);
     })
+
+pub returns-in_err-put-clause-untouched : goal.returns-in_err-put-clause-untouched
+returns-in_err-put-clause-untouched g c =
+    let r = err_from_is_err_and c.from_residual-in_err-put.result c.from_residual-in_err-put.ensures.1 in
+    rw (r.1, r.2) (λ leaves. absurd (put_calls c.in_err-put.field-0.0 leaves))
+
+pub returns-clause-untouched : goal.returns-clause-untouched
+returns-clause-untouched g c = λ leaves. absurd leaves
