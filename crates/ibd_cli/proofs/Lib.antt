@@ -8,3 +8,5 @@ pub mod CrossEnds
 pub mod GetEnds
 pub mod Outcomes
 pub mod Serving
+pub mod BuildOutcomes
+pub mod BuildEnds

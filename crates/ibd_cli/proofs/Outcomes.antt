@@ -17,8 +17,8 @@ use Rattle.key_lookup.specs.GetFirst.{GetFirst}
 use Rattle.key_lookup.specs.Record.{found_row}
 use Rattle.key_lookup.specs.Laws.{GetFirstHasOneAnswer, SpellsOneKey}
 use Rattle.ibd_cli.specs.declared.status.Status.{Status}
-use Rattle.ibd_cli.specs.declared.status.Status.TheVariants.{Done, Usage, SchemaRefused, Broken}
-use Rattle.ibd_cli.specs.declared.status.Status.TheVariants.{SourceFault, SinkFault, Memory, Unbuilt}
+use Rattle.ibd_cli.specs.declared.status.Status.TheVariants.{Done, SchemaRefused, Broken}
+use Rattle.ibd_cli.specs.declared.status.Status.TheVariants.{SourceFault, SinkFault, Memory}
 use Rattle.ibd_cli.specs.declared.status.Status.TheVariants.{CrossMissing, CrossExtra, KeyRefused, Absent}
 use Rattle.ibd_cli.specs.declared.words.Task.{Task}
 use Rattle.ibd_cli.specs.declared.words.Task.TheVariants.{Cross, Get}
@@ -68,15 +68,10 @@ pub refused_gives : (task : Task) (key : List ℕ) (told : Told) (one : HasOneAn
     → Gives task key told given output → EndsAs given (SchemaRefused line why)
 refused_gives task key told one line why refused Done output gives =
     absurd (no_table told.schema one line why gives.0 refused gives.1)
-refused_gives task key told one line why refused Usage output gives = absurd gives
 refused_gives task key told one line why refused (SchemaRefused other reason) output gives =
     one_refusal told.schema one line other why reason refused gives.0
 refused_gives task key told one line why refused (Broken fault) output gives =
     absurd (no_table told.schema one line why gives.0.0 refused gives.0.1)
-refused_gives task key told one line why refused SourceFault output gives = absurd gives
-refused_gives task key told one line why refused SinkFault output gives = absurd gives
-refused_gives task key told one line why refused Memory output gives = absurd gives
-refused_gives task key told one line why refused Unbuilt output gives = absurd gives
 refused_gives task key told one line why refused KeyRefused output gives =
     absurd (no_table told.schema one line why gives.0.0 refused gives.0.1)
 refused_gives task key told one line why refused Absent output gives =
@@ -85,6 +80,7 @@ refused_gives task key told one line why refused (CrossMissing index row) output
     absurd (no_table told.schema one line why gives.0.0 refused gives.0.1)
 refused_gives task key told one line why refused (CrossExtra index page) output gives =
     absurd (no_table told.schema one line why gives.0.0 refused gives.0.1)
+refused_gives task key told one line why refused _ output gives = absurd gives
 
 -- a file has one first broken check, or none; so has the way to a row, and a text spells one key
 pub record AnswersOnce : Type 0 where
@@ -190,15 +186,10 @@ file_gives : (task : Task) (key : List ℕ) (told : Told) (one : HasOneAnswer to
 file_gives task key told one table is Done output gives =
     of_table told one table (λ t. FirstOf task key told.file t None × HasRowOf task key told.file t) is
     (gives.0, gives.1, (gives.2.sound, done_row task key told.file gives.0 output gives.2))
-file_gives task key told one table is Usage output gives = absurd gives
 file_gives task key told one table is (SchemaRefused line why) output gives =
     absurd (no_table told.schema one line why table gives.0 is)
 file_gives task key told one table is (Broken fault) output gives =
     of_table told one table (λ t. FirstOf task key told.file t (Some fault)) is gives.0
-file_gives task key told one table is SourceFault output gives = absurd gives
-file_gives task key told one table is SinkFault output gives = absurd gives
-file_gives task key told one table is Memory output gives = absurd gives
-file_gives task key told one table is Unbuilt output gives = absurd gives
 file_gives task key told one table is KeyRefused output gives =
     of_table told one table (IsNoKeyOf task key) is gives.0
 file_gives task key told one table is Absent output gives =
@@ -207,6 +198,7 @@ file_gives task key told one table is (CrossMissing index row) output gives =
     of_table told one table (FindsDifference task told.file (Missing index row)) is gives.0
 file_gives task key told one table is (CrossExtra index page) output gives =
     of_table told one table (FindsDifference task told.file (Extra index page)) is gives.0
+file_gives task key told one table is _ output gives = absurd gives
 
 some_fault : (f g : Fault) → Some f ≡ Some g → f ≡ g
 some_fault f g e = cc
@@ -216,20 +208,15 @@ module _ (once : AnswersOnce) (task : Task) (key file : List ℕ) (table : Table
   sound_ends : FirstOf task key file table None → HasRowOf task key file table → (given : Status)
       → FileGives task key file table given → EndsAs given Done
   sound_ends sound row Done gives = refl
-  sound_ends sound row Usage gives = absurd gives
-  sound_ends sound row (SchemaRefused line why) gives = absurd gives
   sound_ends sound row (Broken fault) gives =
       some_is_not_none fault (first_once once task key file table is (Some fault) None gives sound)
-  sound_ends sound row SourceFault gives = absurd gives
-  sound_ends sound row SinkFault gives = absurd gives
-  sound_ends sound row Memory gives = absurd gives
-  sound_ends sound row Unbuilt gives = absurd gives
   sound_ends sound row KeyRefused gives = absurd (no_key_first task key file table None gives sound)
   sound_ends sound row Absent gives = absurd (absent_row once task key file table is gives row)
   sound_ends sound row (CrossMissing index place) gives =
       absurd (found_none once task key file table (Missing index place) is gives row)
   sound_ends sound row (CrossExtra index page) gives =
       absurd (found_none once task key file table (Extra index page) is gives row)
+  sound_ends sound row _ gives = absurd gives
 
   broken_found : {A : Type 0} (fault : Fault) (difference : Difference) → FirstOf task key file table (Some fault)
       → FindsDifference task file difference table → A
@@ -241,20 +228,15 @@ module _ (once : AnswersOnce) (task : Task) (key file : List ℕ) (table : Table
       → FileGives task key file table given → EndsAs given (Broken fault)
   broken_ends fault first Done gives =
       some_is_not_none fault (first_once once task key file table is (Some fault) None first gives.0)
-  broken_ends fault first Usage gives = absurd gives
-  broken_ends fault first (SchemaRefused line why) gives = absurd gives
   broken_ends fault first (Broken other) gives =
       ap Broken (some_fault fault other (first_once once task key file table is (Some fault) (Some other) first gives))
-  broken_ends fault first SourceFault gives = absurd gives
-  broken_ends fault first SinkFault gives = absurd gives
-  broken_ends fault first Memory gives = absurd gives
-  broken_ends fault first Unbuilt gives = absurd gives
   broken_ends fault first KeyRefused gives = absurd (no_key_first task key file table (Some fault) gives first)
   broken_ends fault first Absent gives =
       some_is_not_none fault
       (first_once once task key file table is (Some fault) None first (absent_first task key file table gives))
   broken_ends fault first (CrossMissing index row) gives = broken_found fault (Missing index row) first gives
   broken_ends fault first (CrossExtra index page) gives = broken_found fault (Extra index page) first gives
+  broken_ends fault first _ gives = absurd gives
 
   unkeyed_found : (difference : Difference) → IsNoKeyOf task key table → FindsDifference task file difference table → ⊥
   unkeyed_found difference none finds =
@@ -263,31 +245,20 @@ module _ (once : AnswersOnce) (task : Task) (key file : List ℕ) (table : Table
   unkeyed_ends : IsNoKeyOf task key table → (given : Status) → FileGives task key file table given
       → EndsAs given KeyRefused
   unkeyed_ends none Done gives = absurd (no_key_first task key file table None none gives.0)
-  unkeyed_ends none Usage gives = absurd gives
-  unkeyed_ends none (SchemaRefused line why) gives = absurd gives
   unkeyed_ends none (Broken fault) gives = absurd (no_key_first task key file table (Some fault) none gives)
-  unkeyed_ends none SourceFault gives = absurd gives
-  unkeyed_ends none SinkFault gives = absurd gives
-  unkeyed_ends none Memory gives = absurd gives
-  unkeyed_ends none Unbuilt gives = absurd gives
   unkeyed_ends none KeyRefused gives = refl
   unkeyed_ends none (CrossMissing index row) gives = absurd (unkeyed_found (Missing index row) none gives)
   unkeyed_ends none (CrossExtra index page) gives = absurd (unkeyed_found (Extra index page) none gives)
   unkeyed_ends none Absent gives =
       absurd (no_key_first task key file table None none (absent_first task key file table gives))
+  unkeyed_ends none _ gives = absurd gives
 
   absent_ends : IsAbsentOf task key file table → (given : Status) → FileGives task key file table given
       → EndsAs given Absent
   absent_ends none Done gives = absurd (absent_row once task key file table is none gives.1)
-  absent_ends none Usage gives = absurd gives
-  absent_ends none (SchemaRefused line why) gives = absurd gives
   absent_ends none (Broken fault) gives =
       some_is_not_none fault
       (first_once once task key file table is (Some fault) None gives (absent_first task key file table none))
-  absent_ends none SourceFault gives = absurd gives
-  absent_ends none SinkFault gives = absurd gives
-  absent_ends none Memory gives = absurd gives
-  absent_ends none Unbuilt gives = absurd gives
   absent_ends none KeyRefused gives =
       absurd (no_key_first task key file table None gives (absent_first task key file table none))
   absent_ends none Absent gives = refl
@@ -295,40 +266,34 @@ module _ (once : AnswersOnce) (task : Task) (key file : List ℕ) (table : Table
       absurd (absent_found task key file table (Missing index row) none gives)
   absent_ends none (CrossExtra index page) gives =
       absurd (absent_found task key file table (Extra index page) none gives)
+  absent_ends none _ gives = absurd gives
 
   found_ends : (difference : Difference) → FindsDifference task file difference table → (given : Status)
       → FileGives task key file table given → difference_status difference ≡ given
   found_ends difference finds Done gives = absurd (found_none once task key file table difference is finds gives.1)
-  found_ends difference finds Usage gives = absurd gives
-  found_ends difference finds (SchemaRefused line why) gives = absurd gives
   found_ends difference finds (Broken fault) gives = broken_found fault difference gives finds
-  found_ends difference finds SourceFault gives = absurd gives
-  found_ends difference finds SinkFault gives = absurd gives
-  found_ends difference finds Memory gives = absurd gives
-  found_ends difference finds Unbuilt gives = absurd gives
   found_ends difference finds KeyRefused gives = absurd (unkeyed_found difference gives finds)
   found_ends difference finds Absent gives = absurd (absent_found task key file table difference gives finds)
   found_ends difference finds (CrossMissing index row) gives =
       ap difference_status (found_one once task file table difference (Missing index row) is finds gives)
   found_ends difference finds (CrossExtra index page) gives =
       ap difference_status (found_one once task file table difference (Extra index page) is finds gives)
+  found_ends difference finds _ gives = absurd gives
 
   -- and so is the status
   file_ends : (status : Status) (old new : Option (List ℕ)) → Ends task key file table status old new
       → (given : Status) → FileGives task key file table given → EndsAs given status
   file_ends Done old new ends given gives =
       sound_ends ends.1.sound (done_row task key file table ends.0 ends.1) given gives
-  file_ends Usage old new ends given gives = absurd ends
-  file_ends (SchemaRefused line why) old new ends given gives = absurd ends
   file_ends (Broken fault) old new ends given gives = broken_ends fault ends.0 given gives
   file_ends SourceFault old new ends given gives = tt
   file_ends SinkFault old new ends given gives = tt
   file_ends Memory old new ends given gives = tt
-  file_ends Unbuilt old new ends given gives = absurd ends
   file_ends KeyRefused old new ends given gives = unkeyed_ends ends.0 given gives
   file_ends Absent old new ends given gives = absent_ends ends.0 given gives
   file_ends (CrossMissing index row) old new ends given gives = found_ends (Missing index row) ends.0 given gives
   file_ends (CrossExtra index page) old new ends given gives = found_ends (Extra index page) ends.0 given gives
+  file_ends _ old new ends given gives = absurd ends
 
 pub ends_as : (once : AnswersOnce) (task : Task) (key : List ℕ) (told : Told) (one : HasOneAnswer told.schema)
     (table : TableDef) → IsTextOf table told.schema → (status : Status) (old new : Option (List ℕ))

@@ -23,14 +23,14 @@ use Rattle.ibd_cli.specs.declared.words.Task.{Task}
 use Rattle.ibd_cli.specs.declared.words.Task.TheVariants.{Check, Dump, Cross, Get}
 use Rattle.ibd_cli.specs.Reading.{IsReadUpTo}
 use Rattle.ibd_cli.specs.Outcome.{IsRefusedText, FirstOf, IsDone, IsNoKeyOf, Told, Gives}
-use Rattle.ibd_cli.specs.Run.{EndsAs, IsNoKeyIn, ReadsInputs, LeavesPart, LeavesUnread, Leaves, Serves}
+use Rattle.ibd_cli.specs.Run.{EndsAs, IsNoKeyIn, ReadsInputs, LeavesPart, LeavesUnread, Leaves, IsOfTable, Serves}
 use Rattle.ibd_cli.specs.Answers.{status_of_schema, ReadsSchema, HasPart, EndsUnread, Ends, IsOfFile, ServesFile}
 use Rattle.ibd_cli.proofs.OneAnswer.{HasOneAnswer}
 use Rattle.ibd_cli.proofs.Outcomes.{no_table, one_refusal, refused_gives, AnswersOnce, same_key, of_table}
 use Rattle.ibd_cli.proofs.Outcomes.{ends_as, sound_of}
 
 -- what holds of a told content holds where it is told
-at_told : {X : Type 0} (P : X → Type 0) (o : Option X) (x : X) → o ≡ Some x → IfSome o P → P x
+pub at_told : {X : Type 0} (P : X → Type 0) (o : Option X) (x : X) → o ≡ Some x → IfSome o P → P x
 at_told {X = X} P o x is holds = subst (λ (p : Option X). IfSome p P) is holds
 
 -- the schema text was refused, or couldn't be read
@@ -39,7 +39,7 @@ pub record Stopped {Q : Type 0} (q : SourceOf Q) (schema schema_now : Q) (stop :
   pub read : IfSome (q.left schema) (λ text. IsReadUpTo 65537 text (q.left schema_now))
   pub cause : stop ≡ Source → Rose (q.faults schema) (q.faults schema_now)
 
-refused_as : (text : List ℕ) (left : Option (List ℕ)) (stop : SchemaStop) (line : ℕ) (why : SchemaWhy)
+pub refused_as : (text : List ℕ) (left : Option (List ℕ)) (stop : SchemaStop) (line : ℕ) (why : SchemaWhy)
     → status_of_schema stop ≡ statuses.SchemaRefused line why → ReadsSchema text left (Err stop)
     → IsRefusedText text line why
 refused_as text left (Refused l w) line why is reads =
@@ -48,7 +48,7 @@ refused_as text left (Refused l w) line why is reads =
 refused_as text left Source line why is reads = absurd (cc)
 refused_as text left Memory line why is reads = absurd (cc)
 
-stopped_alone : (text : List ℕ) (one : HasOneAnswer text) (left : Option (List ℕ)) (stop : SchemaStop)
+pub stopped_alone : (text : List ℕ) (one : HasOneAnswer text) (left : Option (List ℕ)) (stop : SchemaStop)
     → ReadsSchema text left (Err stop) → (line : ℕ) (why : SchemaWhy) → IsRefusedText text line why
     → EndsAs (statuses.SchemaRefused line why) (status_of_schema stop)
 stopped_alone text one left (Refused l w) reads line why refused = one_refusal text one l line w why reads refused
@@ -76,7 +76,7 @@ never_broken (Refused l w) fault is = cc
 never_broken Source fault is = cc
 never_broken Memory fault is = cc
 
-never_sink : (stop : SchemaStop) → status_of_schema stop ≡ statuses.SinkFault → ⊥
+pub never_sink : (stop : SchemaStop) → status_of_schema stop ≡ statuses.SinkFault → ⊥
 never_sink (Refused l w) is = cc
 never_sink Source is = cc
 never_sink Memory is = cc
@@ -86,17 +86,17 @@ never_keyed (Refused l w) is = cc
 never_keyed Source is = cc
 never_keyed Memory is = cc
 
-pub never_usage : (stop : SchemaStop) → status_of_schema stop ≡ statuses.Usage → ⊥
-never_usage (Refused l w) is = cc
-never_usage Source is = cc
-never_usage Memory is = cc
+stopped_of_table : (stop : SchemaStop) → IsOfTable (status_of_schema stop)
+stopped_of_table (Refused l w) = tt
+stopped_of_table Source = tt
+stopped_of_table Memory = tt
 
-pub never_unbuilt : (stop : SchemaStop) → status_of_schema stop ≡ statuses.Unbuilt → ⊥
-never_unbuilt (Refused l w) is = cc
-never_unbuilt Source is = cc
-never_unbuilt Memory is = cc
+-- what ends a task that has read its schema ends a command on a table
+file_of_table : (status : Status) → IsOfFile status → IsOfTable status
+file_of_table (statuses.SchemaRefused l w) is = tt
+file_of_table _ is = is
 
-is_source : (stop : SchemaStop) → status_of_schema stop ≡ statuses.SourceFault → stop ≡ Source
+pub is_source : (stop : SchemaStop) → status_of_schema stop ≡ statuses.SourceFault → stop ≡ Source
 is_source (Refused l w) is = absurd (cc)
 is_source Source is = refl
 is_source Memory is = absurd (cc)
@@ -131,7 +131,7 @@ inputs_stopped all f q task key file schema schema_now steps stop stopped =
     }
 
 -- nothing is a part of each text
-no_part : (old : Option (List ℕ)) (text : List ℕ) → GrowsByPart old old text
+pub no_part : (old : Option (List ℕ)) (text : List ℕ) → GrowsByPart old old text
 no_part None text = refl
 no_part (Some old) text = (0, omega arith, ap Some (sym (append-nil old)))
 
@@ -157,6 +157,7 @@ pub serves_stopped : {F Q O : Type 0} (all : (text : List ℕ) → HasOneAnswer 
     → Serves f q o task key file file schema schema_now out out steps steps (status_of_schema stop)
 serves_stopped all f q o task key file schema schema_now out steps stop stopped =
     record {
+      of_table = stopped_of_table stop;
       inputs = inputs_stopped all f q task key file schema schema_now steps stop stopped;
       leaves = λ told tells.
           leaves_stopped task key told stop (o.written out) (q.left schema_now)
@@ -177,7 +178,7 @@ broken_as task key file table status old new fault is ends =
     (subst (λ (s : Status). Ends task key file table s old new) is ends).0
 
 -- what holds of some table of a text holds of this one
-same_table : (text : List ℕ) (one : HasOneAnswer text) (table : TableDef) → IsTextOf table text
+pub same_table : (text : List ℕ) (one : HasOneAnswer text) (table : TableDef) → IsTextOf table text
     → (P : TableDef → Type 0) → (t : TableDef) × IsTextOf t text × P t → P table
 same_table text one table is P of =
     of_table (record { schema = text; file = [] }) one table P is of
@@ -269,8 +270,6 @@ leaves_served : (once : AnswersOnce) (task : Task) (key : List ℕ) (told : Told
     → left ≡ Some [] → Ends task key told.file table status old new → Leaves task key told status old new left
 leaves_served once task key told one table is statuses.Done old new left end ends =
     ((ends.0, (table, is, ends.1), ends.2), end)
-leaves_served once task key told one table is statuses.Usage old new left end ends = absurd ends
-leaves_served once task key told one table is (statuses.SchemaRefused line why) old new left end ends = absurd ends
 leaves_served once task key told one table is (statuses.Broken fault) old new left end ends =
     (((table, is, ends.0), refl), ends.1)
 leaves_served once task key told one table is statuses.SourceFault old new left end ends =
@@ -278,7 +277,6 @@ leaves_served once task key told one table is statuses.SourceFault old new left 
 leaves_served once task key told one table is statuses.SinkFault old new left end ends =
     (ends.0, (table, is, ends.1), ends.2)
 leaves_served once task key told one table is statuses.Memory old new left end ends = ends
-leaves_served once task key told one table is statuses.Unbuilt old new left end ends = absurd ends
 leaves_served once task key told one table is statuses.KeyRefused old new left end ends =
     (((table, is, ends.0), refl), ends.1)
 leaves_served once task key told one table is statuses.Absent old new left end ends =
@@ -287,6 +285,7 @@ leaves_served once task key told one table is (statuses.CrossMissing index row) 
     (((table, is, ends.0), refl), ends.1)
 leaves_served once task key told one table is (statuses.CrossExtra index page) old new left end ends =
     (((table, is, ends.0), refl), ends.1)
+leaves_served once task key told one table is _ old new left end ends = absurd ends
 
 -- the file ended it
 pub serves_file : {F Q O : Type 0} (all : (text : List ℕ) → HasOneAnswer text) (once : AnswersOnce) (f : FileOf F)
@@ -297,6 +296,7 @@ pub serves_file : {F Q O : Type 0} (all : (text : List ℕ) → HasOneAnswer tex
 serves_file all once f q o task key file file_now schema schema_now out out_now steps steps_now table status has
     served =
     record {
+      of_table = file_of_table status served.of_file;
       inputs =
           inputs_served all once f q o task key file file_now schema schema_now out out_now steps steps_now table status
           has served;
@@ -308,11 +308,11 @@ serves_file all once f q o task key file file_now schema schema_now out out_now 
       sink = served.sink;
     }
 
-pub file_never_usage : (status : Status) → IsOfFile status → status ≡ statuses.Usage → ⊥
-file_never_usage status is same = subst IsOfFile same is
+pub never_usage : (status : Status) → IsOfTable status → status ≡ statuses.Usage → ⊥
+never_usage status is same = subst IsOfTable same is
 
-pub file_never_unbuilt : (status : Status) → IsOfFile status → status ≡ statuses.Unbuilt → ⊥
-file_never_unbuilt status is same = subst IsOfFile same is
+pub never_unbuilt : (status : Status) → IsOfTable status → status ≡ statuses.Unbuilt → ⊥
+never_unbuilt status is same = subst IsOfTable same is
 
 pub usage_is_built : statuses.Usage ≡ statuses.Unbuilt → ⊥
 usage_is_built same = cc

@@ -4,7 +4,7 @@ use Rattle.ibd_cli.specs.declared.words.Form.{Form}
 use Rattle.ibd_cli.specs.declared.words.Form.TheVariants.{Table, Build, Sample}
 use Rattle.ibd_cli.specs.declared.words.Task.{Task}
 use Rattle.ibd_cli.specs.declared.words.Task.TheVariants.{Check, Dump, Cross, Get}
-use Rattle.ibd_cli.specs.Forms.{IsForm, AsksNoTable}
+use Rattle.ibd_cli.specs.Forms.{IsForm, AsksNoTable, AsksNoBuild}
 
 pub two_words : (words : List (List ℕ)) (name last : List ℕ) → length words ≡ 2 → slice_get words 0 ≡ Some name
     → slice_get words 1 ≡ Some last → words ≡ name ∷ last ∷ []
@@ -95,3 +95,11 @@ never_sample words form n task is has asks =
 pub asks_table : (words : List (List ℕ)) (form : Form) (task : Task) → AsksNoTable words → form ≡ Table task
     → IsForm words form → ⊥
 asks_table words form task none same is = none task (subst (IsForm words) same is)
+
+pub asks_build : (words : List (List ℕ)) (form : Form) → AsksNoBuild words → form ≡ Build → IsForm words form → ⊥
+asks_build words form none same is = none (subst (IsForm words) same is)
+
+pub build_and_sample : (words : List (List ℕ)) (form : Form) (n : ℕ) → form ≡ Build → IsForm words form
+    → IsForm words (Sample n) → ⊥
+build_and_sample words form n same is sample =
+    let build = subst (IsForm words) same is in omega (arith, first_letters words _ _ _ _ _ _ build.3 sample.1)

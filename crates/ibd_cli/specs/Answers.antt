@@ -9,6 +9,7 @@ use Rattle.page_source.specs.Objects.{GrowsBy, GrowsByPart}
 use Rattle.page_source.specs.Calls.{OfFile}
 use Rattle.schema_text.specs.declared.errors.SchemaError.{SchemaError}
 use Rattle.schema_text.specs.declared.errors.SchemaError.TheVariants as refusals
+use Rattle.schema_text.specs.declared.errors.SchemaWhy.TheVariants as whys
 use Rattle.schema_text.specs.TableDef.{TableDef}
 use Rattle.schema_text.specs.Grammar.{IsTextOf}
 use Rattle.table_check.specs.First.{First, TakesSteps, AsksAtMost}
@@ -19,6 +20,8 @@ use Rattle.cross_index.specs.declared.crossed.CrossStop.TheVariants as crosses
 use Rattle.cross_index.specs.Differ.{Missing, Extra}
 use Rattle.key_lookup.specs.declared.stop.GetStop.{GetStop}
 use Rattle.key_lookup.specs.declared.stop.GetStop.TheVariants as gets
+use Rattle.space_builder.specs.declared.built.BuildStop.{BuildStop}
+use Rattle.space_builder.specs.declared.built.BuildStop.TheVariants as builds
 use Rattle.key_lookup.specs.Get.{IsLineFound}
 use Rattle.ibd_cli.specs.declared.schema_file.SchemaStop.{SchemaStop}
 use Rattle.ibd_cli.specs.declared.schema_file.SchemaStop.TheVariants.{Refused, Source, Memory}
@@ -28,7 +31,7 @@ use Rattle.ibd_cli.specs.declared.words.Task.{Task}
 use Rattle.ibd_cli.specs.declared.words.Task.TheVariants.{Check, Dump, Cross, Get}
 use Rattle.ibd_cli.specs.Outcome.{IsRefusedText, OfKey, FirstOf, IsDone, IsNoKeyOf, IsAbsentOf, task_steps}
 use Rattle.ibd_cli.specs.Outcome.{FindsDifference}
-use Rattle.ibd_cli.specs.Run.{ComesBefore, EndsAs}
+use Rattle.ibd_cli.specs.Run.{ComesBefore, EndsAs, IsOfTable}
 
 -- the stop that a refusal is
 abbrev pub stop_of_schema : SchemaError → SchemaStop
@@ -60,7 +63,7 @@ status_of_cross (crosses.Extra index page) = statuses.CrossExtra index page
 status_of_cross crosses.Source = statuses.SourceFault
 status_of_cross crosses.Memory = statuses.Memory
 
--- and of a look-up
+-- of a look-up
 abbrev pub status_of_get : GetStop → Status
 status_of_get gets.Refused = statuses.KeyRefused
 status_of_get gets.Absent = statuses.Absent
@@ -68,6 +71,15 @@ status_of_get (gets.Broken fault) = statuses.Broken fault
 status_of_get gets.Source = statuses.SourceFault
 status_of_get gets.Sink = statuses.SinkFault
 status_of_get gets.Memory = statuses.Memory
+
+-- and of a build
+abbrev pub status_of_build : BuildStop → Status
+status_of_build (builds.RootPlace line) = statuses.SchemaRefused line whys.Root
+status_of_build (builds.RowsRefused line why) = statuses.RowsRefused line why
+status_of_build builds.Full = statuses.Full
+status_of_build builds.Source = statuses.SourceFault
+status_of_build builds.Store = statuses.StoreFault
+status_of_build builds.Memory = statuses.Memory
 
 -- the text was read to its end and is that of the schema, or it is refused
 abbrev pub ReadsSchema : List ℕ → Option (List ℕ) → Result TableDef SchemaStop → Type 0
@@ -109,10 +121,8 @@ Ends task key file table _ old new = ⊥
 
 -- such a status ends a task that has read its schema
 abbrev pub IsOfFile : Status → Type 0
-IsOfFile statuses.Usage = ⊥
 IsOfFile (statuses.SchemaRefused line why) = ⊥
-IsOfFile statuses.Unbuilt = ⊥
-IsOfFile _ = ⊤
+IsOfFile status = IsOfTable status
 
 -- what a task does to the file and the output, and how it ends
 pub record ServesFile {F O : Type 0} (f : FileOf F) (o : SinkOf O) (task : Task) (key : List ℕ) (file file_now : F)

@@ -1,5 +1,5 @@
 -- What the command `build` answers, and what it leaves.
-use Rattle.std.specs.Prelude.{◌≡◌, ℕ, ◌<◌, ◌⊎◌, List, [], ◌++◌, length, codes, Option, Some, None, IfSome}
+use Rattle.std.specs.Prelude.{◌≡◌, ℕ, ◌<◌, ◌⊎◌, List, [], ◌++◌, length, codes, Option, Some, None, IfSome, Ok, Err}
 use Rattle.page_source.specs.declared.objects.ByteSource.{Ghosts as SourceOf}
 use Rattle.page_source.specs.declared.objects.ByteSink.{Ghosts as SinkOf}
 use Rattle.page_source.specs.declared.objects.PageStore.{Ghosts as StoreOf}
@@ -9,9 +9,11 @@ use Rattle.schema_text.specs.declared.errors.SchemaWhy.{SchemaWhy}
 use Rattle.schema_text.specs.declared.errors.SchemaWhy.TheVariants as whys
 use Rattle.schema_text.specs.TableDef.{TableDef}
 use Rattle.schema_text.specs.Grammar.{IsTextOf}
+use Rattle.space_builder.specs.declared.built.BuildStop.TheVariants as stops
 use Rattle.space_builder.specs.layout.Layout.{Rows, FitsSpace, layout_extents, layout_size}
 use Rattle.space_builder.specs.build.BadLine.{RootOrderChecks, RowsChecks}
 use Rattle.space_builder.specs.build.Build.{HoldsLayout, HoldsPart, LacksHead, OfRows}
+use Rattle.space_builder.specs.build.Outcome.{ComesTo}
 use Rattle.ibd_cli.specs.declared.status.Status.{Status}
 use Rattle.ibd_cli.specs.declared.status.Status.TheVariants.{Done, SchemaRefused, RowsRefused}
 use Rattle.ibd_cli.specs.declared.status.Status.TheVariants.{SourceFault, SinkFault, StoreFault, Memory, Full}
@@ -28,7 +30,7 @@ pub record Objects (Q R O T : Type 0) : Type 0 where
   pub target : T
 
 -- what these tell
-pub record Meanings (Q R O T : Type 0) : Type 0 where
+pub record Meanings (Q R O T : Type 0) : Type 1 where
   pub schema : SourceOf Q
   pub rows : SourceOf R
   pub out : SinkOf O
@@ -68,15 +70,15 @@ OfTableRows schema rows Fact = OfSchema schema (λ table. OfRows table rows (Fac
 -- how a build of these texts ends, and what it writes
 abbrev pub GivesBuilt : Texts → Status → List ℕ → Type 0
 GivesBuilt texts Done output =
-    OfTableRows (Some texts.schema) (Some texts.rows)
-    (λ table rows. FitsSpace table rows × (output ≡ built_line (layout_size table rows) (length rows)))
+    OfSchema (Some texts.schema)
+    (λ table. (rows : Rows) × ComesTo table texts.rows (Ok rows)
+    × (output ≡ built_line (layout_size table rows) (length rows)))
 GivesBuilt texts (SchemaRefused line why) output = IsRefusedForBuild texts.schema line why × (output ≡ [])
 GivesBuilt texts (RowsRefused line why) output =
-    OfSchema (Some texts.schema)
-    (λ table. RootOrderChecks table None × RowsChecks table texts.rows (Some (record { line = line; why = why })))
+    OfSchema (Some texts.schema) (λ table. ComesTo table texts.rows (Err (stops.RowsRefused line why)))
     × (output ≡ [])
 GivesBuilt texts Full output =
-    OfTableRows (Some texts.schema) (Some texts.rows) (λ table rows. 256 < layout_extents table rows) × (output ≡ [])
+    OfSchema (Some texts.schema) (λ table. ComesTo table texts.rows (Err stops.Full)) × (output ≡ [])
 GivesBuilt texts _ output = ⊥
 
 -- nothing is written

@@ -32,6 +32,14 @@ HasSomeForm words = (form : Form) × IsForm words form
 abbrev pub HasNoForm : List (List ℕ) → Type 0
 HasNoForm words = (form : Form) → ¬ (IsForm words form)
 
+-- they are no build
+abbrev pub AsksNoBuild : List (List ℕ) → Type 0
+AsksNoBuild words = ¬ (IsForm words Build)
+
+-- they ask for a sample
+abbrev pub AsksSample : List (List ℕ) → Type 0
+AsksSample words = (n : ℕ) × IsForm words (Sample n)
+
 -- they are no command on a table
 abbrev pub AsksNoTable : List (List ℕ) → Type 0
 AsksNoTable words = (task : Task) → ¬ (IsForm words (Table task))

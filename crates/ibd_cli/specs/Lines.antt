@@ -4,9 +4,11 @@ use Rattle.page_source.specs.declared.rule.Fault.{Fault}
 use Rattle.page_source.specs.Rules.{rule_number, rule_name}
 use Rattle.schema_text.specs.declared.errors.SchemaWhy.{SchemaWhy}
 use Rattle.schema_text.specs.declared.errors.SchemaWhy.TheVariants as whys
+use Rattle.space_builder.specs.declared.built.RowsWhy.{RowsWhy}
+use Rattle.space_builder.specs.declared.built.RowsWhy.TheVariants as rows_whys
 use Rattle.ibd_cli.specs.declared.status.Status.{Status}
-use Rattle.ibd_cli.specs.declared.status.Status.TheVariants.{Done, Usage, SchemaRefused, Broken}
-use Rattle.ibd_cli.specs.declared.status.Status.TheVariants.{SourceFault, SinkFault, Memory, Unbuilt}
+use Rattle.ibd_cli.specs.declared.status.Status.TheVariants.{Done, Usage, SchemaRefused, Broken, RowsRefused}
+use Rattle.ibd_cli.specs.declared.status.Status.TheVariants.{SourceFault, SinkFault, StoreFault, Memory, Full, Unbuilt}
 use Rattle.ibd_cli.specs.declared.status.Status.TheVariants.{CrossMissing, CrossExtra, KeyRefused, Absent}
 
 -- a number behind its name
@@ -25,6 +27,17 @@ why_word whys.Unknown = codes "unknown"
 why_word whys.Key = codes "key"
 why_word whys.Root = codes "root"
 
+abbrev pub rows_why_word : RowsWhy → List ℕ
+rows_why_word rows_whys.Long = codes "long"
+rows_why_word rows_whys.Input = codes "input"
+rows_why_word rows_whys.Line = codes "line"
+rows_why_word rows_whys.Order = codes "order"
+rows_why_word rows_whys.Big = codes "big"
+
+-- a line of a text that is refused, and why
+abbrev pub refusal_line : List ℕ → ℕ → List ℕ → List ℕ
+refusal_line text line why = counted text line ++ codes " " ++ why ++ codes "\n"
+
 abbrev pub fault_line : Fault → List ℕ
 fault_line fault =
     counted (codes "broken ") (rule_number fault.rule) ++ codes " " ++ rule_name fault.rule
@@ -38,11 +51,14 @@ difference_line index side place = counted (codes "cross index ") index ++ count
 abbrev pub status_line : Status → List ℕ
 status_line Done = []
 status_line Usage = codes "usage\n"
-status_line (SchemaRefused line why) = counted (codes "schema line ") line ++ codes " " ++ why_word why ++ codes "\n"
+status_line (SchemaRefused line why) = refusal_line (codes "schema line ") line (why_word why)
 status_line (Broken fault) = fault_line fault
+status_line (RowsRefused line why) = refusal_line (codes "rows line ") line (rows_why_word why)
 status_line SourceFault = codes "source\n"
 status_line SinkFault = codes "sink\n"
+status_line StoreFault = codes "store\n"
 status_line Memory = codes "memory\n"
+status_line Full = codes "full\n"
 status_line Unbuilt = codes "unbuilt\n"
 status_line (CrossMissing index row) = difference_line index (codes " missing row ") row
 status_line (CrossExtra index page) = difference_line index (codes " extra page ") page
@@ -55,9 +71,12 @@ status_number Done = 0
 status_number Usage = 1
 status_number (SchemaRefused line why) = 2
 status_number (Broken fault) = 3
+status_number (RowsRefused line why) = 4
 status_number SourceFault = 5
 status_number SinkFault = 6
+status_number StoreFault = 7
 status_number Memory = 8
+status_number Full = 9
 status_number Unbuilt = 10
 status_number (CrossMissing index row) = 11
 status_number (CrossExtra index page) = 12

@@ -12,8 +12,9 @@ use Rattle.schema_text.specs.Grammar.{IsTextOf}
 use Rattle.schema_text.specs.declared.errors.SchemaWhy.{SchemaWhy}
 use Rattle.table_check.specs.First.{TakesSteps, AsksAtMost}
 use Rattle.ibd_cli.specs.declared.status.Status.{Status}
-use Rattle.ibd_cli.specs.declared.status.Status.TheVariants.{Done, Usage, SchemaRefused, Broken}
-use Rattle.ibd_cli.specs.declared.status.Status.TheVariants.{SourceFault, SinkFault, Memory, KeyRefused, Absent}
+use Rattle.ibd_cli.specs.declared.status.Status.TheVariants.{Done, Usage, SchemaRefused, Broken, RowsRefused}
+use Rattle.ibd_cli.specs.declared.status.Status.TheVariants.{SourceFault, SinkFault, StoreFault, Memory, Full, Unbuilt}
+use Rattle.ibd_cli.specs.declared.status.Status.TheVariants.{KeyRefused, Absent}
 use Rattle.ibd_cli.specs.declared.words.Task.{Task}
 use Rattle.ibd_cli.specs.declared.words.Task.TheVariants.{Check, Dump, Cross, Get}
 use Rattle.ibd_cli.specs.Reading.{IsReadUpTo}
@@ -23,6 +24,7 @@ use Rattle.ibd_cli.specs.Outcome.{IsRefusedText, IsOfNoTable, IsNoKeyOf, FirstOf
 abbrev pub EndsAs : Status → Status → Type 0
 EndsAs given SourceFault = ⊤
 EndsAs given SinkFault = ⊤
+EndsAs given StoreFault = ⊤
 EndsAs given Memory = ⊤
 EndsAs given status = status ≡ given
 
@@ -116,9 +118,19 @@ ComesBefore Get Absent = ⊤
 ComesBefore Get Memory = ⊤
 ComesBefore Get _ = ⊥
 
+-- such a status ends a command on a table, whatever the objects tell
+abbrev pub IsOfTable : Status → Type 0
+IsOfTable Usage = ⊥
+IsOfTable (RowsRefused line why) = ⊥
+IsOfTable StoreFault = ⊥
+IsOfTable Full = ⊥
+IsOfTable Unbuilt = ⊥
+IsOfTable status = ⊤
+
 -- the whole promise of a command on a table
 pub record Serves {F Q O : Type 0} (f : FileOf F) (q : SourceOf Q) (o : SinkOf O) (task : Task) (key : List ℕ)
     (file file_now : F) (schema schema_now : Q) (out out_now : O) (steps steps_now : ℕ) (status : Status) : Type 0 where
+  pub of_table : IsOfTable status
   pub inputs : ReadsInputs f q task key file file_now schema schema_now steps steps_now status
   -- what is written, where the inputs are told
   pub leaves : (told : Told) → Tells f q file schema told

@@ -1,10 +1,11 @@
-//! Checks and dumps tablespaces of MySQL 5.7: the whole program as one call, and `main`, which hands it the real
-//! objects.
+//! Checks, dumps and builds tablespaces of MySQL 5.7: the whole program as one call, and `main`, which hands it the
+//! real objects.
 #![tactic(auto)]
 
 ghost use Rattle.std.specs.Prelude.{◌≡◌, ◌<◌, ◌↔◌};
-ghost use Rattle.ibd_cli.specs.Forms.{HasSomeForm, HasNoForm, AsksNoTable};
+ghost use Rattle.ibd_cli.specs.Forms.{HasNoForm, AsksSample};
 
+mod build;
 mod check;
 mod command_line;
 mod cross;
@@ -46,7 +47,7 @@ fn start<L: Ledger>(rt: &HostRuntime, words: &Words, blank: Blank) -> Status
     requires parts { blank.parts ≡ L.parts }
     requires shared { 0 < blank.parts }
     ensures usage { (result ≡ Status.Usage) ↔ HasNoForm words.now }
-    ensures unbuilt { (result ≡ Status.Unbuilt) ↔ (HasSomeForm words.now × AsksNoTable words.now) }
+    ensures unbuilt { (result ≡ Status.Unbuilt) ↔ AsksSample words.now }
 {
     run(
         rt.alloc(),

@@ -3,12 +3,13 @@
 ghost use Rattle.std.specs.Prelude.{◌≡◌, ◌≤◌};
 ghost use Rattle.page_source.specs.Calls.{Puts};
 ghost use Rattle.ibd_cli.specs.Causes.{Reports};
-ghost use Rattle.ibd_cli.specs.Lines.{status_line, fault_line, difference_line, why_word};
+ghost use Rattle.ibd_cli.specs.Lines.{status_line, refusal_line, fault_line, difference_line, why_word, rows_why_word};
 
 use crate::status::Status;
 use itoa::Buffer;
 use page_source::{ByteSink, Failed, Fault, put_pieces};
 use schema_text::SchemaWhy;
+use space_builder::RowsWhy;
 
 /// Writes the status's line. A fault of this sink changes nothing else.
 pub fn report<E: ByteSink>(err: &mut E, status: Status)
@@ -25,11 +26,18 @@ fn put_status<E: ByteSink>(err: &mut E, status: Status) -> Result<(), Failed>
     match status {
         Status::Done => err.put(b""),
         Status::Usage => err.put(b"usage\n"),
-        Status::SchemaRefused { line, why } => put_refusal(err, line, why),
+        Status::SchemaRefused { line, why } => {
+            put_refusal(err, "schema line ", line, why_name(why))
+        }
         Status::Broken(fault) => put_fault(err, fault),
+        Status::RowsRefused { line, why } => {
+            put_refusal(err, "rows line ", line, rows_why_name(why))
+        }
         Status::SourceFault => err.put(b"source\n"),
         Status::SinkFault => err.put(b"sink\n"),
+        Status::StoreFault => err.put(b"store\n"),
         Status::Memory => err.put(b"memory\n"),
+        Status::Full => err.put(b"full\n"),
         Status::Unbuilt => err.put(b"unbuilt\n"),
         Status::CrossMissing { index, row } => put_difference(err, index, " missing row ", row),
         Status::CrossExtra { index, page } => {
@@ -40,15 +48,15 @@ fn put_status<E: ByteSink>(err: &mut E, status: Status) -> Result<(), Failed>
     }
 }
 
-fn put_refusal<E: ByteSink>(err: &mut E, line: u32, why: SchemaWhy) -> Result<(), Failed>
-    ensures { Puts E.ByteSink err.old err.new (status_line (Status.SchemaRefused line why)) result }
+fn put_refusal<E: ByteSink>(err: &mut E, text: &str, line: u32, why: &str) -> Result<(), Failed>
+    ensures { Puts E.ByteSink err.old err.new (refusal_line text.now line why.now) result }
 {
     let mut digits = Buffer::new();
     let pieces = [
-        b"schema line ".as_slice(),
+        text.as_bytes(),
         digits.format(line).as_bytes(),
         b" ",
-        why_name(why).as_bytes(),
+        why.as_bytes(),
         b"\n",
     ];
     put_pieces(err, &pieces)
@@ -105,5 +113,17 @@ fn why_name(why: SchemaWhy) -> &'static str
         SchemaWhy::Unknown => "unknown",
         SchemaWhy::Key => "key",
         SchemaWhy::Root => "root",
+    }
+}
+
+fn rows_why_name(why: RowsWhy) -> &'static str
+    ensures { result.now ≡ rows_why_word why }
+{
+    match why {
+        RowsWhy::Long => "long",
+        RowsWhy::Input => "input",
+        RowsWhy::Line => "line",
+        RowsWhy::Order => "order",
+        RowsWhy::Big => "big",
     }
 }

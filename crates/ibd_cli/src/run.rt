@@ -1,12 +1,15 @@
 //! The whole program as one call over the objects that reach outside.
 
-ghost use Rattle.std.specs.Prelude.{◌≡◌, ◌≢◌, ◌↔◌};
-ghost use Rattle.ibd_cli.specs.Forms.{IsForm, HasSomeForm, HasNoForm, AsksNoTable, key_word};
+ghost use Rattle.std.specs.Prelude.{◌≡◌, ◌↔◌};
+ghost use Rattle.page_source.specs.Objects.{IsFresh};
+ghost use Rattle.ibd_cli.specs.Forms.{IsForm, HasNoForm, AsksNoTable, AsksNoBuild, AsksSample, key_word};
 ghost use Rattle.ibd_cli.specs.Lines.{status_line};
 ghost use Rattle.ibd_cli.specs.Causes.{Reports};
 ghost use Rattle.ibd_cli.specs.Answers.{ServesFile};
 ghost use Rattle.ibd_cli.specs.Run.{Serves};
+ghost use Rattle.ibd_cli.specs.Build.{ServesBuild};
 
+use crate::build::build_file;
 use crate::check::check_file;
 use crate::cross::cross_file;
 use crate::dump::dump_file;
@@ -25,8 +28,7 @@ use std::sync::ledger::Ledger;
 use table_check::laws::{checks_are_validity, first_has_one_answer};
 
 /// Does what the words ask for, and answers how it ended. The words are those of the command line
-/// without the program's name; `file` and `schema` are read, `out` and `err` written. `rows` and
-/// `target` belong to commands that aren't served yet.
+/// without the program's name; `file`, `schema` and `rows` are read, `out`, `err` and `target` written.
 pub fn run<
     F: PageSource,
     Q: ByteSource,
@@ -46,22 +48,30 @@ pub fn run<
     target: &mut T,
     steps: &mut Steps<L>,
 ) -> Status
+    requires fresh { IsForm words.now Form.Build → IsFresh (T.told target.old) }
+
     // The words decide which command it is.
     ensures usage { (result ≡ Status.Usage) ↔ HasNoForm words.now }
-    ensures unbuilt { (result ≡ Status.Unbuilt) ↔ (HasSomeForm words.now × AsksNoTable words.now) }
+    ensures unbuilt { (result ≡ Status.Unbuilt) ↔ AsksSample words.now }
 
     // What a command doesn't name is never called.
     ensures file { AsksNoTable words.now → file.new ≡ file.old }
-    ensures schema { AsksNoTable words.now → schema.new ≡ schema.old }
+    ensures schema { AsksNoTable words.now → AsksNoBuild words.now → schema.new ≡ schema.old }
     ensures steps { AsksNoTable words.now → steps.new ≡ steps.old }
-    ensures out { AsksNoTable words.now → out.new ≡ out.old }
-    ensures rows { rows.new ≡ rows.old }
-    ensures target { target.new ≡ target.old }
+    ensures out { AsksNoTable words.now → AsksNoBuild words.now → out.new ≡ out.old }
+    ensures rows { AsksNoBuild words.now → rows.new ≡ rows.old }
+    ensures target { AsksNoBuild words.now → target.new ≡ target.old }
 
     // What a command on a table does to the objects that it names, and how it ends.
     ensures serves { (task : Task) → IsForm words.now (Form.Table task)
         → Serves F.PageSource Q.ByteSource O.ByteSink task (key_word words.now) file.old file.new
         schema.old schema.new out.old out.new steps.old steps.new result }
+
+    // What a build does, and how it ends.
+    ensures builds { IsForm words.now Form.Build → ServesBuild
+        (record { schema = Q.ByteSource; rows = R.ByteSource; out = O.ByteSink; target = T.PageStore })
+        (record { schema = schema.old; rows = rows.old; out = out.old; target = target.old })
+        (record { schema = schema.new; rows = rows.new; out = out.new; target = target.new }) result }
 
     ensures report { Reports (E.written err.old) (E.written err.new) (E.faults err.old) (E.faults err.new)
         (status_line result) }
@@ -69,7 +79,7 @@ pub fn run<
     let status = match words.form() {
         None => Status::Usage,
         Some(Form::Table(task)) => serve(alloc, task, words.key(), file, schema, out, steps),
-        Some(Form::Build) => Status::Unbuilt,
+        Some(Form::Build) => build_file(alloc, schema, rows, out, target, steps),
         Some(Form::Sample(_)) => Status::Unbuilt,
     };
     report(err, status);
@@ -86,10 +96,8 @@ fn serve<F: PageSource, Q: ByteSource, O: ByteSink, L: Ledger>(
     out: &mut O,
     steps: &mut Steps<L>,
 ) -> Status
-    ensures serves { Serves F.PageSource Q.ByteSource O.ByteSink task key.now file.old file.new
+    ensures { Serves F.PageSource Q.ByteSource O.ByteSink task key.now file.old file.new
         schema.old schema.new out.old out.new steps.old steps.new result }
-    ensures usage { result ≢ Status.Usage }
-    ensures built { result ≢ Status.Unbuilt }
 {
     // A schema text is that of one table, a table's checks of a file have one answer, so has the comparison of its
     // indexes with its rows, and a text spells one key.

@@ -2,7 +2,7 @@
 
 ghost use Rattle.std.specs.Prelude.{◌≡◌};
 ghost use Rattle.ibd_cli.specs.Answers.{status_of_schema, status_of_stop, status_of_dump};
-ghost use Rattle.ibd_cli.specs.Answers.{status_of_cross, status_of_get};
+ghost use Rattle.ibd_cli.specs.Answers.{status_of_cross, status_of_get, status_of_build};
 ghost use Rattle.ibd_cli.specs.Lines.{status_number};
 
 use crate::schema_file::SchemaStop;
@@ -10,6 +10,7 @@ use cross_index::CrossStop;
 use key_lookup::GetStop;
 use page_source::{Fault, Stop};
 use schema_text::SchemaWhy;
+use space_builder::{BuildStop, RowsWhy};
 use sql_dump::DumpStop;
 
 /// How a command ended.
@@ -23,12 +24,18 @@ pub enum Status {
     SchemaRefused { line: u32, why: SchemaWhy },
     /// The file breaks a rule.
     Broken(Fault),
-    /// The file or the schema text couldn't be read.
+    /// This line of the rows is refused.
+    RowsRefused { line: u32, why: RowsWhy },
+    /// The file, the schema text or the text of the rows couldn't be read.
     SourceFault,
     /// The standard output took no more.
     SinkFault,
-    /// Memory ran out. Nothing was written.
+    /// The tablespace couldn't be written.
+    StoreFault,
+    /// Memory ran out. Nothing was written to the standard output.
     Memory,
+    /// The rows need more than 256 extents. Nothing was written.
+    Full,
     /// The command isn't served yet. Nothing was written.
     Unbuilt,
     /// The least key that only one side has is that of a row, counted from 1, which this index lacks.
@@ -51,9 +58,12 @@ impl Status {
             Status::Usage => 1,
             Status::SchemaRefused { .. } => 2,
             Status::Broken(_) => 3,
+            Status::RowsRefused { .. } => 4,
             Status::SourceFault => 5,
             Status::SinkFault => 6,
+            Status::StoreFault => 7,
             Status::Memory => 8,
+            Status::Full => 9,
             Status::Unbuilt => 10,
             Status::CrossMissing { .. } => 11,
             Status::CrossExtra { .. } => 12,
@@ -125,6 +135,24 @@ impl From<CrossStop> for Status {
             CrossStop::Extra { index, page } => Status::CrossExtra { index, page },
             CrossStop::Source => Status::SourceFault,
             CrossStop::Memory => Status::Memory,
+        }
+    }
+}
+
+impl From<BuildStop> for Status {
+    ghost from_gives = { λ stop status. status ≡ status_of_build stop };
+
+    fn from(stop: BuildStop) -> Self {
+        match stop {
+            BuildStop::RootPlace { line } => Status::SchemaRefused {
+                line,
+                why: SchemaWhy::Root,
+            },
+            BuildStop::RowsRefused { line, why } => Status::RowsRefused { line, why },
+            BuildStop::Full => Status::Full,
+            BuildStop::Source => Status::SourceFault,
+            BuildStop::Store => Status::StoreFault,
+            BuildStop::Memory => Status::Memory,
         }
     }
 }

@@ -1,11 +1,14 @@
 //! A command, and what it is given: the harness of the tests.
 
-ghost use Rattle.std.specs.Prelude.{◌≡◌, ◌<◌};
+ghost use Rattle.std.specs.Prelude.{◌≡◌, ◌<◌, IfOk};
+ghost use Rattle.page_source.specs.Memory.{store_of};
+ghost use Rattle.page_source.specs.Objects.{IsFresh};
 
 use crate::{Status, Words, run};
 use itoa::Buffer;
 use page_source::{
-    ByteList, Fails, MemoryBytes, MemoryPages, MemorySink, MemoryStore, NoMemory, PageSource, Steps,
+    ByteList, Fails, MemoryBytes, MemoryPages, MemorySink, MemoryStore, NoMemory, PageSource,
+    SparsePages, Steps,
 };
 use std::alloc::Global;
 use std::marker::Brand;
@@ -17,10 +20,12 @@ use vectors::{Which, schema};
 /// More than any text that is written here.
 const ROOM: usize = 1000;
 
-/// The words of a dump, and of a check.
+/// The words of a dump, of a check, and of a build.
 pub const DUMP: [&str; 3] = ["dump", "s", "f"];
 
 pub const CHECK: [&str; 3] = ["check", "s", "f"];
+
+pub const BUILD: [&str; 4] = ["build", "s", "r", "f"];
 
 /// A command and what it is given. The calls with these numbers fail.
 #[derive(Clone, Copy)]
@@ -30,13 +35,17 @@ pub struct Command<'a> {
     pub file_fails: &'a [u64],
     pub schema: &'a [u8],
     pub schema_fails: &'a [u64],
+    pub rows: &'a [u8],
+    pub rows_fails: &'a [u64],
     pub room: usize,
     pub out_fails: &'a [u64],
     pub err_fails: &'a [u64],
+    pub target_room: u32,
+    pub target_fails: &'a [u64],
 }
 
 impl<'a> Command<'a> {
-    /// A dump of the file, whose table has one column.
+    /// A dump of the file, whose table has one column. No call of the rows and the target may be made.
     pub fn dump(file: &'a [u8]) -> Command<'a> {
         Command {
             words: &DUMP,
@@ -44,9 +53,13 @@ impl<'a> Command<'a> {
             file_fails: &[],
             schema: schema(Which::A).as_bytes(),
             schema_fails: &[],
+            rows: b"",
+            rows_fails: &[1],
             room: ROOM,
             out_fails: &[],
             err_fails: &[],
+            target_room: 0,
+            target_fails: &[1],
         }
     }
 
@@ -58,7 +71,20 @@ impl<'a> Command<'a> {
         }
     }
 
-    /// How it ends, and what it wrote. No call may be made of the rows and the target.
+    /// A build of these rows of the table, whose target has room for an extent. No call of the file may be made.
+    pub fn build(rows: &'a [u8]) -> Command<'a> {
+        Command {
+            words: &BUILD,
+            file_fails: &[1],
+            rows,
+            rows_fails: &[],
+            target_room: 64,
+            target_fails: &[],
+            ..Command::dump(b"")
+        }
+    }
+
+    /// How it ends, and what it wrote.
     pub fn run(&self, alloc: Global) -> Result<(Status, Outputs), NoMemory> {
         let mut file = MemoryPages::new(
             copy(alloc, self.file)?,
@@ -95,14 +121,16 @@ impl<'a> Command<'a> {
 
     fn texts(&self, alloc: Global) -> Result<Texts, NoMemory> {
         let schema = bytes_of(alloc, self.schema, self.schema_fails)?;
-        let rows = bytes_of(alloc, b"", &[1])?;
+        let rows = bytes_of(alloc, self.rows, self.rows_fails)?;
         Ok(Texts { schema, rows })
     }
 
-    fn outputs(&self, alloc: Global) -> Result<Outputs, NoMemory> {
+    fn outputs(&self, alloc: Global) -> Result<Outputs, NoMemory>
+        ensures { IfOk result (λ outputs. IsFresh (store_of outputs.target)) }
+    {
         let out = sink_of(alloc, self.room, self.out_fails)?;
         let err = sink_of(alloc, ROOM, self.err_fails)?;
-        let target = store_of(alloc)?;
+        let target = target_of(alloc, self.target_room, self.target_fails)?;
         Ok(Outputs { out, err, target })
     }
 }
@@ -132,6 +160,11 @@ impl Outputs {
             &[number, b"|", self.out.bytes(), b"|", self.err.bytes()],
         )
     }
+
+    /// The target as a file.
+    pub fn into_file(self, alloc: Global) -> Result<SparsePages, NoMemory> {
+        self.target.into_pages(Fails::of(alloc, &[])?)
+    }
 }
 
 fn status<F: PageSource, L: Ledger>(
@@ -145,6 +178,7 @@ fn status<F: PageSource, L: Ledger>(
     requires name { blank.name ≡ L.name }
     requires parts { blank.parts ≡ L.parts }
     requires shared { 0 < blank.parts }
+    requires fresh { IsFresh (store_of outputs.old.target) }
 {
     run(
         alloc,
@@ -175,9 +209,10 @@ fn sink_of(alloc: Global, room: usize, fails: &[u64]) -> Result<MemorySink, NoMe
     MemorySink::new(alloc, room, Fails::of(alloc, fails)?)
 }
 
-/// A file for no page, whose first call fails.
-fn store_of(alloc: Global) -> Result<MemoryStore, NoMemory> {
-    MemoryStore::new(alloc, 0, Fails::of(alloc, &[1])?)
+fn target_of(alloc: Global, room: u32, fails: &[u64]) -> Result<MemoryStore, NoMemory>
+    ensures { IfOk result (λ target. IsFresh (store_of target)) }
+{
+    MemoryStore::new(alloc, room, Fails::of(alloc, fails)?)
 }
 
 /// These bytes.

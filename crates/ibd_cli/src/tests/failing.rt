@@ -1,6 +1,6 @@
 //! Each call of an object fails in turn, and outputs have little room.
 
-use super::command::{Command, expect};
+use super::command::{Command, Outputs, expect};
 use super::files::ALL;
 use crate::Status;
 use std::alloc::Global;
@@ -10,23 +10,26 @@ use vectors::{Which, file};
 
 /// An object whose calls can fail.
 #[derive(Clone, Copy, Debug, PartialEq, Eq)]
-enum Object {
+pub enum Object {
     File,
     Schema,
+    Rows,
     Out,
+    Target,
 }
 
 impl Object {
     /// The status and the line that blame it.
     fn blame(self) -> (Status, &'static str) {
         match self {
-            Object::File | Object::Schema => (Status::SourceFault, "source\n"),
+            Object::File | Object::Schema | Object::Rows => (Status::SourceFault, "source\n"),
             Object::Out => (Status::SinkFault, "sink\n"),
+            Object::Target => (Status::StoreFault, "store\n"),
         }
     }
 
     /// The command, in which these calls of the object fail.
-    fn failing<'a>(self, command: Command<'a>, calls: &'a [u64]) -> Command<'a> {
+    pub fn failing<'a>(self, command: Command<'a>, calls: &'a [u64]) -> Command<'a> {
         match self {
             Object::File => Command {
                 file_fails: calls,
@@ -36,8 +39,16 @@ impl Object {
                 schema_fails: calls,
                 ..command
             },
+            Object::Rows => Command {
+                rows_fails: calls,
+                ..command
+            },
             Object::Out => Command {
                 out_fails: calls,
+                ..command
+            },
+            Object::Target => Command {
+                target_fails: calls,
                 ..command
             },
         }
@@ -45,19 +56,19 @@ impl Object {
 }
 
 /// Fails the test where the command ends otherwise, or wrote what is no part of this text.
-fn expect_part(
+pub fn expect_part(
     rt: &impl Abort,
     alloc: Global,
     command: Command,
     object: Object,
     whole: &str,
-) -> Result<(), Fail> {
+) -> Result<Outputs, Fail> {
     let (status, outputs) = command.run(alloc)?;
     let (blame, line) = object.blame();
     assert_eq!(rt; status, blame);
     assert_eq!(rt; outputs.err.bytes(), line.as_bytes());
     assert!(rt; whole.as_bytes().starts_with(outputs.out.bytes()));
-    Ok(())
+    Ok(outputs)
 }
 
 /// Each of the first calls of the object fails in turn, of which there are so many at least.
@@ -80,7 +91,7 @@ fn expect_each_call(
 /// The line of a check of the file with three rows, and the lines of its dump.
 const CHECKED: &str = "pages=6 used=4 rows=3 deleted=0 unreached=0\n";
 
-const DUMPED: &str =
+pub const DUMPED: &str =
     "INSERT INTO `t` VALUES (-1);\nINSERT INTO `t` VALUES (0);\nINSERT INTO `t` VALUES (2147483647);\n";
 
 // The size and each used page are read, the text of the schema and its end, and each number is put, or all rows at

@@ -23,7 +23,7 @@ const SCHEMAS: [(&str, &str); 3] = [
 
 #[test]
 fn serves_no_other_words(rt: HostRuntime) -> Result<(), Fail> {
-    let commands: [(&[&str], &str); 19] = [
+    let commands: [(&[&str], &str); 18] = [
         (&[], "1||usage\n"),
         (&["dump"], "1||usage\n"),
         (&["dump", "s"], "1||usage\n"),
@@ -40,7 +40,6 @@ fn serves_no_other_words(rt: HostRuntime) -> Result<(), Fail> {
         (&["sample", "200001"], "1||usage\n"),
         (&["sample", "-1"], "1||usage\n"),
         (&["sample", "1", "2"], "1||usage\n"),
-        (&["build", "s", "r", "f"], "10||unbuilt\n"),
         (&["sample", "0"], "10||unbuilt\n"),
         (&["sample", "200000"], "10||unbuilt\n"),
     ];

@@ -1,30 +1,54 @@
-use Rattle.std.proofs.Common.{sym, ◌∙◌}
-use Rattle.ibd_cli.specs.declared.words.Form.TheVariants.{Table}
-use Rattle.ibd_cli.proofs.WordLists.{same_task, never_build, never_sample, asks_table}
-use Rattle.ibd_cli.proofs.Serving.{usage_is_built}
+use Rattle.std.proofs.Common.{rules, refl, sym, subst, ◌∙◌}
+use Rattle.ibd_cli.specs.Forms.{IsForm}
+use Rattle.ibd_cli.specs.declared.words.Form.TheVariants.{Table, Build, Sample}
+use Rattle.ibd_cli.proofs.WordLists.{same_task, never_build, never_sample, build_and_sample, asks_table, asks_build}
+use Rattle.ibd_cli.proofs.Serving.{never_usage, never_unbuilt, usage_is_built}
+use Rattle.ibd_cli.proofs.BuildEnds.{build_never_usage, build_never_unbuilt}
 use Rattle.ibd_cli.proofs.run.run.Goals as goal
 use Rattle.ibd_cli.proofs.run.run.Goals.{in-None, in-Some-Table, in-Some-Build, in-Some-Sample}
+
+pub build_file-status-requires : goal.build_file-status-requires
+build_file-status-requires g c =
+    let fresh = c.requires.fresh (subst (IsForm _) c.in-Some-Build.field-0-is c.in-Some-Build.ensures) in
+    search (rules, fresh)
+
+pub returns-clause-usage : goal.returns-clause-usage
+returns-clause-usage g c = (
+  λ usage.
+      elim c.match-form.branch [
+        | in-None w ↦ w.in-None.ensures
+        | in-Some-Table w ↦ absurd (never_usage _ w.serve-status.ensures.of_table (sym w.status-is ∙ usage))
+        | in-Some-Build w ↦
+            absurd (build_never_usage _ _ _ _ w.build_file-status.ensures.builds (sym w.status-is ∙ usage))
+        | in-Some-Sample w ↦ absurd (usage_is_built (sym usage ∙ w.status-is))
+      ],
+  λ none.
+      elim c.match-form.branch [
+        | in-None w ↦ w.status-is
+        | in-Some-Table w ↦ absurd (none _ w.in-Some-Table.ensures)
+        | in-Some-Build w ↦ absurd (none _ w.in-Some-Build.ensures)
+        | in-Some-Sample w ↦ absurd (none _ w.in-Some-Sample.ensures)
+      ],
+)
 
 pub returns-clause-unbuilt : goal.returns-clause-unbuilt
 returns-clause-unbuilt g c = (
   λ unbuilt.
       elim c.match-form.branch [
         | in-None w ↦ absurd (usage_is_built (sym w.status-is ∙ unbuilt))
-        | in-Some-Table w ↦ absurd (w.serve-status.ensures.built (sym w.status-is ∙ unbuilt))
-        | in-Some-Build w ↦ (
-          (_, w.in-Some-Build.ensures),
-          (λ task is. never_build _ _ task w.in-Some-Build.field-0-is w.in-Some-Build.ensures is),
-        )
-        | in-Some-Sample w ↦ (
-          (_, w.in-Some-Sample.ensures),
-          (λ task is. never_sample _ _ _ task w.in-Some-Sample.field-0-is w.in-Some-Sample.ensures is),
-        )
+        | in-Some-Table w ↦ absurd (never_unbuilt _ w.serve-status.ensures.of_table (sym w.status-is ∙ unbuilt))
+        | in-Some-Build w ↦
+            absurd (build_never_unbuilt _ _ _ _ w.build_file-status.ensures.builds (sym w.status-is ∙ unbuilt))
+        | in-Some-Sample w ↦ (_, subst (IsForm _) w.in-Some-Sample.field-0-is w.in-Some-Sample.ensures)
       ],
-  λ form.
+  λ sample.
       elim c.match-form.branch [
-        | in-None w ↦ absurd (w.in-None.ensures form.0.0 form.0.1)
-        | in-Some-Table w ↦ absurd (asks_table _ _ _ form.1 w.in-Some-Table.field-0-is w.in-Some-Table.ensures)
-        | in-Some-Build w ↦ w.status-is
+        | in-None w ↦ absurd (w.in-None.ensures (Sample sample.0) sample.1)
+        | in-Some-Table w ↦
+            absurd (never_sample _ (Sample sample.0) sample.0 _ refl sample.1
+            (subst (IsForm _) w.in-Some-Table.field-0-is w.in-Some-Table.ensures))
+        | in-Some-Build w ↦
+            absurd (build_and_sample _ _ _ w.in-Some-Build.field-0-is w.in-Some-Build.ensures sample.1)
         | in-Some-Sample w ↦ w.status-is
       ],
 )
@@ -39,11 +63,11 @@ returns-clause-file g c = λ none.
     ]
 
 pub returns-clause-schema : goal.returns-clause-schema
-returns-clause-schema g c = λ none.
+returns-clause-schema g c = λ none unbuilt.
     elim c.match-form.branch [
       | in-None w ↦ w.schema-is
       | in-Some-Table w ↦ absurd (asks_table _ _ _ none w.in-Some-Table.field-0-is w.in-Some-Table.ensures)
-      | in-Some-Build w ↦ w.schema-is
+      | in-Some-Build w ↦ absurd (asks_build _ _ unbuilt w.in-Some-Build.field-0-is w.in-Some-Build.ensures)
       | in-Some-Sample w ↦ w.schema-is
     ]
 
@@ -52,17 +76,35 @@ returns-clause-steps g c = λ none.
     elim c.match-form.branch [
       | in-None w ↦ w.steps-is
       | in-Some-Table w ↦ absurd (asks_table _ _ _ none w.in-Some-Table.field-0-is w.in-Some-Table.ensures)
-      | in-Some-Build w ↦ w.steps-is
+      | in-Some-Build w ↦ w.steps-is ∙ w.build_file-status.ensures.steps
       | in-Some-Sample w ↦ w.steps-is
     ]
 
 pub returns-clause-out : goal.returns-clause-out
-returns-clause-out g c = λ none.
+returns-clause-out g c = λ none unbuilt.
     elim c.match-form.branch [
       | in-None w ↦ w.out-is
       | in-Some-Table w ↦ absurd (asks_table _ _ _ none w.in-Some-Table.field-0-is w.in-Some-Table.ensures)
-      | in-Some-Build w ↦ w.out-is
+      | in-Some-Build w ↦ absurd (asks_build _ _ unbuilt w.in-Some-Build.field-0-is w.in-Some-Build.ensures)
       | in-Some-Sample w ↦ w.out-is
+    ]
+
+pub returns-clause-rows : goal.returns-clause-rows
+returns-clause-rows g c = λ unbuilt.
+    elim c.match-form.branch [
+      | in-None w ↦ w.rows-is
+      | in-Some-Table w ↦ w.rows-is
+      | in-Some-Build w ↦ absurd (asks_build _ _ unbuilt w.in-Some-Build.field-0-is w.in-Some-Build.ensures)
+      | in-Some-Sample w ↦ w.rows-is
+    ]
+
+pub returns-clause-target : goal.returns-clause-target
+returns-clause-target g c = λ unbuilt.
+    elim c.match-form.branch [
+      | in-None w ↦ w.target-is
+      | in-Some-Table w ↦ w.target-is
+      | in-Some-Build w ↦ absurd (asks_build _ _ unbuilt w.in-Some-Build.field-0-is w.in-Some-Build.ensures)
+      | in-Some-Sample w ↦ w.target-is
     ]
 
 pub returns-clause-serves : goal.returns-clause-serves
@@ -72,8 +114,22 @@ returns-clause-serves g c = λ task is_task.
       | in-Some-Table w ↦
           let e = same_task _ _ _ task w.in-Some-Table.field-0-is w.in-Some-Table.ensures is_task in
           rw (w.status-is, w.file-is, w.schema-is, w.out-is, w.steps-is)
-          (rw (e, w.key.ensures) at w.serve-status.ensures.serves)
+          (rw (e, w.key.ensures) at w.serve-status.ensures)
       | in-Some-Build w ↦ absurd (never_build _ _ task w.in-Some-Build.field-0-is w.in-Some-Build.ensures is_task)
       | in-Some-Sample w ↦
           absurd (never_sample _ _ _ task w.in-Some-Sample.field-0-is w.in-Some-Sample.ensures is_task)
+    ]
+
+pub returns-clause-builds : goal.returns-clause-builds
+returns-clause-builds g c = λ is_build.
+    elim c.match-form.branch [
+      | in-None w ↦ absurd (w.in-None.ensures Build is_build)
+      | in-Some-Table w ↦
+          absurd (never_build _ Build _ refl is_build
+          (subst (IsForm _) w.in-Some-Table.field-0-is w.in-Some-Table.ensures))
+      | in-Some-Build w ↦
+          rw (w.status-is, w.schema-is, w.rows-is, w.out-is, w.target-is) w.build_file-status.ensures.builds
+      | in-Some-Sample w ↦
+          absurd (build_and_sample _ Build _ refl is_build
+          (subst (IsForm _) w.in-Some-Sample.field-0-is w.in-Some-Sample.ensures))
     ]

@@ -1,11 +1,10 @@
 use Rattle.std.proofs.Common.{Err, ap}
 use Rattle.ibd_cli.proofs.OneAnswer.{one_answer}
-use Rattle.ibd_cli.proofs.Serving.{serves_stopped, serves_file, never_usage, file_never_usage}
-use Rattle.ibd_cli.proofs.Serving.{never_unbuilt, file_never_unbuilt}
+use Rattle.ibd_cli.proofs.Serving.{serves_stopped, serves_file}
 use Rattle.ibd_cli.proofs.run.serve.Goals as goal
 
-pub returns-in-Ok-clause-serves : goal.returns-in-Ok-clause-serves
-returns-in-Ok-clause-serves g c =
+pub returns-in-Ok : goal.returns-in-Ok
+returns-in-Ok g c =
     serves_file
     (one_answer c.has_one_schema.ensures.texts c.texts_pass.ensures.pass c.texts_pass.ensures.one_answer)
     (record {
@@ -20,11 +19,8 @@ returns-in-Ok-clause-serves g c =
     c.args.steps.now c.serve_table.new.steps c.in-Ok.table c.serve_table.result
     (record { reads = c.in-Ok.ensures.exact; read = c.in-Ok.ensures.read }) c.serve_table.ensures
 
-pub returns-in-Ok-clause-usage : goal.returns-in-Ok-clause-usage
-returns-in-Ok-clause-usage g c = file_never_usage c.serve_table.result c.serve_table.ensures.of_file
-
-pub returns-in-Err-clause-serves : goal.returns-in-Err-clause-serves
-returns-in-Err-clause-serves g c =
+pub returns-in-Err : goal.returns-in-Err
+returns-in-Err g c =
     rw c.from.ensures
     (serves_stopped
     (one_answer c.has_one_schema.ensures.texts c.texts_pass.ensures.pass c.texts_pass.ensures.one_answer)
@@ -35,12 +31,3 @@ returns-in-Err-clause-serves g c =
       read = c.in-Err.ensures.read;
       cause = λ is. c.in-Err.ensures.cause (ap Err is);
     }))
-
-pub returns-in-Err-clause-usage : goal.returns-in-Err-clause-usage
-returns-in-Err-clause-usage g c = rw c.from.ensures (never_usage c.in-Err.stop)
-
-pub returns-in-Ok-clause-built : goal.returns-in-Ok-clause-built
-returns-in-Ok-clause-built g c = file_never_unbuilt c.serve_table.result c.serve_table.ensures.of_file
-
-pub returns-in-Err-clause-built : goal.returns-in-Err-clause-built
-returns-in-Err-clause-built g c = rw c.from.ensures (never_unbuilt c.in-Err.stop)
