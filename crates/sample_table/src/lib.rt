@@ -1,0 +1,13 @@
+//! The made table: built, checked and dumped in memory.
+#![tactic(auto)]
+
+mod answer;
+mod made;
+mod objects;
+mod row;
+#[cfg(test)]
+mod tests;
+mod text;
+
+pub use answer::sample;
+pub use made::{Sample, SampleStop};
