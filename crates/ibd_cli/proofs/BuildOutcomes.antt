@@ -1,5 +1,5 @@
 -- A schema text and a rows text have one outcome of a build.
-use Rattle.std.proofs.Common.{◌≡◌, ℕ, List, Option, Some, None, Result, Ok, Err, IfSome, refl, sym, ap, ◌∙◌, inl, inr}
+use Rattle.std.proofs.Common.{◌≡◌, ℕ, List, Some, None, Result, Ok, Err, refl, sym, ap, ◌∙◌, inl, inr}
 use Rattle.page_source.proofs.Unique.{some_is_not_none}
 use Rattle.schema_text.specs.TableDef.{TableDef}
 use Rattle.schema_text.specs.Grammar.{IsTextOf}
@@ -12,7 +12,7 @@ use Rattle.space_builder.specs.build.BadLine.{RootOrderChecks}
 use Rattle.space_builder.specs.build.Outcome.{ComesTo, RootsHaveOneAnswer, BuildHasOneOutcome}
 use Rattle.ibd_cli.specs.declared.status.Status.{Status}
 use Rattle.ibd_cli.specs.declared.status.Status.TheVariants.{Done, SchemaRefused, RowsRefused, Full}
-use Rattle.ibd_cli.specs.Build.{Texts, IsRefusedForBuild, HasMisplacedRoot, GivesBuilt}
+use Rattle.ibd_cli.specs.Build.{IsRefusedForBuild, GivesBuilt}
 use Rattle.ibd_cli.specs.Answers.{status_of_build}
 use Rattle.ibd_cli.proofs.OneAnswer.{HasOneAnswer}
 use Rattle.ibd_cli.proofs.Outcomes.{no_table}

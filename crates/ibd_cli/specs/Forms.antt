@@ -25,10 +25,7 @@ IsForm words (Sample n) = (n ≤ 200000) × (words ≡ codes "sample" ∷ decima
 abbrev pub key_word : List (List ℕ) → List ℕ
 key_word words = slice_index_or words 3 []
 
-abbrev pub HasSomeForm : List (List ℕ) → Type 0
-HasSomeForm words = (form : Form) × IsForm words form
-
--- they have none
+-- they have no form
 abbrev pub HasNoForm : List (List ℕ) → Type 0
 HasNoForm words = (form : Form) → ¬ (IsForm words form)
 

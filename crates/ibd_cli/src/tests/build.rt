@@ -93,7 +93,12 @@ fn expect_faults(
         expect_over(rt, alloc, &mut file, Command::check(b""), want.as_bytes())?;
     }
     let none = [calls + 1];
-    expect(rt, alloc, object.failing(build, &none), "0|pages=64 rows=3\n|")
+    expect(
+        rt,
+        alloc,
+        object.failing(build, &none),
+        "0|pages=64 rows=3\n|",
+    )
 }
 
 /// Both texts and their ends are read, the target gets its size and pages 3, 2, 1 and 0, and the line has five pieces.
