@@ -1,4 +1,4 @@
--- Three rows of which two fit a page, and no row, are put by these plans.
+-- Three rows of which two fit a page are put by this plan.
 use Rattle.std.proofs.Common.{◌≡◌, ℕ, zero, suc, ◌+◌, ◌<◌, ◌≤◌, List, [], ◌∷◌, length, get_or, map, replicate}
 use Rattle.std.proofs.Common.{true, false, refl, sym, ap, ◌∙◌, subst, arith, ◌^◌}
 use Rattle.std.proofs.lemmas.Bool.{true≢false, false≢true}
@@ -60,10 +60,6 @@ two_levels : level_counts (tree_levels big_leaf big_node (λ l k. 0) three_rows)
 unfolding tree_levels divided pointers_to size_of_record origin_in bytes_below value_bytes
 two_levels = refl
 
-one_level : level_counts (tree_levels big_leaf big_node (λ l k. 0) []) ≡ 1 ∷ []
-unfolding tree_levels divided
-one_level = refl
-
 row_fits : (k : ℕ) → FitFields big_leaf (big_row k)
 row_fits k = (
   ((λ same. refl), (λ other. absurd (false≢true other))),
@@ -99,10 +95,6 @@ few_pages : length (divided big_leaf three_rows) ≤ 2 ^ 50
 unfolding divided size_of_record origin_in bytes_below value_bytes
 few_pages = omega arith
 
-few_without : length (divided big_leaf []) ≤ 2 ^ 50
-unfolding divided
-few_without = omega arith
-
 three_divide : CanDivide big_leaf big_node three_rows
 three_divide = record {
   one_index = one_index;
@@ -111,16 +103,6 @@ three_divide = record {
   alone = all_rows (FitsAlone big_leaf) row_alone;
   pointers = all_rows (HasSmallPointers big_node) row_pointers;
   few = few_pages;
-}
-
-none_divide : CanDivide big_leaf big_node []
-none_divide = record {
-  one_index = one_index;
-  fit = All-nil (FitFields big_leaf);
-  rise = λ i j d before within. absurd (omega arith);
-  alone = All-nil (FitsAlone big_leaf);
-  pointers = All-nil (HasSmallPointers big_node);
-  few = few_without;
 }
 
 -- their segments
@@ -141,10 +123,6 @@ one_extent leaves few = omega arith
 three_fit : FitsSegments (2 ∷ 1 ∷ []) (size_at (1 ∷ 2 ∷ [])) 0
 unfolding pages_above
 three_fit = record { some = omega arith; single = refl; top = omega arith; leaf = omega arith }
-
-none_fits : FitsSegments (1 ∷ []) (size_at (1 ∷ 0 ∷ [])) 0
-unfolding pages_above
-none_fits = record { some = omega arith; single = refl; top = omega arith; leaf = omega arith }
 
 -- so they can be put
 
@@ -173,9 +151,3 @@ pub can_put_three : (plan : TreePlan) → plan.index ≡ 0 → plan.leaf.now ≡
 can_put_three plan index leaf node sizes counts =
     can_put plan three_rows (1 ∷ 2 ∷ []) (2 ∷ 1 ∷ []) index leaf node sizes counts (shape_of 2 (omega arith)) (omega arith)
     three_fit three_divide two_levels
-
-pub can_put_none : (plan : TreePlan) → plan.index ≡ 0 → plan.leaf.now ≡ big_leaf → plan.node.now ≡ big_node
-    → plan.sizes.now ≡ 1 ∷ 0 ∷ [] → plan.counts.now ≡ 1 ∷ [] → CanPutTree plan []
-can_put_none plan index leaf node sizes counts =
-    can_put plan [] (1 ∷ 0 ∷ []) (1 ∷ []) index leaf node sizes counts (shape_of 0 (omega arith)) (omega arith) none_fits
-    none_divide one_level

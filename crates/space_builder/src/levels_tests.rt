@@ -1,4 +1,4 @@
-//! Trees of no row and of three rows, of which two fit a page.
+//! A tree of three rows, of which two fit a page.
 
 ghost use Rattle.std.specs.Prelude.{◌≡◌, ◌+◌, ◌<◌, [], ◌∷◌, IfOk, map, replicate, false};
 ghost use Rattle.column_values.specs.Types.{CanFollow};
@@ -45,27 +45,6 @@ fn fields(alloc: Global, last: Field) -> Result<FieldList, NoMemory>
     list.push(ID)?;
     list.push(last)?;
     Ok(list)
-}
-
-/// A leaf without rows.
-struct NoRows;
-
-impl Entries for NoRows {
-    ghost entries = { λ rows. [] };
-
-    fn count(&self) -> usize {
-        0
-    }
-
-    fn parts(&self, alloc: Global, _k: usize) -> Result<Parts, NoMemory> {
-        Ok(Parts::new(alloc))
-    }
-}
-
-impl Leaves for NoRows {
-    fn key(&self, alloc: Global, _k: usize, _keys: usize) -> Result<Parts, NoMemory> {
-        Ok(Parts::new(alloc))
-    }
 }
 
 /// The rows with the ids 1 to 3, each with a note of 7,900 letters.
@@ -120,21 +99,6 @@ fn sized(alloc: Global, failing: u64) -> Result<MemoryStore, Fail>
     Ok(store)
 }
 
-/// Puts the tree without rows.
-fn put_none(alloc: Global, room: &mut PageRoom) -> Result<Result<(), PutStop>, Fail> {
-    let leaf = fields(alloc, NOTE)?;
-    let node = fields(alloc, CHILD)?;
-    let mut store = sized(alloc, 0)?;
-    let plan = TreePlan {
-        index: 0,
-        leaf: &leaf,
-        node: &node,
-        sizes: &[1, 0],
-        counts: &[1],
-    };
-    Ok(put_tree(alloc, &mut store, room, &NoRows, &plan))
-}
-
 /// Puts the tree of three rows; one call of the file fails.
 fn put_three(
     alloc: Global,
@@ -152,24 +116,6 @@ fn put_three(
         counts: &[2, 1],
     };
     Ok(put_tree(alloc, &mut store, room, &ThreeRows, &plan))
-}
-
-#[test]
-fn a_tree_without_rows_is_its_root(rt: HostRuntime) -> Result<(), Fail> {
-    let alloc = rt.alloc();
-    let mut room = PageRoom::new(alloc)?;
-    let answer = put_none(alloc, &mut room)?;
-    assert_eq!(rt; answer, Ok(()));
-    let bytes = room.page.bytes();
-    assert_eq!(rt;
-        &bytes[4..16],
-        b"\0\0\0\x03\xFF\xFF\xFF\xFF\xFF\xFF\xFF\xFF".as_slice()
-    );
-    // Two slots, the heap top, two records of the page's own, no row, and level 0.
-    assert_eq!(rt; &bytes[38..44], b"\0\x02\0\x78\x80\x02".as_slice());
-    assert_eq!(rt; &bytes[54..56], b"\0\0".as_slice());
-    assert_eq!(rt; &bytes[64..66], b"\0\0".as_slice());
-    Ok(())
 }
 
 #[test]
