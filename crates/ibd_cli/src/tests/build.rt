@@ -9,8 +9,10 @@ use std::alloc::Global;
 use std::process::Abort;
 use std::test::Fail;
 
-/// The line of a build of three rows, and what a check of its target answers.
+/// The line of a build of three rows, what it answers, and what a check of its target answers.
 const BUILT: &str = "pages=64 rows=3\n";
+
+const ANSWERED: &str = "0|pages=64 rows=3\n|";
 
 const CHECKED: &str = "0|pages=64 used=4 rows=3 deleted=0 unreached=0\n|";
 
@@ -38,7 +40,7 @@ fn builds_what_dumps_as_it_was(rt: HostRuntime) -> Result<(), Fail> {
     let alloc = rt.alloc();
     let (status, outputs) = Command::build(DUMPED.as_bytes()).run(alloc)?;
     let found = outputs.answer(alloc, status)?;
-    assert_eq!(rt; found.bytes(), b"0|pages=64 rows=3\n|");
+    assert_eq!(rt; found.bytes(), ANSWERED.as_bytes());
     let mut file = outputs.into_file(alloc)?;
     expect_over(
         &rt,
@@ -92,7 +94,7 @@ fn expect_faults(
         };
         expect_over(rt, alloc, &mut file, Command::check(b""), want.as_bytes())?;
     }
-    let none = [calls + 1];
+    let none = [calls.saturating_add(1)];
     expect(
         rt,
         alloc,
@@ -123,13 +125,18 @@ fn lines_up_to(alloc: Global, count: u32) -> Result<ByteList, NoMemory> {
     Ok(lines)
 }
 
+/// What a dump of these lines answers.
+fn dumped(alloc: Global, lines: &[u8]) -> Result<ByteList, NoMemory> {
+    concat(alloc, &[b"0|", lines, b"|"])
+}
+
 #[test]
 fn builds_three_thousand_rows(rt: HostRuntime) -> Result<(), Fail> {
     let alloc = rt.alloc();
     let lines = lines_up_to(alloc, 3_000)?;
     let (status, outputs) = Command::build(lines.bytes()).run(alloc)?;
     let found = outputs.answer(alloc, status)?;
-    assert_eq!(rt; found.bytes(), b"0|pages=64 rows=3000\n|");
+    assert_eq!(rt; found.bytes(), "0|pages=64 rows=3000\n|".as_bytes());
     let mut file = outputs.into_file(alloc)?;
     let checked = b"0|pages=64 used=9 rows=3000 deleted=0 unreached=0\n|";
     expect_over(&rt, alloc, &mut file, Command::check(b""), checked)?;
@@ -137,6 +144,6 @@ fn builds_three_thousand_rows(rt: HostRuntime) -> Result<(), Fail> {
         room: 100_000,
         ..Command::dump(b"")
     };
-    let want = concat(alloc, &[b"0|", lines.bytes(), b"|"])?;
+    let want = dumped(alloc, lines.bytes())?;
     expect_over(&rt, alloc, &mut file, dump, want.bytes())
 }
