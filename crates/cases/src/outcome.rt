@@ -7,7 +7,6 @@ use fil_frame::crc32c;
 use key_lookup::GetStop;
 use page_source::{ByteList, Fault, Halt, NoMemory, Stop};
 use schema_text::{SchemaError, SchemaWhy};
-use space_builder::{BuildStop, RowsWhy};
 use sql_dump::DumpStop;
 use std::alloc::Global;
 use table_check::Checked;
@@ -20,12 +19,6 @@ pub enum End {
     Sink,
     Memory,
     Schema { line: u32, why: SchemaWhy },
-    /// A line of the rows that are built is refused.
-    Rows { line: u32, why: RowsWhy },
-    /// The rows need more room than a tablespace has.
-    Full,
-    /// What is built can't be written.
-    Store,
     /// An index has no entry for this row.
     Missing { index: u32, row: u64 },
     /// An entry on this page is of no row.
@@ -97,22 +90,6 @@ impl From<GetStop> for End {
     }
 }
 
-impl From<BuildStop> for End {
-    fn from(stop: BuildStop) -> Self {
-        match stop {
-            BuildStop::RootPlace { line } => End::Schema {
-                line,
-                why: SchemaWhy::Root,
-            },
-            BuildStop::RowsRefused { line, why } => End::Rows { line, why },
-            BuildStop::Full => End::Full,
-            BuildStop::Source => End::Source,
-            BuildStop::Store => End::Store,
-            BuildStop::Memory => End::Memory,
-        }
-    }
-}
-
 impl From<SchemaError> for End {
     fn from(error: SchemaError) -> Self {
         match error {
@@ -130,10 +107,12 @@ impl End {
             End::Source => text.extend(b"source"),
             End::Sink => text.extend(b"sink"),
             End::Memory => text.extend(b"memory"),
-            End::Schema { line, why } => put_line(text, b"schema line ", line, word_of(why)),
-            End::Rows { line, why } => put_line(text, b"rows line ", line, word_of_row(why)),
-            End::Full => text.extend(b"full"),
-            End::Store => text.extend(b"store"),
+            End::Schema { line, why } => {
+                text.extend(b"schema line ")?;
+                put_number(text, u64::from(line))?;
+                text.extend(b" ")?;
+                text.extend(word_of(why).as_bytes())
+            }
             End::Missing { index, row } => put_difference(text, index, b" missing row ", row),
             End::Extra { index, page } => {
                 put_difference(text, index, b" extra page ", u64::from(page))
@@ -151,14 +130,6 @@ fn put_fault(text: &mut ByteList, fault: Fault) -> Result<(), NoMemory> {
     text.extend(fault.rule.name().as_bytes())?;
     text.extend(b" page ")?;
     put_number(text, u64::from(fault.page))
-}
-
-/// Adds the line that is refused, and why.
-fn put_line(text: &mut ByteList, what: &[u8], line: u32, why: &str) -> Result<(), NoMemory> {
-    text.extend(what)?;
-    put_number(text, u64::from(line))?;
-    text.extend(b" ")?;
-    text.extend(why.as_bytes())
 }
 
 /// Adds the index that doesn't go with the rows, and what lacks or is too much.
@@ -186,16 +157,6 @@ fn word_of(why: SchemaWhy) -> &'static str {
         SchemaWhy::Unknown => "unknown",
         SchemaWhy::Key => "key",
         SchemaWhy::Root => "root",
-    }
-}
-
-fn word_of_row(why: RowsWhy) -> &'static str {
-    match why {
-        RowsWhy::Long => "long",
-        RowsWhy::Input => "input",
-        RowsWhy::Line => "line",
-        RowsWhy::Order => "order",
-        RowsWhy::Big => "big",
     }
 }
 
@@ -251,8 +212,7 @@ fn may_be_written(end: End, written: &[u8], whole: &[u8]) -> bool {
     }
 }
 
-/// Adds the length and the checksum of a text.
-pub fn put_sum(text: &mut ByteList, written: &[u8]) -> Result<(), NoMemory> {
+fn put_sum(text: &mut ByteList, written: &[u8]) -> Result<(), NoMemory> {
     text.extend(b"bytes=")?;
     put_number(text, written.len() as u64)?;
     text.extend(b" sum=")?;

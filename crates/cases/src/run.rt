@@ -298,7 +298,7 @@ fn dump_file<L: Ledger>(
 /// The sink of one run.
 fn sink_of(alloc: Global, hitch: Hitch) -> Result<MemorySink, NoMemory> {
     let room = match hitch {
-        Hitch::Room(room) => room,
+        Hitch::Room(room) => room.min(ROOM),
         _ => ROOM,
     };
     let fails = match hitch {

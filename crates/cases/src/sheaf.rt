@@ -2,7 +2,7 @@
 
 use crate::edit::{Edit, Frame};
 use crate::error::LineError;
-use fil_frame::{SumKind, crc32c, kind, seal_as};
+use fil_frame::{SumKind, kind, seal_as};
 use page_source::{ByteList, NoMemory, PAGE_SIZE, Page, read_be};
 use std::alloc::Global;
 use std::collections::BTreeMap;
@@ -50,7 +50,7 @@ impl Sheaf {
     }
 
     /// Keeps a page that begins with these bytes, in place of the one with this number.
-    pub fn put(&mut self, alloc: Global, n: u32, bytes: &[u8]) -> Result<(), NoMemory> {
+    fn put(&mut self, alloc: Global, n: u32, bytes: &[u8]) -> Result<(), NoMemory> {
         let mut page = Page::zeroed(alloc)?;
         if bytes.len() <= PAGE_SIZE {
             page.put_bytes(0, bytes);
@@ -66,34 +66,6 @@ impl Sheaf {
             self.put(alloc, *n, leaf.page.bytes())?;
         }
         Ok(())
-    }
-}
-
-impl Sheaf {
-    /// How many pages are kept.
-    pub fn count(&self) -> usize {
-        self.leaves.len()
-    }
-
-    /// Whether another one keeps each of these pages too.
-    pub fn is_within(&self, other: &Sheaf) -> bool {
-        for (n, leaf) in &self.leaves {
-            if other.find(*n).map(|page| page.bytes()) != Some(leaf.page.bytes()) {
-                return false;
-            }
-        }
-        true
-    }
-
-    /// The CRC-32C of the numbers of the pages, in four bytes each, in their order, with the CRC-32C of the page behind
-    /// each number.
-    pub fn sum(&self, alloc: Global) -> Result<u32, NoMemory> {
-        let mut sums = ByteList::new(alloc);
-        for (n, leaf) in &self.leaves {
-            sums.extend(&n.to_be_bytes())?;
-            sums.extend(&crc32c(leaf.page.bytes()).to_be_bytes())?;
-        }
-        Ok(crc32c(sums.bytes()))
     }
 }
 

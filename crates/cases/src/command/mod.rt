@@ -1,8 +1,7 @@
-//! The commands, one module each. A command that comes later gets a module of its own here, a variant of `Command`, and
-//! its arms in `read` and `run`.
+//! The commands, one module each. A command that comes later, as `build`, gets a module of its own here, a variant of
+//! `Command`, and its arms in `read` and `run`.
 
 mod audit;
-mod build;
 mod file;
 mod get;
 mod page;
@@ -18,7 +17,6 @@ use crate::run::Task;
 use crate::shelf::Shelf;
 use crate::words::Words;
 use audit::AuditCase;
-pub use build::BuildCase;
 use file::{FetchCase, FileCase};
 use get::GetCase;
 use page::PageCase;
@@ -37,7 +35,6 @@ pub enum Command<'a> {
     Both(FileCase<'a>),
     Cross(FileCase<'a>),
     Get(GetCase<'a>),
-    Build(BuildCase<'a>),
     Fetches(FetchCase<'a>),
     Audit(AuditCase<'a>),
     Walk(WalkCase<'a>),
@@ -53,7 +50,6 @@ impl<'a> Command<'a> {
         let (word, rest) = what.split_once(' ').ok_or(LineError::Command)?;
         match word {
             "get" => Ok(Command::Get(GetCase::read(alloc, rest)?)),
-            "build" => Ok(Command::Build(BuildCase::read(alloc, rest)?)),
             "value" => Ok(Command::Value(ValueCase::read(alloc, rest)?)),
             "line" => Ok(Command::Row(RowCase::read(alloc, RowText::Line, rest)?)),
             "key" => Ok(Command::Row(RowCase::read(alloc, RowText::Key, rest)?)),
@@ -97,7 +93,6 @@ impl<'a> Command<'a> {
             }
             Command::Cross(case) => case.run(alloc, shelf, &[Task::Cross], answer, report),
             Command::Get(case) => case.run(alloc, shelf, answer, report),
-            Command::Build(case) => case.run(alloc, shelf, answer, report),
             Command::Fetches(case) => case.run(alloc, shelf, answer, report),
             Command::Audit(case) => case.run(alloc, shelf, answer, report),
             Command::Walk(case) => case.run(alloc, shelf, answer, report),
