@@ -6,6 +6,8 @@ pub mod Rows
 pub mod Differences
 pub mod Merge
 pub mod CellSteps
+pub mod MarkSteps
+pub mod RankSteps
 pub mod EntrySteps
 pub mod ChainSteps
 pub mod RowSteps

@@ -1,11 +1,12 @@
 //! Values that may be null, one after another in one run of bytes.
 
-ghost use Rattle.std.specs.Prelude.{◌≡◌, ◌++◌, ◌∷◌, [], All, Some, None, OnOk, length, slice_index_or, true, false};
+ghost use Rattle.std.specs.Prelude.{◌≡◌, ◌<◌, ◌++◌, ◌∷◌, [], All, Some, None, OnOk, length, slice_index_or, true, false};
 ghost use Rattle.column_values.specs.Order.{cell_cmp};
 ghost use Rattle.compact_record.specs.Reading.{cell_at};
 ghost use Rattle.compact_record.specs.declared.places.Place.{Place};
-ghost use Rattle.cross_index.specs.calls.Kept.{LiesIn};
+ghost use Rattle.cross_index.specs.calls.Kept.{LiesIn, LieTo, places_of_marks, value_start};
 
+use crate::numbers::Numbers;
 use column_values::{FieldType, compare};
 use compact_record::Place;
 use page_source::{NoMemory, Page};
@@ -26,33 +27,47 @@ const NULL: Place = Place {
 pub(crate) struct Cells {
     /// The bytes of all.
     bytes: Vec<u8>,
-    /// Where those of each lie.
-    places: Vec<Place>,
+    /// Twice where those of each end, and 1 more where it is null. They begin where those before them end.
+    marks: Numbers,
 }
 
 impl Model for Cells {
     ghost use Rattle.std.specs.Prelude.{map, length, All};
     ghost use Rattle.column_values.specs.Order.{Key};
     ghost use Rattle.compact_record.specs.Reading.{cell_at};
-    ghost use Rattle.cross_index.specs.calls.Kept.{LiesIn};
+    ghost use Rattle.cross_index.specs.calls.Kept.{LieTo, places_of_marks};
 
     ghost Value = { Key };
 
-    ghost view = { λ cells. map (cell_at cells.bytes.items) cells.places.items };
+    ghost view = { λ cells. map (cell_at cells.bytes.items) (places_of_marks 0 cells.marks) };
 
-    ghost invariant = { λ cells. All (LiesIn (length cells.bytes.items)) cells.places.items };
+    ghost invariant = { λ cells. LieTo 0 cells.marks (length cells.bytes.items) };
+}
+
+/// Where value `i` begins.
+fn start_of(marks: &Numbers, i: usize) -> usize
+    requires { i < length marks.now }
+    ensures { result ≡ value_start marks.now i }
+{
+    if i == 0 { 0 } else { marks.at(i - 1) / 2 }
 }
 
 /// The place of a value; null past the last.
-fn place_at(places: &[Place], i: usize, most: usize) -> Place
-    requires { All (LiesIn most) places.now }
+fn place_at(marks: &Numbers, i: usize, most: usize) -> Place
+    requires { LieTo 0 marks.now most }
     ensures lies { LiesIn most result }
-    ensures same { result ≡ slice_index_or places.now i
+    ensures same { result ≡ slice_index_or (places_of_marks 0 marks.now) i
         (record { null = true; external = false; from = 0; until = 0 }) }
 {
-    match places.get(i) {
-        Some(place) => *place,
-        None => NULL,
+    if i >= marks.len() {
+        return NULL;
+    }
+    let mark = marks.at(i);
+    Place {
+        null: mark % 2 == 1,
+        external: false,
+        from: start_of(marks, i),
+        until: mark / 2,
     }
 }
 
@@ -82,7 +97,7 @@ impl Cells {
     {
         Cells {
             bytes: Vec::new(alloc),
-            places: Vec::new(alloc),
+            marks: Numbers::new(alloc),
         }
     }
 
@@ -90,7 +105,7 @@ impl Cells {
     pub(crate) fn push_null(&mut self) -> Result<(), NoMemory>
         ensures { OnOk result (self.new ≡ self.old ++ None ∷ []) }
     {
-        self.places.push(NULL)?;
+        self.marks.push(2 * self.bytes.len() + 1)?;
         Ok(())
     }
 
@@ -100,20 +115,29 @@ impl Cells {
     {
         let from = self.bytes.len();
         self.bytes.extend_from_slice(value)?;
-        self.places.push(Place {
-            null: false,
-            external: false,
-            from,
-            until: self.bytes.len(),
-        })?;
-        Ok(())
+        match self.marks.push(2 * self.bytes.len()) {
+            Ok(()) => Ok(()),
+            Err(stop) => {
+                self.bytes.truncate(from);
+                Err(stop)
+            }
+        }
     }
 
     /// How many there are.
     pub(crate) fn len(&self) -> usize
         ensures { result ≡ length self.now }
     {
-        self.places.len()
+        self.marks.len()
+    }
+
+    /// The bytes of a value; none where it is null or past the last.
+    pub(crate) fn value(&self, i: usize) -> Option<&[u8]> {
+        let place = place_at(&self.marks, i, self.bytes.len());
+        if place.null {
+            return None;
+        }
+        Some(&self.bytes[place.from..place.until])
     }
 
     /// The order of two of them, which are of one kind; past the last there are nulls.
@@ -121,8 +145,8 @@ impl Cells {
         ensures { result ≡ cell_cmp kind.now (slice_index_or self.now a None) (slice_index_or self.now b None) }
     {
         let most = self.bytes.len();
-        let here = place_at(&self.places, a, most);
-        let there = place_at(&self.places, b, most);
+        let here = place_at(&self.marks, a, most);
+        let there = place_at(&self.marks, b, most);
         compare_cells(kind, &self.bytes, here, &self.bytes, there)
     }
 
@@ -137,7 +161,7 @@ impl Cells {
         requires { LiesIn 16384 place }
         ensures { result ≡ cell_cmp kind.now (cell_at page.now place) (slice_index_or self.now b None) }
     {
-        let there = place_at(&self.places, b, self.bytes.len());
+        let there = place_at(&self.marks, b, self.bytes.len());
         compare_cells(kind, page.bytes(), place, &self.bytes, there)
     }
 }

@@ -11,7 +11,9 @@ mod indexes;
 mod kept;
 pub mod laws;
 mod long;
+mod numbers;
 mod order;
+mod ranks;
 #[cfg(test)]
 mod tests;
 

@@ -11,6 +11,7 @@ ghost use Rattle.cross_index.specs.calls.Kept.{LiesIn, kept_key, kept_keys};
 ghost use Rattle.cross_index.specs.calls.Order.{IsOrder};
 
 use crate::cells::Cells;
+use crate::ranks::order_by_ranks;
 use column_values::{Field, FieldList};
 use compact_record::Place;
 use page_source::{NoMemory, Page};
@@ -29,7 +30,7 @@ pub(crate) struct Keys<'a> {
 }
 
 /// The number of a value of a row, as far as numbers go.
-fn cell_number(row: usize, width: usize, slot: usize) -> usize
+pub(crate) fn cell_number(row: usize, width: usize, slot: usize) -> usize
     ensures { result ≡ min (row * width + slot) (2 ^ 64 - 1) }
 {
     row.saturating_mul(width).saturating_add(slot)
@@ -118,6 +119,9 @@ pub(crate) fn order_of(alloc: Global, keys: &Keys, count: usize) -> Result<Vec<u
     ensures { IfOk result (λ order. IsOrder (key_kinds keys.now.fields.now)
         (kept_keys keys.now.cells.now keys.now.width keys.now.slots.now count) order.items) }
 {
+    if let Some(found) = order_by_ranks(alloc, keys, count)? {
+        return Ok(found);
+    }
     let mut order = numbers(alloc, count)?;
     order.sort_by(|a, b| compare_rows(keys, *a, *b))?;
     Ok(order)

@@ -1,0 +1,16 @@
+use Rattle.std.proofs.Common.{refl, arith, ◌∙◌, length, ◌≡◌, ap, ◌%◌, ◌^◌}
+use Rattle.std.proofs.lemmas.List.{length-map}
+use Rattle.compact_record.specs.Reading.{key_kinds}
+use Rattle.cross_index.proofs.RankSteps.{rows_in_order, written_over}
+use Rattle.cross_index.proofs.ranks.order_by_ranks.Goals as goal
+
+pub returns : goal.returns
+returns c =
+    let ranks = c.sort.new.ranks in
+    let same : length c.strip.new.ranks ≡ length ranks.items =
+    ap length c.strip.ensures ∙ rw c.deref_mut.ensures.value (length-map ranks.items (λ rank. rank % 2 ^ 32)) in
+    rows_in_order (key_kinds c.args.keys.now.fields.now) c.args.keys.now.cells.now c.args.keys.now.width
+    c.args.keys.now.slots.now c.in_ok-ranks.ranks.items ranks.items _ c.args.count c.in_ok-ranks.ensures
+    c.sort.ensures.places (c.if-not-sort.ensures.order refl)
+    (written_over ranks.items c.strip.new.ranks ranks.len (omega (arith, ranks.ok)) same
+    ∙ rw c.deref_mut.ensures.value at c.strip.ensures)

@@ -1,0 +1,77 @@
+//! Numbers, one after another, in four bytes each as long as they fit.
+
+ghost use Rattle.std.specs.Prelude.{◌≡◌, ◌<◌, ◌++◌, ◌∷◌, [], OnOk, OnErr, length, slice_index_or};
+
+use page_source::NoMemory;
+use std::alloc::Global;
+use std::marker::Model;
+
+/// The greatest number that has four bytes.
+const MOST: usize = 4_294_967_295;
+
+/// Numbers.
+#[derive(Debug, Drop)]
+pub(crate) struct Numbers {
+    /// Those before the first that doesn't fit four bytes.
+    small: Vec<u32>,
+    /// That one and all behind it.
+    large: Vec<usize>,
+}
+
+impl Model for Numbers {
+    ghost use Rattle.std.specs.Prelude.{ℕ, List, ◌+◌, ◌++◌, ◌<◌, ◌^◌, length};
+
+    ghost Value = { List ℕ };
+
+    ghost view = { λ numbers. numbers.small.items ++ numbers.large.items };
+
+    ghost invariant = { λ numbers. length numbers.small.items + length numbers.large.items < 2 ^ 64 };
+}
+
+impl Numbers {
+    /// None yet.
+    pub(crate) fn new(alloc: Global) -> Numbers
+        ensures { result ≡ [] }
+    {
+        Numbers {
+            small: Vec::new(alloc),
+            large: Vec::new(alloc),
+        }
+    }
+
+    /// How many there are.
+    pub(crate) fn len(&self) -> usize
+        ensures { result ≡ length self.now }
+    {
+        self.small.len() + self.large.len()
+    }
+
+    /// One more.
+    pub(crate) fn push(&mut self, number: usize) -> Result<(), NoMemory>
+        ensures ok { OnOk result (self.new ≡ self.old ++ number ∷ []) }
+        ensures err { OnErr result (self.new ≡ self.old) }
+    {
+        if number <= MOST && self.large.is_empty() {
+            self.small.push(number as u32)?;
+            return Ok(());
+        }
+        if self.small.len() + self.large.len() == usize::MAX {
+            return Err(NoMemory);
+        }
+        self.large.push(number)?;
+        Ok(())
+    }
+
+    /// Number `i`.
+    pub(crate) fn at(&self, i: usize) -> usize
+        requires { i < length self.now }
+        ensures { result ≡ slice_index_or self.now i 0 }
+    {
+        let count = self.small.len();
+        if i < count {
+            self.small[i] as usize
+        } else {
+            self.large[i - count]
+        }
+    }
+}
