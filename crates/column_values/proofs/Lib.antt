@@ -8,6 +8,7 @@ pub mod IntegerValues
 pub mod MomentValues
 pub mod Utf8Texts
 pub mod Utf8Steps
+mod Utf8Fronts
 pub mod TextValues
 pub mod Groups
 pub mod DecimalValues

@@ -1,19 +1,20 @@
 -- What a reader of a text keeps stands for the bytes that were read.
-use Rattle.std.proofs.Common.{◌≡◌, ℕ, suc, ◌+◌, ◌<◌, ◌≤◌, List, [], ◌∷◌, ◌++◌, length, take, get_or, refl, sym, ap, ◌∙◌}
+use Rattle.std.proofs.Common.{◌≡◌, ℕ, suc, ◌+◌, ◌<◌, ◌≤◌, List, [], ◌∷◌, ◌++◌, length, take, drop, get_or, refl, sym, ap, ◌∙◌}
 use Rattle.std.proofs.Common.{subst, inl, inr, arith, append_assoc, length-append}
 use Rattle.std.specs.List.{concat}
 use Rattle.std.proofs.lemmas.List.{append-nil, take_more}
+use Rattle.std.proofs.Math.Seq.{take-add}
 use Rattle.std.specs.Prelude.{Option, Some, None}
 use Rattle.std.proofs.lemmas.List.Folds.{concat-append}
-use Rattle.std.proofs.lemmas.List.Elements.{All-nil, All-push}
+use Rattle.std.proofs.lemmas.List.Elements.{All-nil, All-push, All-append}
 use Rattle.column_values.specs.declared.utf8.Joined.{Joined}
 use Rattle.column_values.specs.declared.utf8.Progress.{Progress}
 use Rattle.column_values.specs.declared.utf8.Joined.TheVariants.{Whole, Front, Neither}
 use Rattle.column_values.specs.Characters.{IsCharacter, HasCharacters}
 use Rattle.column_values.specs.Utf8Reader.{State, Bad, Good, Reader, Any, Limited, IsPending, IsCut, StandsFor, WasFed}
-use Rattle.column_values.specs.Utf8Reader.{CountsUpTo, CanFeed, IsAtEnd, TakesText}
+use Rattle.column_values.specs.Utf8Reader.{CountsUpTo, CanFeed, IsAtEnd, TakesText, IsFed}
 use Rattle.column_values.specs.Utf8View.{pending_bytes, state_of, reader_of, IsFront, Joins, state_after, StepsTo}
-use Rattle.column_values.specs.Utf8View.{CanStep}
+use Rattle.column_values.specs.Utf8View.{CanStep, RoomFor, UpTo, ReadsOn}
 use Rattle.column_values.proofs.Utf8Texts.{before, same_cut, front_pending}
 
 -- one character more
@@ -82,11 +83,6 @@ step_stands (Good count pending) new byte text step stands =
     subst (λ (s : State). StandsFor s (text ++ byte ∷ [])) (sym step.2)
     (by_joined text byte count pending step.0 stands step.1)
 
--- there is room for so many characters more
-abbrev pub RoomFor : State → ℕ → Type 0
-RoomFor Bad more = Unit {0}
-RoomFor (Good count pending) more = count + more ≤ 8589934591
-
 room_after : (count more : ℕ) (joined : Joined) → count + suc more ≤ 8589934591
     → RoomFor (state_after count joined) more
 room_after count more Whole room = omega arith
@@ -98,11 +94,6 @@ step_room Bad new byte more step room = subst (λ (s : State). RoomFor s more) (
 step_room (Good count pending) new byte more step room =
     subst (λ (s : State). RoomFor s more) (sym step.2) (room_after count more step.0 room)
 
--- the number of characters is at most this
-abbrev pub UpTo : ℕ → State → Type 0
-UpTo most Bad = Unit {0}
-UpTo most (Good count pending) = count ≤ most
-
 up_to_after : (most count : ℕ) (joined : Joined) → count ≤ most → UpTo (most + 1) (state_after count joined)
 up_to_after most count Whole low = omega arith
 up_to_after most count (Front pending) low = omega arith
@@ -112,6 +103,17 @@ pub step_up_to : (old new : State) (byte most : ℕ) → StepsTo old byte new �
 step_up_to Bad new byte most step low = subst (λ (s : State). UpTo (most + 1) s) (sym step) tt
 step_up_to (Good count pending) new byte most step low =
     subst (λ (s : State). UpTo (most + 1) s) (sym step.2) (up_to_after most count step.0 low)
+
+-- characters, and more of them
+characters_append : (text more : List ℕ) (m n : ℕ) → HasCharacters text m → HasCharacters more n
+    → HasCharacters (text ++ more) (m + n)
+characters_append text more m n first second = record {
+  characters = first.characters ++ second.characters;
+  each = All-append IsCharacter first.characters second.characters first.each second.each;
+  counted = omega (arith, length-append first.characters second.characters, first.counted, second.counted);
+  joined = ap (λ (t : List ℕ). t ++ more) first.joined ∙ ap (λ (t : List ℕ). concat first.characters ++ t) second.joined
+      ∙ sym (concat-append first.characters second.characters);
+}
 
 -- a text is a cut with nothing pending
 text_cut : (text : List ℕ) (count : ℕ) → HasCharacters text count → IsCut text count []
@@ -145,15 +147,77 @@ takes_end (Limited limit (Good count pending)) fed was (n, few, are) =
 pub nothing_read : StandsFor (Good 0 []) []
 nothing_read = text_cut [] 0 (record { characters = []; each = All-nil IsCharacter; counted = refl; joined = refl })
 
+-- no byte, one byte, and bytes in two parts
+pub reads_none : (state : State) → ReadsOn state state []
+reads_none state = record {
+  stands = λ text s. subst (StandsFor state) (sym (append-nil text)) s;
+  room = λ more r. let sum : length {A = ℕ} [] + more ≡ more = omega arith in subst (RoomFor state) sum r;
+  few = λ most low. let sum : most ≡ most + length {A = ℕ} [] = omega arith in subst (λ (n : ℕ). UpTo n state) sum low;
+}
+
+pub reads_byte : (old new : State) (byte : ℕ) → StepsTo old byte new → ReadsOn old new (byte ∷ [])
+reads_byte old new byte step = record {
+  stands = λ text s. step_stands old new byte text step s;
+  room = λ more r.
+      let sum : length (byte ∷ []) + more ≡ suc more = omega arith in
+      step_room old new byte more step (subst (RoomFor old) sum r);
+  few = λ most low. step_up_to old new byte most step low;
+}
+
+pub reads_append : (a b c : State) (xs ys : List ℕ) → ReadsOn a b xs → ReadsOn b c ys → ReadsOn a c (xs ++ ys)
+reads_append a b c xs ys first second =
+    let size = length-append xs ys in
+    record {
+      stands = λ text s. subst (StandsFor c) (append_assoc text xs ys)
+          (second.stands (text ++ xs) (first.stands text s));
+      room = λ more r.
+          let sum : length (xs ++ ys) + more ≡ length xs + (length ys + more) = omega (arith, size) in
+          second.room more (first.room (length ys + more) (subst (RoomFor a) sum r));
+      few = λ most low.
+          let sum : most + length xs + length ys ≡ most + length (xs ++ ys) = omega (arith, size) in
+          subst (λ (n : ℕ). UpTo n c) sum (second.few (most + length xs) (first.few most low));
+    }
+
 -- one byte more of a piece
-pub step_along : (old new : State) (byte i : ℕ) (text bytes : List ℕ) → StepsTo old byte new
-    → byte ≡ get_or bytes i 0 → i < length bytes
-    → StandsFor old (text ++ take i bytes) → StandsFor new (text ++ take (i + 1) bytes)
-step_along old new byte i text bytes step is below stands =
-    let more : (text ++ take i bytes) ++ byte ∷ [] ≡ text ++ take (i + 1) bytes =
-    append_assoc text (take i bytes) (byte ∷ []) ∙ ap (λ (t : List ℕ). text ++ t)
-    (rw is (sym (take_more bytes i 0 below))) in
-    subst (StandsFor new) more (step_stands old new byte (text ++ take i bytes) step stands)
+pub reads_along : (first old new : State) (byte i : ℕ) (bytes : List ℕ) → StepsTo old byte new
+    → byte ≡ get_or bytes i 0 → i < length bytes → ReadsOn first old (take i bytes)
+    → ReadsOn first new (take (i + 1) bytes)
+reads_along first old new byte i bytes step is below reads =
+    let more : take i bytes ++ byte ∷ [] ≡ take (i + 1) bytes = rw is (sym (take_more bytes i 0 below)) in
+    subst (ReadsOn first new) more (reads_append first old new (take i bytes) (byte ∷ []) reads (reads_byte old new byte step))
+
+-- a part more of it
+pub reads_part : (first old new : State) (i n : ℕ) (bytes part : List ℕ) → ReadsOn first old (take i bytes)
+    → ReadsOn old new part → part ≡ take n (drop i bytes) → ReadsOn first new (take (i + n) bytes)
+reads_part first old new i n bytes part reads more is =
+    subst (ReadsOn first new) (ap (λ (t : List ℕ). take i bytes ++ t) is ∙ sym (take-add i n bytes))
+    (reads_append first old new (take i bytes) part reads more)
+
+-- whole characters
+pub reads_characters : (count n : ℕ) (bytes : List ℕ) → HasCharacters bytes n → n ≤ length bytes
+    → ReadsOn (Good count []) (Good (count + n) []) bytes
+reads_characters count n bytes are few = record {
+  stands = λ text cut. text_cut (text ++ bytes) (count + n) (characters_append text bytes count n
+      (cut_text text count cut) are);
+  room = λ more r. omega (arith, r, few);
+  few = λ most low. omega (arith, low, few);
+}
+
+-- one character more can be counted
+pub can_step : (state : State) (n : ℕ) → 1 ≤ n → RoomFor state n → CanStep state
+can_step Bad n some room = tt
+can_step (Good count pending) n some room = omega (arith, some, room)
+
+-- what was read on is fed
+pub reads_feed : (limit : Option ℕ) (old new : Progress) (bytes : List ℕ)
+    → ReadsOn (state_of old) (state_of new) bytes → IsFed (reader_of limit old) (reader_of limit new) bytes
+reads_feed None old new bytes reads = record { fed = λ text was. tt; same = λ text. (λ t. t, λ t. t) }
+reads_feed (Some limit) old new bytes reads =
+    record { fed = λ text was. reads.stands text was; same = λ text. (λ t. t, λ t. t) }
+
+pub room_of : (limit : ℕ) (state : State) (more : ℕ) → CanFeed (Limited limit state) more → RoomFor state more
+room_of limit Bad more can = tt
+room_of limit (Good count pending) more can = can
 
 pub counts_up_to : (most limit : ℕ) (state : State) → CountsUpTo most (Limited limit state) → UpTo most state
 counts_up_to most limit Bad low = tt

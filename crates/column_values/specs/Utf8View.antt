@@ -1,5 +1,5 @@
 -- What a reader of a text keeps, as it is seen.
-use Rattle.std.specs.Prelude.{◌≡◌, ℕ, ◌+◌, ◌<◌, ◌⊎◌, List, [], ◌∷◌, ◌++◌, Option, Some, None}
+use Rattle.std.specs.Prelude.{◌≡◌, ℕ, ◌+◌, ◌<◌, ◌≤◌, ◌⊎◌, List, [], ◌∷◌, ◌++◌, length, Option, Some, None}
 use Rattle.column_values.specs.declared.utf8.Pending.{Pending}
 use Rattle.column_values.specs.declared.utf8.Pending.TheVariants.{Nothing, One, Two, Three}
 use Rattle.column_values.specs.declared.utf8.Joined.{Joined}
@@ -7,7 +7,7 @@ use Rattle.column_values.specs.declared.utf8.Joined.TheVariants.{Whole, Front, N
 use Rattle.column_values.specs.declared.utf8.Progress.{Progress}
 use Rattle.column_values.specs.declared.utf8.Progress.TheVariants as kept
 use Rattle.column_values.specs.Characters.{IsIn, IsFurther, IsStartOfThree, IsStartOfFour, IsCharacter}
-use Rattle.column_values.specs.Utf8Reader.{State, Bad, Good, Reader, Any, Limited}
+use Rattle.column_values.specs.Utf8Reader.{State, Bad, Good, Reader, Any, Limited, StandsFor}
 
 -- the bytes that are pending
 abbrev pub pending_bytes : Pending → List ℕ
@@ -55,3 +55,19 @@ StepsTo (Good count pending) byte new =
 abbrev pub CanStep : State → Type 0
 CanStep Bad = Unit {0}
 CanStep (Good count pending) = count < 8589934591
+
+-- so many more can be counted
+abbrev pub RoomFor : State → ℕ → Type 0
+RoomFor Bad more = Unit {0}
+RoomFor (Good count pending) more = count + more ≤ 8589934591
+
+-- the number of characters is at most this
+abbrev pub UpTo : ℕ → State → Type 0
+UpTo most Bad = Unit {0}
+UpTo most (Good count pending) = count ≤ most
+
+-- from one state these bytes lead to the other
+pub record ReadsOn (old new : State) (bytes : List ℕ) : Type 0 where
+  pub stands : (text : List ℕ) → StandsFor old text → StandsFor new (text ++ bytes)
+  pub room : (more : ℕ) → RoomFor old (length bytes + more) → RoomFor new more
+  pub few : (most : ℕ) → UpTo most old → UpTo (most + length bytes) new

@@ -17,6 +17,7 @@ mod powers;
 mod tests;
 mod texts;
 mod utf8;
+mod utf8_blocks;
 mod value;
 
 pub use codec::{decode, decode_number, encode, is_value};

@@ -1,11 +1,13 @@
 //! Texts of utf8mb4, which come in pieces: a character has one to four bytes.
 
-ghost use Rattle.std.specs.Prelude.{◌≡◌, ℕ, ◌+◌, ◌<◌, ◌≤◌, ◌↔◌, ◌++◌, ◌∷◌, [], List, length, IsTrue};
+ghost use Rattle.std.specs.Prelude.{◌≡◌, ℕ, ◌+◌, ◌<◌, ◌≤◌, ◌↔◌, ◌++◌, ◌∷◌, [], List, length, take, IsTrue, IfSome};
 ghost use Rattle.column_values.specs.Characters.{IsFurther, IsStartOfThree, IsStartOfFour, IsCharacter, IsTextUpTo};
 ghost use Rattle.column_values.specs.Utf8Reader.{Any, IsFed, CanFeed, IsAtEnd, CountsUpTo, WasFed, TakesText};
 ghost use Rattle.column_values.specs.Utf8Reader.{new_reader};
 ghost use Rattle.column_values.specs.Utf8View.{pending_bytes, state_of, Joins, StepsTo, CanStep};
+ghost use Rattle.column_values.specs.Utf8View.{RoomFor, ReadsOn};
 
+use crate::utf8_blocks::{BLOCK, front_of};
 use std::marker::Model;
 
 // The bytes of a character that aren't all of it.
@@ -167,6 +169,76 @@ impl Progress {
             Joined::Neither => Progress::Bad,
         }
     }
+
+    /// Reads the bytes one after another.
+    fn with_bytes(self, bytes: &[u8]) -> Progress
+        requires { RoomFor (state_of self) (length bytes.now) }
+        ensures { ReadsOn (state_of self) (state_of result) bytes.now }
+    {
+        let mut progress = self;
+        for byte in bytes {
+            progress = progress.with(*byte);
+        }
+        progress
+    }
+
+    /// Reads the characters at the front of a block, where no byte is pending and they are a text; answers how many
+    /// bytes they have.
+    fn with_front(self, block: &[u8]) -> Option<(usize, Progress)>
+        requires size { length block.now ≡ 195 }
+        requires room { RoomFor (state_of self) 195 }
+        ensures { IfSome result (λ read. (1 ≤ read.0) × (read.0 ≤ 195)
+            × ReadsOn (state_of self) (state_of read.1) (take read.0 block.now)) }
+    {
+        let Progress::Good {
+            characters,
+            pending,
+        } = self
+        else {
+            return None;
+        };
+        if !pending.is_nothing() {
+            return None;
+        }
+        let (size, count) = front_of(block)?;
+        let progress = Progress::Good {
+            characters: characters + count,
+            pending: Pending::Nothing,
+        };
+        Some((size, progress))
+    }
+
+    /// Reads the characters at the front of a block, or else its first byte; answers how many bytes it read.
+    fn with_some(self, block: &[u8]) -> (usize, Progress)
+        requires size { length block.now ≡ 195 }
+        requires room { RoomFor (state_of self) 195 }
+        ensures some { 1 ≤ result.0 }
+        ensures within { result.0 ≤ 195 }
+        ensures reads { ReadsOn (state_of self) (state_of result.1) (take result.0 block.now) }
+    {
+        match self.with_front(block) {
+            Some(read) => read,
+            None => (1, self.with(block[0])),
+        }
+    }
+
+    /// Reads the bytes in blocks, as far as there are whole ones; answers how many bytes it read.
+    fn with_blocks(self, bytes: &[u8]) -> (usize, Progress)
+        requires { RoomFor (state_of self) (length bytes.now) }
+        ensures within { result.0 ≤ length bytes.now }
+        ensures reads { ReadsOn (state_of self) (state_of result.1) (take result.0 bytes.now) }
+    {
+        let mut progress = self;
+        let mut at = 0;
+        while bytes.len() - at >= BLOCK {
+            let (_, rest) = bytes.split_at(at);
+            let (block, _) = rest.split_at(BLOCK);
+            let (size, next) = progress.with_some(block);
+            progress = next;
+            at += size;
+        }
+        (at, progress)
+    }
 }
 
 impl Utf8 {
@@ -206,11 +278,9 @@ impl Utf8 {
         let Some(_) = self.limit else {
             return;
         };
-        let mut progress = self.progress;
-        for byte in bytes {
-            progress = progress.with(*byte);
-        }
-        self.progress = progress;
+        let (at, progress) = self.progress.with_blocks(bytes);
+        let (_, rest) = bytes.split_at(at);
+        self.progress = progress.with_bytes(rest);
     }
 
     fn is_at_end(&self) -> bool
