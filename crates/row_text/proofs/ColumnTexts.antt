@@ -1,5 +1,5 @@
 -- The text of a value, or of no value, at the head of a text.
-use Rattle.std.proofs.Common.{◌≡◌, ℕ, List, ◌++◌, true, false, Result, Ok, Err, inl, inr, sym, ap, ◌∙◌}
+use Rattle.std.proofs.Common.{◌≡◌, ℕ, List, ◌++◌, false, Result, Ok, Err, inl, inr, sym, ap, ◌∙◌}
 use Rattle.std.specs.Prelude.{codes}
 use Rattle.std.proofs.lemmas.Bool.{false≢true}
 use Rattle.column_values.specs.declared.value.Value.{Value}

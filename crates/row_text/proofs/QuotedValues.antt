@@ -1,5 +1,5 @@
 -- Values that stand in quotes.
-use Rattle.std.proofs.Common.{◌≡◌, ◌≢◌, ℕ, ◌-◌, List, ◌++◌, length, true}
+use Rattle.std.proofs.Common.{◌≡◌, ℕ, ◌-◌, List, ◌++◌, length, true}
 use Rattle.std.proofs.Common.{refl, sym, ap, ◌∙◌, subst, replicate}
 use Rattle.std.proofs.lemmas.Bool.{false≢true}
 use Rattle.page_source.specs.Pages.{AreBytes}

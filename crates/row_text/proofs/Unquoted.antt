@@ -1,27 +1,19 @@
 -- A text in quotes that is read piece by piece.
-use Rattle.std.proofs.Common.{◌≡◌, ◌≢◌, ℕ, ◌+◌, ◌-◌, ◌<◌, ◌≤◌, List, [], ◌∷◌, ◌++◌, length, take, drop}
-use Rattle.std.proofs.Common.{set, refl, sym, ap, ◌∙◌, arith, append_assoc, length-append}
-use Rattle.std.proofs.lemmas.List.{drop_at, drop-drop, take_more_set, take-append-drop}
+use Rattle.std.proofs.Common.{◌≡◌, ◌≢◌, ℕ, ◌+◌, ◌-◌, ◌<◌, List, [], ◌∷◌, ◌++◌, length, take, drop}
+use Rattle.std.proofs.Common.{set, subst, refl, sym, ap, ◌∙◌, arith, append_assoc, length-append}
+use Rattle.std.proofs.lemmas.List.{drop_at, drop-drop, length-drop, length-set, take_more_set, take-append-drop}
 use Rattle.row_text.specs.Values.{escaped, escaped_text, quoted, IsPlain}
-use Rattle.row_text.specs.calls.Texts.{LeadsByte, LeadsNoByte, TakesText}
+use Rattle.row_text.specs.calls.Texts.{LeadsByte, LeadsNoByte, IsWritten, TakesText}
 use Rattle.row_text.proofs.Escapes.{escaped_append, escaped_plain, alone}
 use Rattle.row_text.proofs.Quotes.{left_of}
 
--- so many bytes stand in the room, and so many of the text were read
-pub record IsWritten (text room : List ℕ) (n at : ℕ) : Type 0 where
-  pub same : text ≡ escaped_text (take n room) ++ drop at text
-  pub least : n ≤ at
-  pub within : at ≤ length text
-  pub none : n ≡ 0 → at ≡ 0
-
 pub written_none : (text room : List ℕ) → IsWritten text room 0 0
 unfolding escaped_text
-written_none text room = record { same = refl; least = omega arith; within = omega arith; none = λ e. e }
+written_none text room = record { same = refl; wrote = omega arith; read = omega arith }
 
-pub written_more : (text room rest : List ℕ) (n at byte size : ℕ) → n < length room → IsWritten text room n at
-    → rest ≡ drop at text → LeadsByte byte size rest → at + size ≤ length text
-    → IsWritten text (set room n byte) (n + 1) (at + size)
-written_more text room rest n at byte size lt is left leads within =
+written_byte : (text room rest : List ℕ) (n at byte size : ℕ) → n < length room → IsWritten text room n at
+    → rest ≡ drop at text → LeadsByte byte size rest → IsWritten text (set room n byte) (n + 1) (at + size)
+written_byte text room rest n at byte size lt is left leads =
     let whole : drop at text ≡ escaped byte ++ drop (at + size) text = sym left ∙ leads.spelled
     ∙ ap (λ (t : List ℕ). escaped byte ++ drop size t) left ∙ ap (λ (t : List ℕ). escaped byte ++ t) (drop-drop size at text) in
     let longer : escaped_text (take (n + 1) (set room n byte)) ≡ escaped_text (take n room) ++ escaped byte =
@@ -30,10 +22,36 @@ written_more text room rest n at byte size lt is left leads within =
       same = is.same ∙ ap (λ (t : List ℕ). escaped_text (take n room) ++ t) whole
           ∙ sym (append_assoc (escaped_text (take n room)) (escaped byte) (drop (at + size) text))
           ∙ ap (λ (t : List ℕ). t ++ drop (at + size) text) (sym longer);
-      least = omega (arith, is.least, leads.some);
-      within = within;
-      none = λ e. absurd (omega (arith, e));
+      wrote = omega (arith, lt, length-set room n byte);
+      read = omega (arith, is.read, leads.within, ap length left, length-drop at text);
     }
+
+pub written_more : (text room rest : List ℕ) (n at byte size more up : ℕ) → n < length room → IsWritten text room n at
+    → rest ≡ drop at text → LeadsByte byte size rest → n + 1 ≡ more → at + size ≡ up
+    → IsWritten text (set room n byte) more up
+written_more text room rest n at byte size more up lt is left leads e f =
+    subst (λ (k : ℕ). IsWritten text (set room n byte) k up) e
+    (subst (λ (k : ℕ). IsWritten text (set room n byte) (n + 1) k) f
+    (written_byte text room rest n at byte size lt is left leads))
+
+-- the bytes that stand in the room were taken
+pub written_taken : (old new text room rest : List ℕ) (n at : ℕ) → IsWritten text room n at
+    → new ≡ old ++ take n room → rest ≡ drop at text → TakesText old new text rest
+written_taken old new text room rest n at is grown back = record {
+  bytes = take n room;
+  grown = grown;
+  spelled = is.same ∙ ap (λ (t : List ℕ). escaped_text (take n room) ++ t) (sym back);
+}
+
+-- the byte at the head was
+pub byte_taken : (old new text rest : List ℕ) (byte size : ℕ) → LeadsByte byte size text → new ≡ old ++ byte ∷ []
+    → rest ≡ drop size text → TakesText old new text rest
+byte_taken old new text rest byte size leads grown back = record {
+  bytes = byte ∷ [];
+  grown = grown;
+  spelled = leads.spelled ∙ ap (λ (t : List ℕ). escaped byte ++ t) (sym back)
+      ∙ ap (λ (t : List ℕ). t ++ rest) (sym (alone byte));
+}
 
 -- a front of bytes that stand for themselves
 pub plain_taken : (old new text plain rest : List ℕ) (n : ℕ) → IsPlain (take n text) → plain ≡ take n text

@@ -1,12 +1,12 @@
 //! Texts in quotes, which are read in pieces and each once.
 
-ghost use Rattle.std.specs.Prelude.{◌≡◌, ◌≢◌, ℕ, ◌<◌, ◌≤◌, ◌↔◌, ◌⊎◌, ◌++◌, true, length, take, drop, MatchOption, IsTrue, IfOk};
+ghost use Rattle.std.specs.Prelude.{◌≡◌, ◌≢◌, ℕ, ◌+◌, ◌*◌, ◌≤◌, ◌↔◌, true, length, MatchOption, IfSome, IsTrue, IfOk};
 ghost use Rattle.column_values.specs.declared.value.Value.{Value};
 ghost use Rattle.column_values.specs.Types.{IsColumnType};
 ghost use Rattle.column_values.specs.Spell.{IsTrimmed, IsValueOf};
 ghost use Rattle.row_text.specs.Values.{escape_letter, escaped_text};
 ghost use Rattle.row_text.specs.calls.Values.{EndsValue, FindsValue};
-ghost use Rattle.row_text.specs.calls.Texts.{FindsText, LeadsByte, LeadsNoByte, TakesText, is_quoted};
+ghost use Rattle.row_text.specs.calls.Texts.{FindsText, LeadsByte, LeadsNoByte, IsWritten, TakesText, is_quoted};
 
 use crate::bytes::{is_escaped, plain_front};
 use crate::ends::behind;
@@ -15,8 +15,11 @@ use column_values::{ColumnType, Value, is_value};
 use page_source::{ByteList, NoMemory};
 use std::alloc::Global;
 
-/// How many bytes of a text with escapes are read at a time.
-const PIECE: usize = 64;
+/// How many bytes of a text are read at a time that stand for themselves.
+const PLAIN: usize = 16384;
+
+/// How many bytes of a text with escapes are written at a time.
+const PIECE: usize = 256;
 
 /// The byte that the letter stands for behind a backslash.
 fn byte_of(letter: u8) -> Option<u8>
@@ -51,43 +54,97 @@ fn first_byte(text: &[u8]) -> Option<(u8, usize)>
     Some((byte, 2))
 }
 
-/// Fills the room with the bytes that a text begins with, one after another, as far as there are any; answers how many
+/// The byte that a text begins with, where it stands for itself.
+fn plain_byte(text: &[u8]) -> Option<u8>
+    ensures { IfSome result (λ byte. LeadsByte byte 1 text.now) }
+{
+    if text.is_empty() || is_escaped(text[0]) {
+        return None;
+    }
+    Some(text[0])
+}
+
+/// The byte that a text begins with, where it stands behind a backslash.
+fn escaped_byte(text: &[u8]) -> Option<u8>
+    ensures { IfSome result (λ byte. LeadsByte byte 2 text.now) }
+{
+    if text.len() < 2 || text[0] != b'\\' {
+        return None;
+    }
+    byte_of(text[1])
+}
+
+/// Goes on writing into the room, from its place `n`, the bytes of the text from `at` on, as long as they stand for
+/// themselves; answers how many.
+fn write_plain(text: &[u8], at: usize, room: &mut [u8], n: usize) -> usize
+    requires written { IsWritten text.now room.old n at }
+    ensures written { IsWritten text.now room.new (n + result) (at + result) }
+    ensures same { length room.new ≡ length room.old }
+{
+    let most = (text.len() - at).min(room.len() - n);
+    for i in 0..most {
+        let (_, rest) = text.split_at(at + i);
+        let Some(byte) = plain_byte(rest) else {
+            return i;
+        };
+        room[n + i] = byte;
+    }
+    most
+}
+
+/// The same, as long as they stand behind backslashes.
+fn write_escapes(text: &[u8], at: usize, room: &mut [u8], n: usize) -> usize
+    requires written { IsWritten text.now room.old n at }
+    ensures written { IsWritten text.now room.new (n + result) (at + 2 * result) }
+    ensures same { length room.new ≡ length room.old }
+{
+    let most = ((text.len() - at) / 2).min(room.len() - n);
+    for i in 0..most {
+        let (_, rest) = text.split_at(at + 2 * i);
+        let Some(byte) = escaped_byte(rest) else {
+            return i;
+        };
+        room[n + i] = byte;
+    }
+    most
+}
+
+/// Fills the room with the bytes that a text begins with, runs of plain ones and of escapes by turns; answers how many
 /// bytes of the text it read, and how many it wrote.
 fn write_text(text: &[u8], room: &mut [u8]) -> (usize, usize)
-    ensures read { result.0 ≤ length text.now }
-    ensures wrote { result.1 ≤ length room.new }
+    ensures written { IsWritten text.now room.new result.1 result.0 }
     ensures same { length room.new ≡ length room.old }
-    ensures bytes { text.now ≡ escaped_text (take result.1 room.new) ++ drop result.0 text.now }
-    ensures least { result.1 ≤ result.0 }
-    ensures none { result.1 ≡ 0 → 0 < length room.old → LeadsNoByte text.now }
 {
     let mut at = 0;
-    for n in 0..room.len() {
-        let (_, rest) = text.split_at(at);
-        let Some((byte, size)) = first_byte(rest) else {
+    let mut n = 0;
+    while n < room.len() {
+        let plain = write_plain(text, at, room, n);
+        at += plain;
+        n += plain;
+        let escapes = write_escapes(text, at, room, n);
+        at += 2 * escapes;
+        n += escapes;
+        if escapes == 0 {
             return (at, n);
-        };
-        room[n] = byte;
-        at += size;
+        }
     }
-    (at, room.len())
+    (at, n)
 }
 
 /// Adds the bytes at the head of a text that stand for themselves, by whole runs, and answers what is left.
 fn add_plain<'a>(list: &mut ByteList, text: &'a [u8]) -> Result<&'a [u8], NoMemory>
     ensures takes { IfOk result (λ rest. TakesText list.old list.new text.now rest.now) }
-    ensures most { IfOk result (λ rest. (length rest.now < length text.now) ⊎ (rest.now ≡ text.now)) }
+    ensures most { IfOk result (λ rest. length rest.now ≤ length text.now) }
 {
-    let (plain, rest) = text.split_at(plain_front(text));
+    let (front, _) = text.split_at(text.len().min(PLAIN));
+    let (plain, rest) = text.split_at(plain_front(front));
     list.extend(plain)?;
     Ok(rest)
 }
 
-/// Adds the bytes that a text begins with, so many at the most and one at the least where there is one, and answers
-/// what is left.
+/// Adds the bytes that a text begins with, as many as a piece has room for at the most, and answers what is left.
 fn add_some<'a>(list: &mut ByteList, text: &'a [u8]) -> Result<&'a [u8], NoMemory>
     ensures takes { IfOk result (λ rest. TakesText list.old list.new text.now rest.now) }
-    ensures some { IfOk result (λ rest. ¬ (LeadsNoByte text.now) → length rest.now < length text.now) }
     ensures most { IfOk result (λ rest. length rest.now ≤ length text.now) }
 {
     let mut room = [0; PIECE];
@@ -106,8 +163,10 @@ fn unquoted(alloc: Global, text: &[u8]) -> Result<(ByteList, usize), RowError>
         return Err(RowError::Refused);
     };
     let mut list = ByteList::new(alloc);
-    while let Some(_) = first_byte(rest) {
-        let more = add_plain(&mut list, rest)?;
+    while let Some((byte, size)) = first_byte(rest) {
+        list.push(byte)?;
+        let (_, behind_byte) = rest.split_at(size);
+        let more = add_plain(&mut list, behind_byte)?;
         rest = add_some(&mut list, more)?;
     }
     let Some(behind_quote) = behind(rest, b"'") else {

@@ -1,5 +1,5 @@
 -- Texts in quotes.
-use Rattle.std.specs.Prelude.{◌≡◌, ◌≢◌, ℕ, ◌≤◌, Bool, true, ⊤, List, ◌++◌, length, drop, Result, Ok, Err}
+use Rattle.std.specs.Prelude.{◌≡◌, ◌≢◌, ℕ, ◌≤◌, Bool, true, ⊤, List, ◌++◌, length, take, drop, Result, Ok, Err}
 use Rattle.column_values.specs.declared.kind.ColumnType.{ColumnType}
 use Rattle.column_values.specs.declared.kind.ColumnType.TheVariants.{Char}
 use Rattle.row_text.specs.declared.row.RowError.{RowError}
@@ -27,6 +27,12 @@ pub record LeadsByte (byte size : ℕ) (text : List ℕ) : Type 0 where
 -- no byte of a text stands at the head
 abbrev pub LeadsNoByte : List ℕ → Type 0
 LeadsNoByte text = (byte : ℕ) (rest : List ℕ) → text ≢ escaped byte ++ rest
+
+-- the first bytes of the room stand at the head of the text, up to there
+pub record IsWritten (text room : List ℕ) (n at : ℕ) : Type 0 where
+  pub same : text ≡ escaped_text (take n room) ++ drop at text
+  pub wrote : n ≤ length room
+  pub read : at ≤ length text
 
 -- a list grew by the bytes that a text begins with, and this is the rest
 pub record TakesText (old new text rest : List ℕ) : Type 0 where

@@ -2,8 +2,8 @@ use Rattle.std.proofs.Common.{◌≡◌, ◌∷◌, ◌++◌, length}
 use Rattle.row_text.specs.Values.{escaped_text}
 use Rattle.row_text.proofs.read_texts.unquoted.Given as goal
 
-abbrev pub invariant-loop-list : goal.invariant-loop-list
-invariant-loop-list l = l.text ≡ 39 ∷ (escaped_text l.list ++ l.rest)
+abbrev pub invariant-loop-byte : goal.invariant-loop-byte
+invariant-loop-byte l = l.text ≡ 39 ∷ (escaped_text l.list ++ l.rest)
 
-abbrev pub decreases-loop-list : goal.decreases-loop-list
-decreases-loop-list l = length l.rest
+abbrev pub decreases-loop-byte : goal.decreases-loop-byte
+decreases-loop-byte l = length l.rest

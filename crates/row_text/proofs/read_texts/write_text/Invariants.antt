@@ -1,5 +1,12 @@
-use Rattle.row_text.proofs.Unquoted.{IsWritten}
+use Rattle.std.proofs.Common.{◌≡◌, ◌-◌, length}
+use Rattle.row_text.specs.calls.Texts.{IsWritten}
 use Rattle.row_text.proofs.read_texts.write_text.Given as goal
 
 abbrev pub invariant-loop-n : goal.invariant-loop-n
-invariant-loop-n l = IsWritten l.text l.room l.n l.at
+invariant-loop-n l = record {
+  written : IsWritten l.text l.room l.n l.at;
+  same : length l.room ≡ length l.fn.room;
+}
+
+abbrev pub decreases-loop-n : goal.decreases-loop-n
+decreases-loop-n l = length l.room - l.n
