@@ -35,7 +35,7 @@ pub fn read_inodes<S: PageSource, L: Ledger>(
     ensures kept { IfOk result (λ inodes. OfFile S.PageSource source.old (λ file. AreKept file inodes)) }
     ensures pages { IfOk result (λ inodes. length inodes.pages ≡ header.now.size) }
     ensures cost { IfOk result (λ inodes. steps.new + unmarked inodes.pages ≤ steps.old + header.now.size) }
-    ensures bound { steps.new ≤ steps.old + header.now.size + 1 }
+    ensures bound { steps.new ≤ steps.old + header.now.size }
     ensures over { StopsOver S.PageSource source.old source.new steps.old steps.new result }
 {
     let lists = Lists { header, fragments };

@@ -127,7 +127,7 @@ impl Lists<'_> {
         ensures below { OnOk result (step.now.address.page < length inodes.now.pages) }
         ensures new { OnOk result (flag_in inodes.now.pages step.now.address.page ≡ false) }
         ensures cost { OnOk result (steps.new ≡ steps.old + 1) }
-        ensures bound { steps.new ≤ steps.old + 1 }
+        ensures bound { steps.new ≤ steps.old + unmarked inodes.now.pages }
         ensures over { StopsOver S.PageSource source.old source.new steps.old steps.new result }
     {
         if !self.may_go(&step.address, inodes) {
@@ -170,7 +170,7 @@ impl Lists<'_> {
             Grew file (list_pages file (inode_list self.now.header.now full)) inodes.old inodes.new)) }
         ensures size { OnOk result (length inodes.new.pages ≡ length inodes.old.pages) }
         ensures cost { OnOk result (steps.new + unmarked inodes.new.pages ≡ steps.old + unmarked inodes.old.pages) }
-        ensures bound { steps.new ≤ steps.old + unmarked inodes.old.pages + 1 }
+        ensures bound { steps.new ≤ steps.old + unmarked inodes.old.pages }
         ensures over { StopsOver S.PageSource source.old source.new steps.old steps.new result }
     {
         let base = self.base(full);
@@ -213,7 +213,7 @@ impl Lists<'_> {
         ensures kept { OnOk result (OfFile S.PageSource source.old (λ file. AreKept file inodes.new)) }
         ensures size { OnOk result (length inodes.new.pages ≡ self.now.header.now.size) }
         ensures cost { OnOk result (steps.new + unmarked inodes.new.pages ≡ steps.old + self.now.header.now.size) }
-        ensures bound { steps.new ≤ steps.old + self.now.header.now.size + 1 }
+        ensures bound { steps.new ≤ steps.old + self.now.header.now.size }
         ensures over { StopsOver S.PageSource source.old source.new steps.old steps.new result }
     {
         self.walk(source, true, inodes, page, steps)?;

@@ -92,6 +92,10 @@ frame_stops file n stops.Source below h = tt
 frame_stops file n stops.Memory below h = tt
 
 -- the pages that are fetched
+cost_none : (b : Bool) (old new : ℕ) → new ≡ old → (b ≡ true → false ≡ true) → new + 1 ≤ old + cond b 0 1 + 0
+cost_none true old new same listed = absurd (false≢true (listed refl))
+cost_none false old new same listed = omega (arith, same)
+
 more : (pages : List Bool) (n : ℕ) → n < length pages → (b : Bool) → flag_in pages n ≡ b
     → count_by not (take (n + 1) pages) ≡ count_by not (take n pages) + cond b 0 1
 more pages n h true e = count_by_more_no not pages n false h (ap not e) ∙ omega arith
@@ -100,6 +104,13 @@ more pages n h false e = count_by_more_yes not pages n false h (ap not e)
 pub cost_more : (pages : List Bool) (n : ℕ) → n < length pages
     → count_by not (take (n + 1) pages) ≡ count_by not (take n pages) + fetches_at pages n
 cost_more pages n h = more pages n h (flag_in pages n) refl
+
+pub cost_used : (pages : List Bool) (n : ℕ) (found : Option ℕ) (old new : ℕ)
+    → new ≤ old + fetches_at pages n → (found ≡ None → new ≡ old)
+    → (flag_in pages n ≡ true → is_some found ≡ true)
+    → new + 1 ≤ old + fetches_at pages n + cond (is_some found) 1 0
+cost_used pages n (Some kind) old new few none listed = omega (arith, few)
+cost_used pages n None old new few none listed = cost_none (flag_in pages n) old new (none refl) listed
 
 pub cost_all : (pages : List Bool) (n : ℕ) → count_by not (take n pages) ≤ unmarked pages
 cost_all pages n =

@@ -133,6 +133,10 @@ SpaceChecks file =
 abbrev pub audit_steps : ℕ → ℕ
 audit_steps pages = pages + pages / 32 + pages / 16384 + 4
 
+-- the most pages that it fetches where so many are used: these, page 0 once more, and the descriptor pages once more
+abbrev pub audit_fetches : ℕ → ℕ → ℕ
+audit_fetches pages used = used + 1 + (pages / 16384 + 1)
+
 -- the head, the descriptor pages and the extents are sound
 pub record HasExtents (file : List ℕ) (flags : ℕ) : Type 0 where
   pub head : IsHead file flags

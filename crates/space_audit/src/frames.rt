@@ -1,7 +1,7 @@
 //! The frames and the types of the used pages (rules 25 and 26).
 
 ghost use Rattle.std.specs.Prelude.{◌≡◌, ◌↔◌, ◌<◌, ◌≤◌, ◌+◌, ◌++◌, ◌∷◌, [], List, ℕ, length};
-ghost use Rattle.std.specs.Prelude.{IsTrue, IfOk, OnOk, if◌then◌else◌, is_some};
+ghost use Rattle.std.specs.Prelude.{IsTrue, IfOk, OnOk, Ok, None, true, if◌then◌else◌, is_some};
 ghost use Rattle.std.specs.Option.{unwrap_or};
 ghost use Rattle.page_source.specs.Pages.{page_of, page_count};
 ghost use Rattle.page_source.specs.Lists.{flag_in, unmarked};
@@ -83,6 +83,8 @@ pub(crate) fn check_frames<S: PageSource, L: Ledger>(
         (λ file. AreKinds file (length owners.now) found.kinds.items found.used)) }
     ensures count { IfOk result (λ found. length found.kinds.items ≡ length owners.now) }
     ensures cost { steps.new ≤ steps.old + unmarked inodes.now.pages }
+    ensures used { IfOk result (λ found.
+        steps.new + length owners.now ≤ steps.old + unmarked inodes.now.pages + found.used) }
     ensures over { StopsOver S.PageSource source.old source.new steps.old steps.new result }
 {
     used_pages_are_of_extents();
@@ -111,6 +113,8 @@ fn find_kind<S: PageSource, L: Ledger>(
     ensures exact { OfFile S.PageSource source.old (λ file. Answers result (FrameCheck file n)) }
     ensures kind { IfOk result (λ found. OfFile S.PageSource source.old (λ file. IsKind file n found)) }
     ensures cost { steps.new ≤ steps.old + fetches_at inodes.now.pages n }
+    ensures unused { result ≡ Ok None → steps.new ≡ steps.old }
+    ensures listed { IfOk result (λ found. flag_in inodes.now.pages n ≡ true → is_some found ≡ true) }
     ensures over { StopsOver S.PageSource source.old source.new steps.old steps.new result }
 {
     if inodes.is_inode_page(n) {

@@ -13,7 +13,7 @@ ghost use Rattle.space_audit.specs.Lists.{AreHomes, ListChecks};
 ghost use Rattle.space_audit.specs.Owners.{AreOwners};
 ghost use Rattle.space_audit.specs.Holders.{AreHeld, claims_in, first_holder};
 ghost use Rattle.space_audit.specs.Audit.{AuditChecks, SpaceChecks, PagesChecks, OwnershipChecks, UseChecks};
-ghost use Rattle.space_audit.specs.Audit.{audit_steps};
+ghost use Rattle.space_audit.specs.Audit.{audit_steps, audit_fetches};
 ghost use Rattle.space_audit.specs.Space.{IsAuditOf};
 ghost use Rattle.space_audit.specs.Read.{IsRead, IsSpaceOf};
 
@@ -50,6 +50,8 @@ pub fn audit<S: PageSource, L: Ledger>(
     ensures audited { IfOk result (λ space. OfFile S.PageSource source.old (λ file. IsAuditOf file space)) }
     ensures told { OfFile S.PageSource source.old (λ file. steps.new ≤ steps.old + audit_steps (page_count file)) }
     ensures sized { IfOk result (λ space. steps.new ≤ steps.old + audit_steps space.size) }
+    ensures fetches { IfOk result (λ space.
+        S.fetches source.new ≤ S.fetches source.old + audit_fetches space.size space.used) }
     ensures most { steps.new ≤ steps.old + audit_steps 4194304 }
     ensures over { StopsOver S.PageSource source.old source.new steps.old steps.new result }
 {
@@ -72,6 +74,8 @@ fn audit_space<S: PageSource, L: Ledger>(
     ensures audited { IfOk result (λ space. OfFile S.PageSource source.old (λ file. IsSpaceOf file space)) }
     ensures size { IfOk result (λ space. space.size ≡ header.now.size) }
     ensures cost { steps.new + 1 ≤ steps.old + audit_steps header.now.size }
+    ensures fetches { IfOk result (λ space.
+        S.fetches source.new + 1 ≤ S.fetches source.old + audit_fetches header.now.size space.used) }
     ensures over { StopsOver S.PageSource source.old source.new steps.old steps.new result }
 {
     descriptor_checks_are_sound();
@@ -101,6 +105,8 @@ fn audit_pages<S: PageSource, L: Ledger>(
     ensures audited { IfOk result (λ space. OfFile S.PageSource source.old (λ file. IsSpaceOf file space)) }
     ensures size { IfOk result (λ space. space.size ≡ header.now.size) }
     ensures cost { steps.new ≤ steps.old + 2 * length extents.now + unmarked inodes.pages }
+    ensures fetches { IfOk result (λ space.
+        S.fetches source.new + header.now.size ≤ S.fetches source.old + unmarked inodes.pages + space.used) }
     ensures over { StopsOver S.PageSource source.old source.new steps.old steps.new result }
 {
     used_pages_are_of_extents();

@@ -1,9 +1,10 @@
-use Rattle.std.proofs.Common.{◌+◌, ◌<◌, length, is_some, ◌∷◌, [], ap, length-append, None, ◌∙◌, arith, below_more}
+use Rattle.std.proofs.Common.{◌+◌, ◌<◌, length, is_some, ◌∷◌, [], ap, length-append, None, Ok, ◌∙◌, arith, below_more}
 use Rattle.std.proofs.lemmas.Result.{err_from_is_err_and}
 use Rattle.std.specs.Option.{unwrap_or}
 use Rattle.page_source.proofs.Told.{told2}
 use Rattle.space_audit.specs.Audit.{FrameCheck}
-use Rattle.space_audit.proofs.PageFrames.{frame_stops, cost_more, cost_all, kinds_more, frames_hold, one_at_most}
+use Rattle.space_audit.proofs.PageFrames.{frame_stops, cost_more, cost_used, cost_all, kinds_more, frames_hold}
+use Rattle.space_audit.proofs.PageFrames.{one_at_most}
 use Rattle.space_audit.proofs.frames.check_frames.Goals as goal
 
 pub returns-in_err-kind-clause-exact : goal.returns-in_err-kind-clause-exact
@@ -44,6 +45,14 @@ loop-n-preserved g c =
       cost = omega (arith, c.in_ok-kind.ensures.cost, i.cost, cost_more pages n inside);
       count = ap length c.in_ok-push.ensures.kinds
           ∙ (length-append c.loop-n.kinds.kinds.items (unwrap_or c.in_ok-kind.kind 0 ∷ []) ∙ ap (λ k. k + 1) i.count);
+      used = omega (
+        arith,
+        i.used,
+        c.in_ok-push.ensures.used,
+        cost_more pages n inside,
+        cost_used pages n c.in_ok-kind.kind c.loop-n.steps c.find_kind.new.steps c.in_ok-kind.ensures.cost
+            (λ none. c.in_ok-kind.ensures.unused (ap Ok none)) c.in_ok-kind.ensures.listed,
+      );
       few = omega (arith, c.in_ok-push.ensures.used, one_at_most (is_some c.in_ok-kind.kind), i.few);
       checks = told2 o (λ file below here. below_more (λ j. FrameCheck file j None) n below here) i.checks checked;
       kinds = told2 o (λ file so_far here. rw (c.in_ok-push.ensures.kinds, c.in_ok-push.ensures.used)

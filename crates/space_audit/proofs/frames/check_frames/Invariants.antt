@@ -1,4 +1,4 @@
-use Rattle.std.proofs.Common.{◌≡◌, ℕ, ◌+◌, ◌≤◌, length, take, count_by, not, IfSome}
+use Rattle.std.proofs.Common.{◌≡◌, ◌+◌, ◌≤◌, length, take, count_by, not, IfSome}
 use Rattle.page_source.specs.Verdict.{AllBelow}
 use Rattle.page_source.specs.Calls.{AsksNoMore}
 use Rattle.space_audit.specs.Audit.{FrameCheck}
@@ -13,6 +13,7 @@ invariant-loop-n g l = record {
   cost : l.steps ≤ l.fn.steps + count_by not (take l.n l.inodes.pages);
   count : length l.kinds.kinds.items ≡ l.n;
   few : l.kinds.used ≤ l.n;
+  used : l.steps + l.n ≤ l.fn.steps + count_by not (take l.n l.inodes.pages) + l.kinds.used;
   checks : IfSome (g.S.PageSource.content l.fn.source) (λ file. AllBelow (FrameCheck file) l.n);
   kinds : IfSome (g.S.PageSource.content l.fn.source) (λ file. AreKinds file l.n l.kinds.kinds.items l.kinds.used);
 }
