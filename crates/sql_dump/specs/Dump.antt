@@ -1,5 +1,5 @@
 -- The text of a table's rows, and what a dump did.
-use Rattle.std.specs.Prelude.{◌≡◌, ◌≤◌, ℕ, List, Option, Some, None, Result, Ok, Err}
+use Rattle.std.specs.Prelude.{◌≡◌, ◌≤◌, ◌+◌, ℕ, List, length, Option, Some, None, Result, Ok, Err}
 use Rattle.page_source.specs.declared.objects.PageSource.{Ghosts as FileOf}
 use Rattle.page_source.specs.declared.objects.ByteSink.{Ghosts as SinkOf}
 use Rattle.page_source.specs.Faults.{Rose}
@@ -8,9 +8,12 @@ use Rattle.page_source.specs.Calls.{AsksNoMore}
 use Rattle.column_values.specs.declared.value.Value.{Value}
 use Rattle.schema_text.specs.TableDef.{TableDef}
 use Rattle.row_text.specs.Line.{text_of}
+use Rattle.tree_walk.specs.Index.{leaf_pages}
 use Rattle.table_check.specs.declared.table.Checked.{Checked}
 use Rattle.table_check.specs.First.{First, IsChecked}
 use Rattle.table_check.specs.Rows.{AreRows}
+use Rattle.table_check.specs.Trees.{clustered_tree}
+use Rattle.table_check.specs.Values.{all_chain_pages}
 use Rattle.table_check.specs.Valid.{IsValid}
 use Rattle.sql_dump.specs.declared.stop.DumpStop.{DumpStop}
 use Rattle.sql_dump.specs.declared.stop.DumpStop.TheVariants.{Broken, Source, Sink, Memory}
@@ -20,6 +23,11 @@ pub record IsDumpOf (file : List ℕ) (table : TableDef) (text : List ℕ) : Typ
   pub rows : List (List Value)
   pub are : AreRows file table rows
   pub is : text ≡ text_of table rows
+
+-- how many pages the rows are read of: the leaves, and the pages in which long values go on
+abbrev pub row_pages : List ℕ → TableDef → ℕ
+row_pages file table =
+    length (leaf_pages (clustered_tree file table)) + length (all_chain_pages (clustered_tree file table))
 
 -- a text grew by the dump, and by a prefix of it
 abbrev pub GrewByDump : List ℕ → TableDef → Option (List ℕ) → Option (List ℕ) → Type 0

@@ -2,8 +2,9 @@
 
 ghost use Rattle.std.specs.Prelude.{◌≤◌, ◌+◌, IfOk};
 ghost use Rattle.page_source.specs.Calls.{OfFile};
-ghost use Rattle.table_check.specs.First.{TakesSteps, AsksAtMost, dump_steps};
-ghost use Rattle.sql_dump.specs.Dump.{Dumps, DumpsOver};
+ghost use Rattle.page_source.specs.Pages.{page_count};
+ghost use Rattle.table_check.specs.First.{TakesSteps, AsksAtMost, check_steps, dump_steps};
+ghost use Rattle.sql_dump.specs.Dump.{Dumps, DumpsOver, row_pages};
 ghost use Rattle.sql_dump.specs.SomeRows.{GrowsByRows};
 
 use crate::buffer::Buffer;
@@ -38,6 +39,8 @@ pub fn dump<S: PageSource, O: ByteSink, L: Ledger>(
         steps.old steps.new result }
     ensures steps { TakesSteps S.PageSource source.old dump_steps steps.old steps.new }
     ensures fetches { AsksAtMost S.PageSource source.old source.new dump_steps }
+    ensures again { OfFile S.PageSource source.old (λ file. S.fetches source.new
+        ≤ S.fetches source.old + check_steps (page_count file) + row_pages file schema.now) }
     ensures sized { IfOk result (λ checked. steps.new ≤ steps.old + dump_steps checked.pages) }
 {
     schema_is_table(schema);
