@@ -1,7 +1,9 @@
 -- A row on its leaf and the columns of it: where they lie, and what is read there.
 use Rattle.std.specs.Prelude.{◌≡◌, ℕ, ◌<◌, true, false, ◌≤◌, List, length, map, flat_map, slice_index_or}
-use Rattle.std.specs.Prelude.{All}
+use Rattle.std.specs.Prelude.{All, ◌⊎◌}
 use Rattle.std.specs.List.{range_with_len}
+use Rattle.page_source.specs.declared.rule.Fault.{Fault}
+use Rattle.page_source.specs.declared.rule.Rule.TheVariants as rules
 use Rattle.column_values.specs.declared.kind.ColumnType.{ColumnType}
 use Rattle.column_values.specs.declared.field.FieldType.TheVariants.{Column}
 use Rattle.column_values.specs.declared.value.Value.{Value}
@@ -22,6 +24,11 @@ pub record RowView : Type 0 where
   pub table : TableDef
   pub page : List ℕ
   pub places : List Place
+
+-- the same with the number of the leaf
+pub record RowOnLeaf : Type 0 where
+  pub row : RowView
+  pub leaf : ℕ
 
 -- a column of a row: its type, the leaf, and where it lies there
 pub record CellView : Type 0 where
@@ -71,6 +78,19 @@ local_bytes cell = bytes_at cell.page cell.place
 pub record IsSound (cell : CellView) : Type 0 where
   pub local : cell.place.null ≡ false → cell.place.external ≡ false → IsSpelling cell.kind (local_bytes cell)
   pub long : cell.place.null ≡ false → cell.place.external ≡ true → FitsLong cell.kind (local_bytes cell)
+
+-- a column of the row may not be written
+pub record HasUnsound (row : RowView) : Type 0 where
+  pub column : ℕ
+  pub within : column < length row.table.columns
+  pub unsound : ¬ (IsSound (cell_of_column row column))
+
+-- what is named where a row isn't written: its leaf, where a column may not be written; or a page of a chain that a
+-- column of it goes on in
+abbrev pub BreaksRow : RowOnLeaf → Fault → Type 0
+BreaksRow on fault =
+    ((fault ≡ record { rule = rules.Value; page = on.leaf }) × HasUnsound on.row)
+    ⊎ ((fault.rule ≡ rules.ChainLength) × (¬ (All IsNear on.row.places)))
 
 -- a value that can be read whole: its bytes are the stated number, and they spell it
 pub record IsWholeLong (file : List ℕ) (kind : ColumnType) (local : List ℕ) (value : Value) : Type 0 where

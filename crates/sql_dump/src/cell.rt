@@ -1,6 +1,7 @@
 //! A column of a row.
 
-ghost use Rattle.std.specs.Prelude.{◌≡◌, ◌+◌, ◌<◌, ◌≤◌, ◌↔◌, ◌++◌, length, true, IsTrue, OnOk};
+ghost use Rattle.std.specs.Prelude.{◌≡◌, ◌+◌, ◌<◌, ◌≤◌, ◌↔◌, ◌++◌, length, true, IsTrue, OnOk, Err};
+ghost use Rattle.page_source.specs.declared.rule.Fault.{Fault};
 ghost use Rattle.page_source.specs.Calls.{OfFile};
 ghost use Rattle.column_values.specs.declared.value.Value.{Value};
 ghost use Rattle.row_text.specs.Values.{value_text};
@@ -13,7 +14,7 @@ use crate::long::{ChainRoom, fits_long, put_long};
 use crate::stop::WriteStop;
 use column_values::{ColumnType, is_value};
 use compact_record::Place;
-use page_source::{ByteSink, Page, PageSource, Steps};
+use page_source::{ByteSink, Page, PageSource, Rule, Steps};
 use row_text::RowWriter;
 use row_text::laws::parts_are_the_value;
 use std::marker::Model;
@@ -83,6 +84,8 @@ pub(crate) fn put_value<S: PageSource, O: ByteSink, L: Ledger>(
     ensures left { OnOk result (OfFile S.PageSource source.old (λ file.
         room.new.left + length (pages_of_cell file cell.now) ≡ room.old.left)) }
     ensures came { OnOk result (writer.new.came ≡ writer.old.came + 1) }
+    ensures broken { (fault : Fault) → result ≡ Err (WriteStop.Broken fault)
+        → (fault.rule ≡ Rule.ChainLength) × (cell.now.place.external ≡ true) }
     ensures near { IsNear cell.now.place → room.new.left ≡ room.old.left }
     ensures cost { steps.new + room.new.left ≡ steps.old + room.old.left }
     ensures over { WritesOver S.PageSource O.ByteSink source.old source.new sink.old sink.new

@@ -42,13 +42,13 @@ fn keep_line<S: PageSource, L: Ledger>(
     room: &mut ChainRoom,
     steps: &mut Steps<L>,
 ) -> Result<bool, WriteStop>
-    requires told { OfFile S.PageSource source.old (λ file. CanReadRow file row.now room.old.left) }
+    requires told { OfFile S.PageSource source.old (λ file. CanReadRow file row.now.row room.old.left) }
     ensures keeps { OfFile S.PageSource source.old (λ file. (row_values : List Value)
-        → ReadsRow file row.now row_values
-        → Keeps result buffer.old.bytes buffer.new.bytes (line_of row.now.table row_values)) }
-    ensures some { KeepsSomeRow row.now.table result buffer.old.bytes buffer.new.bytes }
+        → ReadsRow file row.now.row row_values
+        → Keeps result buffer.old.bytes buffer.new.bytes (line_of row.now.row.table row_values)) }
+    ensures some { KeepsSomeRow row.now.row.table result buffer.old.bytes buffer.new.bytes }
     ensures left { IfOk result (λ kept. OfFile S.PageSource source.old (λ file.
-        LeavesOf kept room.old.left room.new.left (length (pages_of_all file row.now)))) }
+        LeavesOf kept room.old.left room.new.left (length (pages_of_all file row.now.row)))) }
     ensures cost { steps.new + room.new.left ≡ steps.old + room.old.left }
     ensures same { S.content source.new ≡ S.content source.old }
     ensures later { S.faults source.old ≤ S.faults source.new }
@@ -80,15 +80,15 @@ pub(crate) fn put_line<S: PageSource, O: ByteSink, L: Ledger>(
     room: &mut ChainRoom,
     steps: &mut Steps<L>,
 ) -> Result<(), WriteStop>
-    requires told { OfFile S.PageSource source.old (λ file. CanReadRow file row.now room.old.left) }
+    requires told { OfFile S.PageSource source.old (λ file. CanReadRow file row.now.row room.old.left) }
     ensures moves { OfFile S.PageSource source.old (λ file. (row_values : List Value)
-        → ReadsRow file row.now row_values
+        → ReadsRow file row.now.row row_values
         → Moves result (O.written sink.old) (O.written sink.new) buffer.old.bytes buffer.new.bytes
-        (line_of row.now.table row_values)) }
-    ensures some { OnOk result (MovesSomeRow row.now.table (O.written sink.old) (O.written sink.new)
+        (line_of row.now.row.table row_values)) }
+    ensures some { OnOk result (MovesSomeRow row.now.row.table (O.written sink.old) (O.written sink.new)
         buffer.old.bytes buffer.new.bytes) }
     ensures left { OnOk result (OfFile S.PageSource source.old (λ file.
-        room.new.left + length (pages_of_all file row.now) ≡ room.old.left)) }
+        room.new.left + length (pages_of_all file row.now.row) ≡ room.old.left)) }
     ensures cost { steps.new + room.new.left ≡ steps.old + room.old.left }
     ensures over { WritesOver S.PageSource O.ByteSink source.old source.new sink.old sink.new
         steps.old steps.new result }

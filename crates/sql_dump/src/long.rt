@@ -1,6 +1,7 @@
 //! Values that go on in pages of their own, written as they are read.
 
-ghost use Rattle.std.specs.Prelude.{◌≡◌, ◌+◌, ◌-◌, ◌<◌, ◌≤◌, ◌↔◌, ◌++◌, length, true, IsTrue, OnOk};
+ghost use Rattle.std.specs.Prelude.{◌≡◌, ◌+◌, ◌-◌, ◌<◌, ◌≤◌, ◌↔◌, ◌++◌, length, true, IsTrue, OnOk, Err};
+ghost use Rattle.page_source.specs.declared.rule.Fault.{Fault};
 ghost use Rattle.page_source.specs.Calls.{OfFile, Puts};
 ghost use Rattle.offpage_chain.specs.Chain.{chain_pages};
 ghost use Rattle.offpage_chain.specs.Reference.{reference_of};
@@ -13,7 +14,7 @@ use crate::buffer::Buffer;
 use crate::stop::WriteStop;
 use column_values::{ColumnType, FieldType};
 use offpage_chain::{ChainReader, Reference, read_reference};
-use page_source::{ByteSink, Failed, Page, PageSource, Steps};
+use page_source::{ByteSink, Failed, Page, PageSource, Rule, Steps};
 use row_text::RowWriter;
 use row_text::laws::parts_are_the_value;
 use std::sync::ledger::Ledger;
@@ -121,6 +122,7 @@ fn put_chain<S: PageSource, O: ByteSink, L: Ledger>(
     ensures left { OnOk result (OfFile S.PageSource source.old (λ file.
         room.new.left + length (chain_pages file reference.now) ≡ room.old.left)) }
     ensures came { OnOk result (writer.new ≡ record { came = writer.old.came; lacks = 0 }) }
+    ensures broken { (fault : Fault) → result ≡ Err (WriteStop.Broken fault) → fault.rule ≡ Rule.ChainLength }
     ensures cost { steps.new + room.new.left ≡ steps.old + room.old.left }
     ensures over { WritesOver S.PageSource O.ByteSink source.old source.new sink.old sink.new
         steps.old steps.new result }
@@ -155,6 +157,7 @@ pub(crate) fn put_long<S: PageSource, O: ByteSink, L: Ledger>(
     ensures left { OnOk result (OfFile S.PageSource source.old (λ file.
         room.new.left + length (chain_pages file (reference_of local.now)) ≡ room.old.left)) }
     ensures came { OnOk result (writer.new ≡ with_value writer.old 0) }
+    ensures broken { (fault : Fault) → result ≡ Err (WriteStop.Broken fault) → fault.rule ≡ Rule.ChainLength }
     ensures cost { steps.new + room.new.left ≡ steps.old + room.old.left }
     ensures over { WritesOver S.PageSource O.ByteSink source.old source.new sink.old sink.new
         steps.old steps.new result }

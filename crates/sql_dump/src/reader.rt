@@ -97,7 +97,10 @@ impl<'a> RowReader<'a> {
     /// The row that was read last, on this leaf.
     pub fn row<'b>(&'b self, page: &'b Page, number: u32) -> Row<'b>
         requires { HavePlaces self.now.table self.now.places }
-        ensures { result ≡ record { table = self.now.table; page = page.now; places = self.now.places } }
+        ensures { result ≡ record {
+          row = record { table = self.now.table; page = page.now; places = self.now.places };
+          leaf = number;
+        } }
     {
         Row {
             schema: self.schema,

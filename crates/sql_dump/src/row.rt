@@ -1,12 +1,13 @@
 //! The line of a row.
 
-ghost use Rattle.std.specs.Prelude.{◌≡◌, ◌+◌, ◌<◌, ◌↔◌, List, length, All, IsTrue, OnOk};
+ghost use Rattle.std.specs.Prelude.{◌≡◌, ◌+◌, ◌<◌, ◌↔◌, List, length, All, IsTrue, OnOk, Err};
+ghost use Rattle.page_source.specs.declared.rule.Fault.{Fault};
 ghost use Rattle.page_source.specs.Calls.{OfFile};
 ghost use Rattle.column_values.specs.declared.value.Value.{Value};
 ghost use Rattle.row_text.specs.Line.{line_of};
 ghost use Rattle.sql_dump.specs.Stops.{Writes, WritesOver};
 ghost use Rattle.sql_dump.specs.SomeRows.{PutsSomeRow};
-ghost use Rattle.sql_dump.specs.Cells.{IsNear, ReadsRow, CanReadRow, cell_of_column, pages_of_all};
+ghost use Rattle.sql_dump.specs.Cells.{IsNear, ReadsRow, CanReadRow, BreaksRow, cell_of_column, pages_of_all};
 
 use crate::cell::{Cell, put_value};
 use crate::long::ChainRoom;
@@ -32,11 +33,14 @@ pub struct Row<'a> {
 }
 
 impl<'a> Model for Row<'a> {
-    ghost use Rattle.sql_dump.specs.Cells.{RowView, AreCells};
+    ghost use Rattle.sql_dump.specs.Cells.{RowOnLeaf, AreCells};
 
-    ghost Value = { RowView };
+    ghost Value = { RowOnLeaf };
 
-    ghost view = { λ row. record { table = row.schema.now; page = row.page.now; places = row.places.now } };
+    ghost view = { λ row. record {
+      row = record { table = row.schema.now; page = row.page.now; places = row.places.now };
+      leaf = row.number;
+    } };
 
     ghost invariant = { λ row. AreCells row.schema.now row.at.now row.places.now };
 }
@@ -44,8 +48,8 @@ impl<'a> Model for Row<'a> {
 impl<'a> Row<'a> {
     /// Column `c`.
     fn cell(&self, c: usize) -> Cell<'a>
-        requires { c < length self.now.table.columns }
-        ensures { result ≡ cell_of_column self.now c }
+        requires { c < length self.now.row.table.columns }
+        ensures { result ≡ cell_of_column self.now.row c }
     {
         Cell {
             kind: &self.schema.columns()[c].kind,
@@ -56,13 +60,15 @@ impl<'a> Row<'a> {
 
     /// Whether no column goes on in pages of its own.
     pub fn is_near(&self) -> bool
-        ensures { IsTrue result ↔ All IsNear self.now.places }
+        ensures { IsTrue result ↔ All IsNear self.now.row.places }
     {
         self.places.iter().all(|place| !place.external)
     }
 }
 
-/// Puts the line of a row.
+/// Puts the line of a row. `Broken` names the leaf where a column may not be written (rule 47), and else the page of a
+/// chain that has no part that fits, or is one too many (rule 49); over a file that tells its bytes, and was checked,
+/// neither comes.
 pub fn put_row<S: PageSource, O: ByteSink, L: Ledger>(
     source: &mut S,
     sink: &mut O,
@@ -70,14 +76,15 @@ pub fn put_row<S: PageSource, O: ByteSink, L: Ledger>(
     room: &mut ChainRoom,
     steps: &mut Steps<L>,
 ) -> Result<(), WriteStop>
-    requires told { OfFile S.PageSource source.old (λ file. CanReadRow file row.now room.old.left) }
+    requires told { OfFile S.PageSource source.old (λ file. CanReadRow file row.now.row room.old.left) }
     ensures puts { OfFile S.PageSource source.old (λ file. (row_values : List Value)
-        → ReadsRow file row.now row_values
-        → Writes result (O.written sink.old) (O.written sink.new) (line_of row.now.table row_values)) }
-    ensures some { PutsSomeRow row.now.table result (O.written sink.old) (O.written sink.new) }
+        → ReadsRow file row.now.row row_values
+        → Writes result (O.written sink.old) (O.written sink.new) (line_of row.now.row.table row_values)) }
+    ensures some { PutsSomeRow row.now.row.table result (O.written sink.old) (O.written sink.new) }
     ensures left { OnOk result (OfFile S.PageSource source.old (λ file.
-        room.new.left + length (pages_of_all file row.now) ≡ room.old.left)) }
-    ensures near { All IsNear row.now.places → room.new.left ≡ room.old.left }
+        room.new.left + length (pages_of_all file row.now.row) ≡ room.old.left)) }
+    ensures broken { (fault : Fault) → result ≡ Err (WriteStop.Broken fault) → BreaksRow row.now fault }
+    ensures near { All IsNear row.now.row.places → room.new.left ≡ room.old.left }
     ensures cost { steps.new + room.new.left ≡ steps.old + room.old.left }
     ensures over { WritesOver S.PageSource O.ByteSink source.old source.new sink.old sink.new
         steps.old steps.new result }

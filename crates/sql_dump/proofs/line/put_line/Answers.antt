@@ -12,7 +12,7 @@ returns-in_err-keep_line-clause-moves g c =
     (told1 (g.S.PageSource.content c.args.source.now)
     (λ file keeps row reads. keep_ends (g.O.ByteSink.written c.args.sink.now) (g.O.ByteSink.written
     c.make_room.new.sink) c.args.buffer.now.bytes c.make_room.new.buffer.bytes c.keep_line.new.buffer.bytes (line_of
-    c.args.row.now.table row) c.in_err-keep_line.field-0.0
+    c.args.row.now.row.table row) c.in_err-keep_line.field-0.0
     c.in_ok-make_room.ensures.sent (keeps row reads))
     c.in_err-keep_line.ensures.keeps)
 
@@ -24,7 +24,7 @@ returns-in_err-flush-clause-moves g c =
     (told1 (g.S.PageSource.content c.args.source.now)
     (λ file keeps row reads. flush_ends (g.O.ByteSink.written c.args.sink.now) (g.O.ByteSink.written
     c.make_room.new.sink) (g.O.ByteSink.written c.flush.new.sink) c.args.buffer.now.bytes
-    c.make_room.new.buffer.bytes c.keep_line.new.buffer.bytes c.flush.new.self.bytes (line_of c.args.row.now.table row)
+    c.make_room.new.buffer.bytes c.keep_line.new.buffer.bytes c.flush.new.self.bytes (line_of c.args.row.now.row.table row)
     c.in_ok-make_room.ensures.sent (keeps row reads) c.in_err-flush.ensures.puts.failed)
     keeps)
 
@@ -36,7 +36,7 @@ returns-clause-moves g c =
     (λ file keeps puts row reads. flushed_line (g.O.ByteSink.written c.args.sink.now) (g.O.ByteSink.written
     c.make_room.new.sink) (g.O.ByteSink.written c.flush.new.sink) (g.O.ByteSink.written c.put_row.new.sink)
     c.args.buffer.now.bytes c.make_room.new.buffer.bytes c.keep_line.new.buffer.bytes c.flush.new.self.bytes (line_of
-    c.args.row.now.table row)
+    c.args.row.now.row.table row)
     c.put_row.result c.in_ok-make_room.ensures.sent (keeps row reads) c.in_ok-flush.ensures.puts.ok
     c.in_ok-flush.ensures.empty (puts row reads))
     keeps puts
@@ -44,7 +44,7 @@ returns-clause-moves g c =
 pub returns-clause-some : goal.returns-clause-some
 returns-clause-some g c =
     let keeps = rw c.if-branch.false at c.in_ok-keep_line.ensures.some in
-    moves_flushed c.args.row.now.table (g.O.ByteSink.written c.args.sink.now) (g.O.ByteSink.written
+    moves_flushed c.args.row.now.row.table (g.O.ByteSink.written c.args.sink.now) (g.O.ByteSink.written
     c.make_room.new.sink) (g.O.ByteSink.written c.flush.new.sink) (g.O.ByteSink.written c.put_row.new.sink)
     c.args.buffer.now.bytes c.make_room.new.buffer.bytes c.keep_line.new.buffer.bytes c.flush.new.self.bytes
     c.put_row.result c.in_ok-make_room.ensures.sent keeps c.in_ok-flush.ensures.puts.ok c.in_ok-flush.ensures.empty
@@ -53,6 +53,6 @@ returns-clause-some g c =
 pub returns-then-branch-clause-some : goal.returns-then-branch-clause-some
 returns-then-branch-clause-some g c =
     let keeps = rw c.if-branch.true at c.in_ok-keep_line.ensures.some in
-    moves_kept c.args.row.now.table (g.O.ByteSink.written c.args.sink.now) (g.O.ByteSink.written
+    moves_kept c.args.row.now.row.table (g.O.ByteSink.written c.args.sink.now) (g.O.ByteSink.written
     c.make_room.new.sink) c.args.buffer.now.bytes c.make_room.new.buffer.bytes c.keep_line.new.buffer.bytes
     c.in_ok-make_room.ensures.sent keeps

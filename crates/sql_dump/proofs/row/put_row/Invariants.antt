@@ -18,10 +18,10 @@ invariant-loop-c g l =
       sink_later : g.O.ByteSink.faults l.fn.sink ≤ g.O.ByteSink.faults l.sink;
       cost : l.steps + l.room.left ≡ l.fn.steps + l.fn.room.left;
       came : l.writer.came ≡ l.c;
-      some : SomeValues l.fn.row.table (written l.fn.sink) (written l.sink) l.c;
-      near : All IsNear l.fn.row.places → l.room.left ≡ l.fn.room.left;
+      some : SomeValues l.fn.row.row.table (written l.fn.sink) (written l.sink) l.c;
+      near : All IsNear l.fn.row.row.places → l.room.left ≡ l.fn.room.left;
       used : IfSome (content l.fn.source) (λ file.
-          l.room.left + length (pages_of_columns file l.fn.row l.c) ≡ l.fn.room.left);
-      text : IfSome (content l.fn.source) (λ file. (row_values : List Value) → ReadsRow file l.fn.row row_values
-          → GrowsBy (written l.fn.sink) (written l.sink) (line_so_far l.fn.row.table row_values l.c));
+          l.room.left + length (pages_of_columns file l.fn.row.row l.c) ≡ l.fn.room.left);
+      text : IfSome (content l.fn.source) (λ file. (row_values : List Value) → ReadsRow file l.fn.row.row row_values
+          → GrowsBy (written l.fn.sink) (written l.sink) (line_so_far l.fn.row.row.table row_values l.c));
     }

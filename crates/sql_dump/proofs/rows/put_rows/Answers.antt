@@ -1,7 +1,7 @@
-use Rattle.std.proofs.Common.{◌≡◌, ◌∙◌, Some, None, Ok, Err, refl, arith}
+use Rattle.std.proofs.Common.{◌≡◌, ◌∙◌, Some, None, Ok, Err, refl, ap, arith}
 use Rattle.std.proofs.lemmas.Result.{err_from_is_err_and}
 use Rattle.page_source.proofs.Told.{told2, told3, told4, told5}
-use Rattle.sql_dump.specs.Cells.{row_on}
+use Rattle.sql_dump.specs.Cells.{RowOnLeaf, row_on}
 use Rattle.sql_dump.proofs.TableLines.{can_give, found_here, rows_halt, rows_more, rows_end, rows_last, row_here}
 use Rattle.sql_dump.proofs.TableLines.{can_read_row, pages_here, row_given}
 use Rattle.sql_dump.proofs.Sends.{all_sent, sent_cut}
@@ -43,8 +43,8 @@ pub put_line-requires : goal.put_line-requires
 put_line-requires g c =
     let i = c.loop-origin.invariant in
     let finds = rw (c.in-Some.is, i.same) at c.in_ok-origin.ensures.exact in
-    let row : c.row-row.result ≡ row_on c.args.reader.now.table c.next.new.self.leaf.page c.in-Some.origin =
-    row_given c.in-Some.origin c.row-row.ensures (c.in_ok-read.ensures.table ∙ i.table) c.page-page.ensures
+    let row : c.row-row.result.row ≡ row_on c.args.reader.now.table c.next.new.self.leaf.page c.in-Some.origin =
+    row_given c.in-Some.origin (ap (λ (on : RowOnLeaf). on.row) c.row-row.ensures) (c.in_ok-read.ensures.table ∙ i.table) c.page-page.ensures
     (rw i.table at c.in_ok-read.ensures.read) in
     let same = c.in_ok-origin.ensures.over.same ∙ i.same in
     record {
@@ -61,8 +61,8 @@ loop-origin-preserved g c =
     let i = c.loop-origin.invariant in
     let table = c.args.reader.now.table in
     let finds = rw (c.in-Some.is, i.same) at c.in_ok-origin.ensures.exact in
-    let row : c.row-row.result ≡ row_on table c.next.new.self.leaf.page c.in-Some.origin =
-    row_given c.in-Some.origin c.row-row.ensures (c.in_ok-read.ensures.table ∙ i.table) c.page-page.ensures
+    let row : c.row-row.result.row ≡ row_on table c.next.new.self.leaf.page c.in-Some.origin =
+    row_given c.in-Some.origin (ap (λ (on : RowOnLeaf). on.row) c.row-row.ensures) (c.in_ok-read.ensures.table ∙ i.table) c.page-page.ensures
     (rw i.table at c.in_ok-read.ensures.read) in
     let same = c.in_ok-origin.ensures.over.same ∙ i.same in
     let puts = rw (same, row) at c.in_ok-put_line.ensures.moves in
@@ -99,8 +99,8 @@ pub returns-in_err-put_line-clause-puts : goal.returns-in_err-put_line-clause-pu
 returns-in_err-put_line-clause-puts g c =
     let i = c.loop-origin.invariant in
     let finds = rw (c.in-Some.is, i.same) at c.in_ok-origin.ensures.exact in
-    let row : c.row-row.result ≡ row_on c.args.reader.now.table c.next.new.self.leaf.page c.in-Some.origin =
-    row_given c.in-Some.origin c.row-row.ensures (c.in_ok-read.ensures.table ∙ i.table) c.page-page.ensures
+    let row : c.row-row.result.row ≡ row_on c.args.reader.now.table c.next.new.self.leaf.page c.in-Some.origin =
+    row_given c.in-Some.origin (ap (λ (on : RowOnLeaf). on.row) c.row-row.ensures) (c.in_ok-read.ensures.table ∙ i.table) c.page-page.ensures
     (rw i.table at c.in_ok-read.ensures.read) in
     let same = c.in_ok-origin.ensures.over.same ∙ i.same in
     let puts = rw (same, row) at c.in_err-put_line.ensures.moves in

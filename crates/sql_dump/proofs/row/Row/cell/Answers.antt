@@ -1,5 +1,5 @@
 use Rattle.std.proofs.Common.{◌<◌, length, ap, ◌∙◌, arith}
-use Rattle.sql_dump.specs.Cells.{RowView, cell_of_column}
+use Rattle.sql_dump.specs.Cells.{RowView, RowOnLeaf, cell_of_column}
 use Rattle.sql_dump.proofs.Cells.{cell_is, length_fields, field_within}
 use Rattle.sql_dump.proofs.row.Row.cell.Goals as goal
 
@@ -8,14 +8,14 @@ bounds-self-inside-c c =
     omega (
       arith,
       length_fields c.self.inside.schema.now c.self.inside.at.now c.self.invariant.fields,
-      ap (λ (row : RowView). length row.table.columns) c.self.view_is,
+      ap (λ (on : RowOnLeaf). length on.row.table.columns) c.self.view_is,
       c.requires,
     )
 
 pub offset_bounds-self-inside-self-inside : goal.offset_bounds-self-inside-self-inside
 offset_bounds-self-inside-self-inside c =
     let within : c.args.c < length c.self.inside.schema.now.columns =
-    omega (arith, ap (λ (row : RowView). length row.table.columns) c.self.view_is, c.requires) in
+    omega (arith, ap (λ (on : RowOnLeaf). length on.row.table.columns) c.self.view_is, c.requires) in
     omega (
       arith,
       field_within c.self.inside.schema.now c.self.inside.at.now c.self.inside.places.now c.args.c 0
@@ -26,7 +26,7 @@ offset_bounds-self-inside-self-inside c =
 pub bounds-self-inside-self-inside : goal.bounds-self-inside-self-inside
 bounds-self-inside-self-inside c =
     let within : c.args.c < length c.self.inside.schema.now.columns =
-    omega (arith, ap (λ (row : RowView). length row.table.columns) c.self.view_is, c.requires) in
+    omega (arith, ap (λ (on : RowOnLeaf). length on.row.table.columns) c.self.view_is, c.requires) in
     field_within c.self.inside.schema.now c.self.inside.at.now c.self.inside.places.now c.args.c 0
     c.columns.ensures.table c.self.invariant within
 
@@ -36,7 +36,7 @@ returns c =
     let row : RowView =
     record { table = inside.schema.now; page = inside.page.now; places = inside.places.now } in
     let within : c.args.c < length inside.schema.now.columns =
-    omega (arith, ap (λ (row : RowView). length row.table.columns) c.self.view_is, c.requires) in
+    omega (arith, ap (λ (on : RowOnLeaf). length on.row.table.columns) c.self.view_is, c.requires) in
     cell_is row inside.at.now c.columns.result.now c.index-columns-c.result c.args.c 0 _ c.columns.ensures.table
     c.self.invariant c.columns.ensures.same within
-    ∙ ap (λ (r : RowView). cell_of_column r c.args.c) c.self.view_is
+    ∙ ap (λ (on : RowOnLeaf). cell_of_column on.row c.args.c) c.self.view_is
