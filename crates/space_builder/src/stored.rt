@@ -1,11 +1,12 @@
 //! Rows as they are stored, one after another in memory.
 
-ghost use Rattle.std.specs.Prelude.{◌≡◌, ◌+◌, ◌^◌, ◌<◌, ◌≤◌, [], ◌∷◌, ◌++◌, IfOk, OnOk, OnErr, length, map, take};
+ghost use Rattle.std.specs.Prelude.{◌≡◌, ◌+◌, ◌<◌, ◌≤◌, [], ◌∷◌, ◌++◌, true, IfOk, IfSome, OnOk, OnErr, length, map};
+ghost use Rattle.std.specs.Prelude.{take};
 ghost use Rattle.std.specs.Option.{option_copied};
 ghost use Rattle.row_layout.specs.StoredRow.{stored_at};
 ghost use Rattle.row_layout.specs.HoldsValues.{stored_in};
-ghost use Rattle.space_builder.specs.build.Stored.{AreSpots, row_of, spot_start, field_in, value_of};
-ghost use Rattle.space_builder.specs.build.Arena.{spot_of, moved, row_start};
+ghost use Rattle.space_builder.specs.build.Stored.{AreSpots, row_of, spot_at, spot_start, value_of};
+ghost use Rattle.space_builder.specs.build.Arena.{AreMarked, spot_of, span_of};
 
 use page_source::NoMemory;
 use std::alloc::Global;
@@ -23,68 +24,146 @@ pub(crate) struct FieldSpot {
     pub(crate) end: usize,
 }
 
-/// The same in eight bytes, where the field ends among the bytes of all rows.
+/// The same in four bytes: where it ends, and in the lowest two bits whether it is null and whether it goes off.
 #[derive(Clone, Copy, Debug, PartialEq, Eq)]
 struct Mark {
-    null: bool,
-    off: bool,
-    /// The byte behind its last one, by its upper and its lower bits.
+    code: u32,
+}
+
+/// No row has so many bytes.
+const MOST: usize = 1_073_741_824;
+
+impl Mark {
+    /// The mark of a field.
+    fn new(spot: FieldSpot) -> Result<Mark, NoMemory>
+        ensures { IfOk result (λ mark. spot_of mark ≡ spot) }
+    {
+        if spot.end >= MOST {
+            return Err(NoMemory);
+        }
+        let null = if spot.null { 2 } else { 0 };
+        let off = if spot.off { 1 } else { 0 };
+        Ok(Mark {
+            code: 4 * spot.end as u32 + null + off,
+        })
+    }
+
+    /// The field.
+    fn spot(self) -> FieldSpot
+        ensures value { result ≡ spot_of self }
+        ensures few { result.end < 1073741824 }
+    {
+        FieldSpot {
+            null: self.code / 2 % 2 == 1,
+            off: self.code % 2 == 1,
+            end: (self.code / 4) as usize,
+        }
+    }
+}
+
+/// Where a row lies: the place of its first byte, by its upper and its lower bits, and of the first of its marks, and
+/// how many it has.
+#[derive(Clone, Copy, Debug, PartialEq, Eq)]
+struct RowSpan {
     high: u16,
+    width: u16,
     low: u32,
+    first: u32,
 }
 
 /// The lower bits of a byte's number.
 const LOW: usize = 4_294_967_296;
 
-/// There is no room for a byte from this one on.
-const MOST: usize = 281_474_976_710_656;
-
-impl Mark {
-    /// The mark of a field of a row that begins at byte `start`.
-    fn new(start: usize, spot: FieldSpot) -> Result<Mark, NoMemory>
-        ensures { IfOk result (λ mark. spot_of mark ≡ moved start spot) }
+impl RowSpan {
+    /// A row of so many fields.
+    fn new(start: usize, first: usize, width: usize) -> Result<RowSpan, NoMemory>
+        ensures { IfOk result (λ span. span_of span ≡ record { start = start; first = first; width = width }) }
     {
-        let Some(end) = start.checked_add(spot.end) else {
-            return Err(NoMemory);
-        };
-        if end >= MOST {
+        if start / LOW > 65535 || first >= LOW || width > 65535 {
             return Err(NoMemory);
         }
-        Ok(Mark {
-            null: spot.null,
-            off: spot.off,
-            high: (end / LOW) as u16,
-            low: (end % LOW) as u32,
+        Ok(RowSpan {
+            high: (start / LOW) as u16,
+            width: width as u16,
+            low: (start % LOW) as u32,
+            first: first as u32,
         })
     }
 
-    /// The byte behind its last one.
-    fn end(&self) -> usize
-        ensures { result ≡ (spot_of self.now).end }
+    /// The place of its first byte.
+    fn start(self) -> usize
+        ensures { result ≡ (span_of self).start }
     {
         usize::from(self.high) * LOW + self.low as usize
     }
 }
 
-/// Rows in three lists: the bytes of all fields, where each field ends among them, and where each row ends among the
-/// fields.
+/// Rows in three lists: marks of where fields end, the bytes of all fields, and where each row lies in these two. Rows
+/// may share their marks.
 #[derive(Debug, Drop)]
 struct Lists {
-    bytes: Vec<u8>,
     marks: Vec<Mark>,
-    ends: Vec<usize>,
+    bytes: Vec<u8>,
+    spans: Vec<RowSpan>,
 }
 
-/// Adds the marks of the fields of a row that begins at byte `start`.
-fn push_marks(marks: &mut Vec<Mark>, start: usize, fields: &[FieldSpot]) -> Result<(), NoMemory>
-    ensures ok { OnOk result
-        (map spot_of marks.new.items ≡ map spot_of marks.old.items ++ map (moved start) fields.now) }
+/// Among the marks of so many rows before it those of a row are looked for.
+const RECENT: usize = 8;
+
+/// Whether the marks of these fields stand there.
+fn are_marked(marks: &[Mark], fields: &[FieldSpot], first: usize) -> bool
+    ensures { result ≡ true → AreMarked (map spot_of marks.now) fields.now first }
+{
+    if first > marks.len() || marks.len() - first < fields.len() {
+        return false;
+    }
+    for i in 0..fields.len() {
+        if marks[first + i].spot() != fields[i] {
+            return false;
+        }
+    }
+    true
+}
+
+/// Where the marks of these fields stand, if one of the last rows has them.
+fn recent_marks(marks: &[Mark], spans: &[RowSpan], fields: &[FieldSpot]) -> Option<usize>
+    ensures { IfSome result (AreMarked (map spot_of marks.now) fields.now) }
+{
+    let from = spans.len().saturating_sub(RECENT);
+    for r in from..spans.len() {
+        let first = spans[r].first as usize;
+        if are_marked(marks, fields, first) {
+            return Some(first);
+        }
+    }
+    None
+}
+
+/// Adds the marks of these fields, and answers where they begin.
+fn push_marks(marks: &mut Vec<Mark>, fields: &[FieldSpot]) -> Result<usize, NoMemory>
+    ensures ok { IfOk result (AreMarked (map spot_of marks.new.items) fields.now) }
     ensures begins { take (length marks.old.items) marks.new.items ≡ marks.old.items }
 {
+    let first = marks.len();
     for spot in fields {
-        marks.push(Mark::new(start, *spot)?)?;
+        marks.push(Mark::new(*spot)?)?;
     }
-    Ok(())
+    Ok(first)
+}
+
+/// Where the marks of these fields stand; adds them if no recent row has them.
+fn marks_for(
+    marks: &mut Vec<Mark>,
+    spans: &[RowSpan],
+    fields: &[FieldSpot],
+) -> Result<usize, NoMemory>
+    ensures ok { IfOk result (AreMarked (map spot_of marks.new.items) fields.now) }
+    ensures begins { take (length marks.old.items) marks.new.items ≡ marks.old.items }
+{
+    match recent_marks(marks, spans, fields) {
+        Some(first) => Ok(first),
+        None => push_marks(marks, fields),
+    }
 }
 
 /// Where the last field of a row ends.
@@ -97,46 +176,35 @@ fn end_of(fields: &[FieldSpot]) -> usize
     }
 }
 
-/// Where row `r` begins among the fields.
-fn row_start(ends: &[usize], r: usize) -> usize
-    requires { r ≤ length ends.now }
-    ensures { result ≡ row_start ends.now r }
+/// Where field `i` of a row begins.
+fn field_start(marks: &[Mark], i: usize) -> usize
+    requires { i ≤ length marks.now }
+    ensures { result ≡ spot_start (map spot_of marks.now) i }
 {
-    if r == 0 { 0 } else { ends[r - 1] }
-}
-
-/// Where field `k` of all begins among the bytes.
-fn field_start(marks: &[Mark], k: usize) -> usize
-    requires { k ≤ length marks.now }
-    ensures { result ≡ spot_start (map spot_of marks.now) k }
-{
-    if k == 0 { 0 } else { marks[k - 1].end() }
+    if i == 0 { 0 } else { marks[i - 1].spot().end }
 }
 
 impl Lists {
-    ghost use Rattle.space_builder.specs.build.Arena.{AreRowsIn, Begins, arena_of, rows_in, with_row};
+    ghost use Rattle.space_builder.specs.build.Arena.{AddsFields, AreRowsIn, Begins, arena_of, bytes_in, span_at};
+    ghost use Rattle.space_builder.specs.build.Arena.{spots_in};
 
     /// Adds a row; where memory runs out, a part of it may stand there.
     fn add(&mut self, fields: &[FieldSpot], row: &[u8]) -> Result<(), NoMemory>
         requires { AreSpots fields.now row.now }
-        ensures ok { OnOk result (arena_of self.new ≡ with_row (arena_of self.old) fields.now row.now) }
-        ensures short { OnOk result (length row.now < 4294967296) }
+        ensures ok { OnOk result (AddsFields (arena_of self.old) (arena_of self.new) fields.now row.now) }
         ensures err { OnErr result (Begins self.old self.new) }
     {
-        if row.len() >= LOW {
-            return Err(NoMemory);
-        }
-        push_marks(&mut self.marks, self.bytes.len(), fields)?;
+        let first = marks_for(&mut self.marks, &self.spans, fields)?;
+        let span = RowSpan::new(self.bytes.len(), first, fields.len())?;
         self.bytes.extend_from_slice(&row[..end_of(fields)])?;
-        self.ends.push(self.marks.len())?;
+        self.spans.push(span)?;
         Ok(())
     }
 
     /// Adds a row, or nothing.
     fn push(&mut self, fields: &[FieldSpot], row: &[u8]) -> Result<(), NoMemory>
         requires { AreSpots fields.now row.now }
-        ensures ok { OnOk result (arena_of self.new ≡ with_row (arena_of self.old) fields.now row.now) }
-        ensures short { OnOk result (length row.now < 4294967296) }
+        ensures ok { OnOk result (AddsFields (arena_of self.old) (arena_of self.new) fields.now row.now) }
         ensures err { OnErr result (arena_of self.new ≡ arena_of self.old) }
     {
         let marks = self.marks.len();
@@ -151,16 +219,49 @@ impl Lists {
         }
     }
 
-    /// Which of all fields is field `i` of row `r`.
-    fn place(&self, r: usize, i: usize) -> usize
+    /// The marks of row `r`.
+    fn marks_of(&self, r: usize) -> &[Mark]
         requires rows { AreRowsIn (arena_of self.now) }
-        requires row { r < length (rows_in (arena_of self.now)) }
-        requires field { i < length (stored_in (rows_in (arena_of self.now)) r) }
-        ensures inside { result < length self.now.marks.items }
-        ensures field { stored_at (stored_in (rows_in (arena_of self.now)) r) i
-            ≡ field_in (arena_of self.now).spots self.now.bytes.items result }
+        requires row { r < length self.now.spans.items }
+        ensures { map spot_of result.now ≡ spots_in (arena_of self.now) (span_at (arena_of self.now) r) }
     {
-        row_start(&self.ends, r) + i
+        let span = self.spans[r];
+        let first = span.first as usize;
+        &self.marks[first..first + usize::from(span.width)]
+    }
+
+    /// Field `i` of row `r`.
+    fn spot(&self, r: usize, i: usize) -> FieldSpot
+        requires rows { AreRowsIn (arena_of self.now) }
+        requires row { r < length self.now.spans.items }
+        requires field { i < length (spots_in (arena_of self.now) (span_at (arena_of self.now) r)) }
+        ensures { result ≡ spot_at (spots_in (arena_of self.now) (span_at (arena_of self.now) r)) i }
+    {
+        self.marks_of(r)[i].spot()
+    }
+
+    /// The bytes of row `r`, and those behind them.
+    fn bytes_of(&self, r: usize) -> &[u8]
+        requires rows { AreRowsIn (arena_of self.now) }
+        requires row { r < length self.now.spans.items }
+        ensures { result.now ≡ bytes_in (arena_of self.now) (span_at (arena_of self.now) r) }
+    {
+        &self.bytes[self.spans[r].start()..]
+    }
+
+    /// Where field `i` of row `r` begins and ends among these.
+    fn place(&self, r: usize, i: usize) -> (usize, usize)
+        requires rows { AreRowsIn (arena_of self.now) }
+        requires row { r < length self.now.spans.items }
+        requires field { i < length (spots_in (arena_of self.now) (span_at (arena_of self.now) r)) }
+        ensures start { result.0 ≡ spot_start (spots_in (arena_of self.now) (span_at (arena_of self.now) r)) i }
+        ensures end { result.1 ≡ (spot_at (spots_in (arena_of self.now) (span_at (arena_of self.now) r)) i).end }
+        ensures rising { result.0 ≤ result.1 }
+        ensures inside { result.1 ≤ length (bytes_in (arena_of self.now) (span_at (arena_of self.now) r)) }
+        ensures few { result.1 < 4294967296 }
+    {
+        let marks = self.marks_of(r);
+        (field_start(marks, i), marks[i].spot().end)
     }
 }
 
@@ -189,9 +290,9 @@ impl StoredRows {
     {
         StoredRows {
             lists: Lists {
-                bytes: Vec::new(alloc),
                 marks: Vec::new(alloc),
-                ends: Vec::new(alloc),
+                bytes: Vec::new(alloc),
+                spans: Vec::new(alloc),
             },
         }
     }
@@ -210,7 +311,7 @@ impl StoredRows {
     pub(crate) fn count(&self) -> usize
         ensures { result ≡ length self.now }
     {
-        self.lists.ends.len()
+        self.lists.spans.len()
     }
 
     /// How many fields row `r` has.
@@ -218,7 +319,7 @@ impl StoredRows {
         requires { r < length self.now }
         ensures { result ≡ length (stored_in self.now r) }
     {
-        self.lists.ends[r] - row_start(&self.lists.ends, r)
+        usize::from(self.lists.spans[r].width)
     }
 
     /// Whether field `i` of row `r` has no value.
@@ -227,8 +328,7 @@ impl StoredRows {
         requires field { i < length (stored_in self.now r) }
         ensures { result ≡ (stored_at (stored_in self.now r) i).null }
     {
-        let place = self.lists.place(r, i);
-        self.lists.marks[place].null
+        self.lists.spot(r, i).null
     }
 
     /// Whether its bytes go on off the page of the record.
@@ -237,8 +337,7 @@ impl StoredRows {
         requires field { i < length (stored_in self.now r) }
         ensures { result ≡ (stored_at (stored_in self.now r) i).off }
     {
-        let place = self.lists.place(r, i);
-        self.lists.marks[place].off
+        self.lists.spot(r, i).off
     }
 
     /// Its bytes.
@@ -247,9 +346,8 @@ impl StoredRows {
         requires field { i < length (stored_in self.now r) }
         ensures { result.now ≡ (stored_at (stored_in self.now r) i).bytes }
     {
-        let place = self.lists.place(r, i);
-        let start = field_start(&self.lists.marks, place);
-        &self.lists.bytes[start..self.lists.marks[place].end()]
+        let (start, end) = self.lists.place(r, i);
+        &self.lists.bytes_of(r)[start..end]
     }
 
     /// How many they are.
@@ -258,9 +356,8 @@ impl StoredRows {
         requires field { i < length (stored_in self.now r) }
         ensures { result ≡ length (stored_at (stored_in self.now r) i).bytes }
     {
-        let place = self.lists.place(r, i);
-        let start = field_start(&self.lists.marks, place);
-        (self.lists.marks[place].end() - start) as u32
+        let (start, end) = self.lists.place(r, i);
+        (end - start) as u32
     }
 
     /// Its value, wherever the bytes stand; none where there is no such field.

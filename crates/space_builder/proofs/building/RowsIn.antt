@@ -1,24 +1,31 @@
 -- One more row behind those in memory.
-use Rattle.std.proofs.Common.{◌≡◌, ℕ, zero, suc, ◌+◌, ◌-◌, ◌<◌, ◌≤◌, List, [], ◌∷◌, ◌++◌, length, map, take}
-use Rattle.std.proofs.Common.{get_or, slice_index, true, false, refl, sym, ap, ◌∙◌, arith, add-zero, inl}
-use Rattle.std.proofs.Common.{inr, subst}
-use Rattle.std.proofs.Common.{length-append}
-use Rattle.std.specs.List.{range_with_len}
-use Rattle.std.proofs.Math.Seq.{get_or-append_seam}
-use Rattle.std.proofs.lemmas.Bool.{cases_lt}
-use Rattle.std.proofs.lemmas.List.{get_or_append_left, get_or-append-add, get_or-map, length-map}
-use Rattle.std.proofs.lemmas.List.{length-take-le}
-use Rattle.std.proofs.lemmas.List.FromFn.{get_or-map-range_with_len, length-map-range_with_len, map-range_with_len_more}
+use Rattle.std.proofs.Common.{◌≡◌, ℕ, zero, suc, ◌+◌, ◌-◌, ◌<◌, ◌≤◌, List, [], ◌∷◌, ◌++◌, length, map, take, drop}
+use Rattle.std.specs.Bool.{beq}
+use Rattle.std.proofs.Common.{Bool, not, ◌&&◌, nat_eq, length-drop}
+use Rattle.std.proofs.Common.{get_or, true, false, refl, sym, ap, ◌∙◌, arith, add-zero, subst, length-append}
+use Rattle.std.specs.List.{All}
+use Rattle.std.proofs.lemmas.List.{get_or-map, length-map, length-take-le, drop-append-le, drop_at, drop-take, take-take}
+use Rattle.std.proofs.lemmas.List.{map-append, take_all, take-map, drop-map, take_more_same, get_or-drop}
+use Rattle.std.proofs.lemmas.Bool.{and_parts, not-false, eqb-true}
+use Rattle.std.proofs.lemmas.List.Elements.{All-append, All-cons, All-nil, All-head, All-tail}
 use Rattle.row_layout.specs.StoredRow.{Stored, stored_at}
 use Rattle.row_layout.specs.HoldsValues.{stored_in}
 use Rattle.space_builder.specs.declared.stored.FieldSpot.{FieldSpot}
 use Rattle.space_builder.specs.declared.stored.Mark.{Mark}
-use Rattle.space_builder.specs.build.Stored.{AreSpots, spot_at, spot_start, field_from, field_in, row_of}
-use Rattle.space_builder.specs.build.Arena.{Arena, row_start, row_in, rows_in, AreRowsIn, moved, with_row, spot_of}
-use Rattle.space_builder.proofs.building.Ranges.{map_ranges, slice_left, slice_right, slice_taken}
+use Rattle.space_builder.specs.declared.stored.RowSpan.{RowSpan}
+use Rattle.space_builder.specs.declared.stored.Lists.{Lists}
+use Rattle.space_builder.specs.build.Stored.{AreSpots, spot_at, spot_start, field_in, row_of}
+use Rattle.space_builder.specs.build.Arena.{Arena, Span, AreMarked, AddsFields, AreRowsIn, LiesIn, spot_of, spots_in}
+use Rattle.space_builder.specs.build.Arena.{bytes_in, span_at, rows_in, span_of, arena_of}
+use Rattle.space_builder.proofs.building.Ranges.{map_ranges, slice_left, slice_taken}
+use Rattle.space_builder.proofs.building.Spots.{length-row, within_spots, field_seen}
 
 abbrev no_spot : FieldSpot
 no_spot = record { null = true; off = false; end = 0 }
+
+-- what the prover reads past the end of a list
+abbrev empty_spot : FieldSpot
+empty_spot = record { null = false; off = false; end = 0 }
 
 -- no field ends behind the last one
 pub below_last : (spots : List FieldSpot) (bytes : List ℕ) (i n : ℕ) → AreSpots spots bytes → i + n < length spots
@@ -53,23 +60,6 @@ last_within spots bytes are = last (length spots) refl
     last zero none = omega arith
     last (suc n) all = are.inside n (omega arith)
 
--- the fields that were there, among more
-module _ (spots more : List FieldSpot) (bytes added : List ℕ) where
-  start_left : (k : ℕ) → k ≤ length spots → spot_start (spots ++ more) k ≡ spot_start spots k
-  start_left zero within = refl
-  start_left (suc k) within =
-      ap (λ (s : FieldSpot). s.end) (get_or_append_left spots more no_spot k (omega arith))
-
-  field_left : AreSpots spots bytes → (k : ℕ) → k < length spots
-      → field_in (spots ++ more) (bytes ++ added) k ≡ field_in spots bytes k
-  field_left are k within =
-      let start = spot_start spots k in
-      let spot = spot_at spots k in
-      ap (λ (n : ℕ). field_from (bytes ++ added) n (spot_at (spots ++ more) k)) (start_left k (omega arith))
-      ∙ ap (field_from (bytes ++ added) start) (get_or_append_left spots more no_spot k within)
-      ∙ ap (λ (b : List ℕ). let s : Stored = record { null = spot.null; off = spot.off; bytes = b } in s)
-      (slice_left bytes added start spot.end (are.rising k within) (are.inside k within))
-
 -- where a field begins, by the mark before it
 pub start_behind : (marks : List Mark) (k : ℕ) (d : Mark) → (k ≡ 0 → ⊥) → k ≤ length marks
     → (spot_of (get_or marks (k - 1) d)).end ≡ spot_start (map spot_of marks) k
@@ -79,247 +69,295 @@ start_behind marks (suc k) d some within =
     ap (λ (n : ℕ). (spot_of (get_or marks n d)).end) e
     ∙ ap (λ (s : FieldSpot). s.end) (sym (get_or-map spot_of marks k d no_spot (omega arith)))
 
--- the ends of rows that were there, among more
-start_of_row : (ends : List ℕ) (e r : ℕ) → r ≤ length ends → row_start (ends ++ e ∷ []) r ≡ row_start ends r
-start_of_row ends e zero within = refl
-start_of_row ends e (suc r) within = get_or_append_left ends (e ∷ []) 0 r (omega arith)
+-- one more mark is that of a field
+spot_same : (a b : FieldSpot) → false ≡ not (beq a.null b.null && (beq a.off b.off && nat_eq a.end b.end)) → a ≡ b
+spot_same a b test =
+    let all = and_parts (beq a.null b.null) (beq a.off b.off && nat_eq a.end b.end) (not-false _ (sym test)) in
+    let rest = and_parts (beq a.off b.off) (nat_eq a.end b.end) all.1 in
+    ap (λ (null : Bool). let s : FieldSpot = record { null = null; off = a.off; end = a.end } in s)
+    (bool_same a.null b.null all.0)
+    ∙ ap (λ (off : Bool). let s : FieldSpot = record { null = b.null; off = off; end = a.end } in s)
+    (bool_same a.off b.off rest.0)
+    ∙ ap (λ (end : ℕ). let s : FieldSpot = record { null = b.null; off = b.off; end = end } in s)
+    (eqb-true a.end b.end rest.1)
+  where
+    bool_same : (x y : Bool) → beq x y ≡ true → x ≡ y
+    bool_same true true e = refl
+    bool_same true false e = sym e
+    bool_same false true e = e
+    bool_same false false e = refl
 
-module _ (arena : Arena) (are : AreRowsIn arena) (fields : List FieldSpot) (row : List ℕ)
-    (lie : AreSpots fields row) (few : length row < 4294967296) where
-  abbrev spots : List FieldSpot
-  spots = arena.spots
+pub marked_more : (marks : List Mark) (fields : List FieldSpot) (first i : ℕ) (d : Mark) (spot : FieldSpot)
+    → i < length fields → first + length fields ≤ length marks
+    → take i (drop first (map spot_of marks)) ≡ take i fields → spot ≡ spot_of (get_or marks (first + i) d)
+    → false ≡ not (beq spot.null (get_or fields i empty_spot).null && (beq spot.off (get_or fields i empty_spot).off
+    && nat_eq spot.end (get_or fields i empty_spot).end))
+    → take (i + 1) (drop first (map spot_of marks)) ≡ take (i + 1) fields
+marked_more marks fields first i d spot within inside before is test =
+    let spots = map spot_of marks in
+    let long = length-map marks spot_of in
+    let left = length-drop first spots in
+    take_more_same (drop first spots) fields i empty_spot (omega arith) within before
+    (get_or-drop first spots i empty_spot ∙ get_or-map spot_of marks (first + i) d empty_spot (omega arith) ∙ sym is
+    ∙ spot_same spot (get_or fields i empty_spot) test)
 
-  abbrev bytes : List ℕ
-  bytes = arena.bytes
+pub marked_all : (marks : List Mark) (fields : List FieldSpot) (first i : ℕ) → length fields ≤ i
+    → first + length fields ≤ length marks → take i (drop first (map spot_of marks)) ≡ take i fields
+    → AreMarked (map spot_of marks) fields first
+marked_all marks fields first i all inside same =
+    let long = length-map marks spot_of in
+    record {
+      inside = omega arith;
+      same =
+          sym (take-take (length fields) i (drop first (map spot_of marks)) all)
+          ∙ ap (take (length fields)) (same ∙ take_all i fields all) ∙ take_all (length fields) fields (omega arith);
+    }
 
-  abbrev ends : List ℕ
-  ends = arena.ends
+-- marks that were added
+pub marked_behind : (spots fields now : List FieldSpot) (first : ℕ) → now ≡ spots ++ fields → first ≡ length spots
+    → AreMarked now fields first
+marked_behind spots fields now first are at =
+    let size = ap length are in
+    let long = length-append spots fields in
+    record {
+      inside = omega arith;
+      same =
+          ap (λ (s : List FieldSpot). take (length fields) (drop first s)) are
+          ∙ ap (take (length fields)) (drop_at spots fields first (sym at))
+          ∙ take_all (length fields) fields (omega arith);
+    }
 
-  abbrev next : List FieldSpot
-  next = map (moved (length bytes)) fields
+-- a part of what begins a longer list
+part_begins : {X : Type 0} (xs ys : List X) (first width : ℕ) → take (length xs) ys ≡ xs
+    → first + width ≤ length xs → take width (drop first ys) ≡ take width (drop first xs)
+part_begins xs ys first width begins within =
+    let n : ℕ = length xs - first in
+    let size : first + n ≡ length xs = omega arith in
+    sym (take-take width n (drop first ys) (omega arith))
+    ∙ ap (take width) (sym (drop-take first n ys) ∙ ap (λ (k : ℕ). drop first (take k ys)) size ∙ ap (drop first) begins)
 
-  abbrev last : ℕ
-  last = spot_start fields (length fields)
+-- a row, whatever stands behind its bytes
+row_left : (spots : List FieldSpot) (bytes more : List ℕ) → AreSpots spots bytes
+    → row_of spots (bytes ++ more) ≡ row_of spots bytes
+unfolding row_of
+row_left spots bytes more are =
+    map_ranges (field_in spots (bytes ++ more)) (field_in spots bytes) 0 0 (length spots)
+    (λ i below. same (0 + i) (omega arith))
+  where
+    same : (i : ℕ) → i < length spots → field_in spots (bytes ++ more) i ≡ field_in spots bytes i
+    same i within =
+        ap (λ (b : List ℕ). let s : Stored = record {
+          null = (spot_at spots i).null;
+          off = (spot_at spots i).off;
+          bytes = b;
+        } in s)
+        (slice_left bytes more (spot_start spots i) (spot_at spots i).end (are.rising i within) (are.inside i within))
 
+-- and by those before the end of its last field
+row_taken : (spots : List FieldSpot) (bytes : List ℕ) → AreSpots spots bytes
+    → row_of spots (take (spot_start spots (length spots)) bytes) ≡ row_of spots bytes
+unfolding row_of
+row_taken spots bytes are =
+    let last = spot_start spots (length spots) in
+    map_ranges (field_in spots (take last bytes)) (field_in spots bytes) 0 0 (length spots)
+    (λ i below. same (0 + i) (omega arith))
+  where
+    same : (i : ℕ) → i < length spots
+        → field_in spots (take (spot_start spots (length spots)) bytes) i ≡ field_in spots bytes i
+    same i within =
+        ap (λ (b : List ℕ). let s : Stored = record {
+          null = (spot_at spots i).null;
+          off = (spot_at spots i).off;
+          bytes = b;
+        } in s)
+        (slice_taken bytes (spot_start spots (length spots)) (spot_start spots i) (spot_at spots i).end
+        (are.rising i within) (ends_within spots bytes i are within))
+
+-- where spots lie, they do where more bytes stand behind
+spots_left : (spots : List FieldSpot) (bytes more : List ℕ) → AreSpots spots bytes → AreSpots spots (bytes ++ more)
+spots_left spots bytes more are =
+    let size = length-append bytes more in
+    record { rising = are.rising; inside = λ i within. omega (arith, are.inside i within, size) }
+
+spots_taken : (spots : List FieldSpot) (bytes : List ℕ) → AreSpots spots bytes
+    → AreSpots spots (take (spot_start spots (length spots)) bytes)
+spots_taken spots bytes are =
+    let size = length-take-le (spot_start spots (length spots)) bytes (last_within spots bytes are) in
+    record {
+      rising = are.rising;
+      inside = λ i within. omega (arith, ends_within spots bytes i are within, size);
+    }
+
+-- the rows in memory
+pub row_count : (arena : Arena) → length (rows_in arena) ≡ length arena.spans
+unfolding rows_in
+row_count arena = length-map arena.spans (λ span. row_of (spots_in arena span) (bytes_in arena span))
+
+pub row_at : (arena : Arena) (r : ℕ) → r < length arena.spans
+    → stored_in (rows_in arena) r ≡ row_of (spots_in arena (span_at arena r)) (bytes_in arena (span_at arena r))
+unfolding rows_in
+row_at arena r within =
+    get_or-map (λ span. row_of (spots_in arena span) (bytes_in arena span)) arena.spans r
+    (record { start = 0; first = 0; width = 0 }) [] within
+
+pub lies_at : (lists : Lists) (r : ℕ) → AreRowsIn (arena_of lists) → r < length lists.spans.items
+    → LiesIn (arena_of lists) (span_at (arena_of lists) r)
+lies_at lists r are within =
+    are r (record { start = 0; first = 0; width = 0 }) (omega (arith, within, length-map lists.spans.items span_of))
+
+-- what is read of a span, and of a mark
+pub span_read : (spans : List RowSpan) (r : ℕ) (span : RowSpan) (d : Span) → r < length spans
+    → span ≡ get_or spans r span → span_of span ≡ get_or (map span_of spans) r d
+span_read spans r span d within is = ap span_of is ∙ sym (get_or-map span_of spans r span d within)
+
+pub spot_read : (spots : List FieldSpot) (marks : List Mark) (i : ℕ) (d : Mark) → map spot_of marks ≡ spots
+    → i < length spots → spot_of (get_or marks i d) ≡ spot_at spots i
+spot_read spots marks i d are within =
+    let size = ap length are in
+    let long = length-map marks spot_of in
+    sym (get_or-map spot_of marks i d no_spot (omega arith)) ∙ ap (λ (s : List FieldSpot). spot_at s i) are
+
+pub marks_read : (marks : List Mark) (first width end : ℕ) → end ≡ first + width
+    → map spot_of (take (end - first) (drop first marks)) ≡ take width (drop first (map spot_of marks))
+marks_read marks first width end is =
+    let size : end - first ≡ width = omega arith in
+    ap (λ (n : ℕ). map spot_of (take n (drop first marks))) size ∙ sym (take-map spot_of width (drop first marks))
+    ∙ ap (take width) (sym (drop-map spot_of first marks))
+
+-- one more
+module _ (old new : Arena) (are : AreRowsIn old) (fields : List FieldSpot) (row : List ℕ)
+    (lie : AreSpots fields row) (adds : AddsFields old new fields row) where
   abbrev added : List ℕ
-  added = take last row
+  added = take (spot_start fields (length fields)) row
 
-  -- the fields of the new row
-  spot_right : (i : ℕ) → i < length fields
-      → spot_at (spots ++ next) (length spots + i) ≡ moved (length bytes) (spot_at fields i)
-  spot_right i within =
-      get_or-append-add spots next i no_spot ∙ get_or-map (moved (length bytes)) fields i no_spot no_spot within
+  abbrev span : Span
+  span = record { start = length old.bytes; first = adds.first; width = length fields }
 
-  start_right : (i : ℕ) → i ≤ length fields
-      → spot_start (spots ++ next) (length spots + i) ≡ length bytes + spot_start fields i
-  start_right zero within =
-      let none : length spots + 0 ≡ length spots = omega arith in
-      let zero-more : length bytes + 0 ≡ length bytes = omega arith in
-      ap (spot_start (spots ++ next)) none ∙ start_left spots next bytes added (length spots) (omega arith) ∙ are.filled
-      ∙ sym zero-more
-  start_right (suc i) within =
-      let e : length spots + suc i ≡ suc (length spots + i) = omega arith in
-      ap (spot_start (spots ++ next)) e ∙ ap (λ (s : FieldSpot). s.end) (spot_right i (omega arith))
+  longer : length old.spots ≤ length new.spots
+  longer = begun old.spots new.spots adds.begins
+    where
+      begun : {X : Type 0} (xs ys : List X) → take (length xs) ys ≡ xs → length xs ≤ length ys
+      begun [] ys e = omega arith
+      begun (x ∷ xs) [] e = cc
+      begun (x ∷ xs) (y ∷ ys) e = omega (arith, begun xs ys (cc))
 
-  field_right : (i : ℕ) → i < length fields
-      → field_in (spots ++ next) (bytes ++ added) (length spots + i) ≡ field_in fields row i
-  field_right i within =
-      let spot = spot_at fields i in
-      let start = spot_start fields i in
-      ap (λ (n : ℕ). field_from (bytes ++ added) n (spot_at (spots ++ next) (length spots + i)))
-      (start_right i (omega arith))
-      ∙ ap (field_from (bytes ++ added) (length bytes + start)) (spot_right i within)
-      ∙ ap (λ (b : List ℕ). let s : Stored = record { null = spot.null; off = spot.off; bytes = b } in s)
-      (slice_right bytes added start spot.end
-      ∙ slice_taken row last start spot.end (lie.rising i within) (ends_within fields row i lie within))
+  bytes_size : length new.bytes ≡ length old.bytes + length added
+  bytes_size = ap length adds.bytes ∙ length-append old.bytes added
 
-  -- the rows that were there, and the new one
-  row_left : (r : ℕ) → r < length ends → row_in (with_row arena fields row) r ≡ row_in arena r
-  unfolding with_row
-  row_left r within =
-      let e = length spots + length fields in
-      let begins = start_of_row ends e r (omega arith) in
-      let until = get_or_append_left ends (e ∷ []) 0 r within in
-      let begin = row_start ends r in
-      let end = slice_index ends r in
-      ap (λ (n : ℕ). map (field_in (spots ++ next) (bytes ++ added))
-      (range_with_len n (slice_index (ends ++ e ∷ []) r - n))) begins
-      ∙ ap (λ (n : ℕ). map (field_in (spots ++ next) (bytes ++ added)) (range_with_len begin (n - begin))) until
-      ∙ map_ranges (field_in (spots ++ next) (bytes ++ added)) (field_in spots bytes) begin begin (end - begin)
-      (λ i below.
-      let inside = are.inside r within in
-      field_left spots next bytes added are.lie (begin + i) (omega arith))
+  -- of those that were there
+  module _ (other : Span) (lies : LiesIn old other) where
+    spots_same : spots_in new other ≡ spots_in old other
+    spots_same = part_begins old.spots new.spots other.first other.width adds.begins lies.marks
 
-  row_right : row_in (with_row arena fields row) (length ends) ≡ row_of fields row
-  unfolding with_row row_of
-  row_right =
-      let e = length spots + length fields in
-      let begins = start_of_row ends e (length ends) (omega arith) ∙ are.all in
-      let until : slice_index (ends ++ e ∷ []) (length ends) ≡ e = get_or-append_seam ends e [] 0 in
-      let count : e - length spots ≡ length fields = omega arith in
-      let all = field_in (spots ++ next) (bytes ++ added) in
-      ap (λ (n : ℕ). map all (range_with_len n (slice_index (ends ++ e ∷ []) (length ends) - n))) begins
-      ∙ ap (λ (n : ℕ). map all (range_with_len (length spots) (n - length spots))) until
-      ∙ ap (λ (n : ℕ). map all (range_with_len (length spots) n)) count
-      ∙ map_ranges all (field_in fields row) (length spots) 0 (length fields)
-      (λ i below. let e : 0 + i ≡ i = omega arith in field_right i below ∙ ap (field_in fields row) (sym e))
+    bytes_more : bytes_in new other ≡ bytes_in old other ++ added
+    bytes_more = ap (drop other.start) adds.bytes ∙ drop-append-le other.start old.bytes added lies.start
 
-  ends_more : length (with_row arena fields row).ends ≡ length ends + 1
-  unfolding with_row
-  ends_more = length-append ends ((length spots + length fields) ∷ [])
+    row_same : row_of (spots_in new other) (bytes_in new other) ≡ row_of (spots_in old other) (bytes_in old other)
+    row_same =
+        ap (λ (s : List FieldSpot). row_of s (bytes_in new other)) spots_same
+        ∙ ap (row_of (spots_in old other)) bytes_more
+        ∙ row_left (spots_in old other) (bytes_in old other) added lies.fields
 
-  pub row_added : rows_in (with_row arena fields row) ≡ rows_in arena ++ row_of fields row ∷ []
+    lies_still : LiesIn new other
+    lies_still =
+        let long = longer in
+        let size = bytes_size in
+        let marks = lies.marks in
+        let start = lies.start in
+        record {
+          marks = omega arith;
+          start = omega arith;
+          fields =
+              subst (λ (s : List FieldSpot). AreSpots s (bytes_in new other)) (sym spots_same)
+              (subst (AreSpots (spots_in old other)) (sym bytes_more)
+              (spots_left (spots_in old other) (bytes_in old other) added lies.fields));
+        }
+
+  -- and of the new one
+  spots_new : spots_in new span ≡ fields
+  spots_new = adds.marked.same
+
+  bytes_new : bytes_in new span ≡ added
+  bytes_new = ap (drop (length old.bytes)) adds.bytes ∙ drop_at old.bytes added (length old.bytes) refl
+
+  row_new : row_of (spots_in new span) (bytes_in new span) ≡ row_of fields row
+  row_new =
+      ap (λ (s : List FieldSpot). row_of s (bytes_in new span)) spots_new ∙ ap (row_of fields) bytes_new
+      ∙ row_taken fields row lie
+
+  lies_new : LiesIn new span
+  lies_new =
+      let size = bytes_size in
+      record {
+        marks = adds.marked.inside;
+        start = omega arith;
+        fields =
+            subst (λ (s : List FieldSpot). AreSpots s (bytes_in new span)) (sym spots_new)
+            (subst (AreSpots fields) (sym bytes_new) (spots_taken fields row lie));
+      }
+
+  same_rows : (spans : List Span) → All (LiesIn old) spans
+      → map (λ s. row_of (spots_in new s) (bytes_in new s)) spans
+      ≡ map (λ s. row_of (spots_in old s) (bytes_in old s)) spans
+  same_rows [] lies = refl
+  same_rows (s ∷ spans) lies =
+      ap (λ (r : List Stored). r ∷ map (λ s. row_of (spots_in new s) (bytes_in new s)) spans)
+      (row_same s (All-head (LiesIn old) s spans lies))
+      ∙ ap (λ (rows : List (List Stored)). row_of (spots_in old s) (bytes_in old s) ∷ rows)
+      (same_rows spans (All-tail (LiesIn old) s spans lies))
+
+  pub row_added : rows_in new ≡ rows_in old ++ row_of fields row ∷ []
   unfolding rows_in
   row_added =
-      let rows = row_in (with_row arena fields row) in
-      ap (λ (n : ℕ). map rows (range_with_len 0 n)) ends_more
-      ∙ map-range_with_len_more rows 0 (length ends) (length ends) (omega arith)
-      ∙ ap (λ (r : List Stored). map rows (range_with_len 0 (length ends)) ++ r ∷ []) row_right
-      ∙ ap (λ (rs : List (List Stored)). rs ++ row_of fields row ∷ [])
-      (map_ranges rows (row_in arena) 0 0 (length ends)
-      (λ i below. let e : 0 + i ≡ i = omega arith in
-      ap rows e ∙ row_left i below ∙ ap (row_in arena) (sym e)))
+      let rows = λ (s : Span). row_of (spots_in new s) (bytes_in new s) in
+      ap (map rows) adds.spans ∙ map-append rows old.spans (span ∷ [])
+      ∙ ap (λ (r : List Stored). map rows old.spans ++ r ∷ []) row_new
+      ∙ ap (λ (all : List (List Stored)). all ++ row_of fields row ∷ []) (same_rows old.spans are)
 
-  -- they lie in order
-  size_all : length (spots ++ next) ≡ length spots + length fields
-  size_all = length-append spots next ∙ ap (λ (n : ℕ). length spots + n) (length-map fields (moved (length bytes)))
-
-  size_bytes : length (bytes ++ added) ≡ length bytes + last
-  size_bytes =
-      length-append bytes added
-      ∙ ap (λ (n : ℕ). length bytes + n) (length-take-le last row (last_within fields row lie))
-
-  record LiesThere (k : ℕ) : Type 0 where
-    rising : spot_start (spots ++ next) k ≤ (spot_at (spots ++ next) k).end
-    inside : (spot_at (spots ++ next) k).end ≤ length (bytes ++ added)
-    short : (spot_at (spots ++ next) k).end < spot_start (spots ++ next) k + 4294967296
-
-  lies_there : (k : ℕ) → k < length (spots ++ next) → LiesThere k
-  lies_there k below = elim (cases_lt k (length spots)) [
-    | inl left ↦
-        let start = start_left spots next bytes added k (omega arith) in
-        let spot = ap (λ (s : FieldSpot). s.end) (get_or_append_left spots next no_spot k left) in
-        let rising = are.lie.rising k left in
-        let inside = are.lie.inside k left in
-        let size = size_bytes in
-        let short = are.short k left in
-        record { rising = omega arith; inside = omega arith; short = omega arith }
-    | inr right ↦
-        let i : ℕ = k - length spots in
-        let e : k ≡ length spots + i = omega arith in
-        let within : i < length fields = omega (arith, below, size_all) in
-        let start = ap (spot_start (spots ++ next)) e ∙ start_right i (omega arith) in
-        let spot = ap (λ (n : ℕ). (spot_at (spots ++ next) n).end) e
-        ∙ ap (λ (s : FieldSpot). s.end) (spot_right i within) in
-        let rising = lie.rising i within in
-        let inside = ends_within fields row i lie within in
-        let whole = last_within fields row lie in
-        let size = size_bytes in
-        record { rising = omega arith; inside = omega arith; short = omega arith }
-  ]
-
-  pub rows_lie : AreRowsIn (with_row arena fields row)
-  unfolding with_row
+  pub rows_lie : AreRowsIn new
   rows_lie =
-      let e = length spots + length fields in
-      let size = size_all in
-      record {
-        lie =
-            record { rising = λ k below. (lies_there k below).rising; inside = λ k below. (lies_there k below).inside };
-        short = λ k below. (lies_there k below).short;
-        filled =
-            ap (spot_start (spots ++ next)) size_all ∙ start_right (length fields) (omega arith) ∙ sym size_bytes;
-        rising = λ r below. (both r below).0;
-        inside = λ r below. (both r below).1;
-        all = ap (row_start (ends ++ e ∷ [])) more ∙ get_or-append_seam ends e [] 0 ∙ sym size_all;
-      }
-    where
-      more : length (ends ++ (length spots + length fields) ∷ []) ≡ suc (length ends)
-      more = length-append ends ((length spots + length fields) ∷ []) ∙ omega arith
+      subst (All (LiesIn new)) (sym adds.spans)
+      (All-append (LiesIn new) old.spans (span ∷ []) (λ k d below. lies_still (get_or old.spans k d) (are k d below))
+      (All-cons (LiesIn new) span [] lies_new (All-nil (LiesIn new))))
 
-      both : (r : ℕ) → r < length (ends ++ (length spots + length fields) ∷ [])
-          → (row_start (ends ++ (length spots + length fields) ∷ []) r
-          ≤ slice_index (ends ++ (length spots + length fields) ∷ []) r)
-          × (slice_index (ends ++ (length spots + length fields) ∷ []) r ≤ length (spots ++ next))
-      both r below = elim (cases_lt r (length ends)) [
-        | inl left ↦
-            let e = length spots + length fields in
-            let start = start_of_row ends e r (omega arith) in
-            let until = get_or_append_left ends (e ∷ []) 0 r left in
-            let rising = are.rising r left in
-            let inside = are.inside r left in
-            let size = size_all in
-            (omega arith, omega arith)
-        | inr right ↦
-            let e = length spots + length fields in
-            let last_row : r ≡ length ends = omega (arith, below, more) in
-            let start = ap (row_start (ends ++ e ∷ [])) last_row
-            ∙ start_of_row ends e (length ends) (omega arith) ∙ are.all in
-            let until = ap (slice_index (ends ++ e ∷ [])) last_row ∙ get_or-append_seam ends e [] 0 in
-            let size = size_all in
-            (omega arith, omega arith)
-      ]
-
--- what is read of the rows
-pub row_count : (arena : Arena) → length (rows_in arena) ≡ length arena.ends
+-- what is seen of them
+pub none_in : (arena : Arena) → arena.spans ≡ [] → rows_in arena ≡ []
 unfolding rows_in
-row_count arena = length-map-range_with_len (row_in arena) 0 (length arena.ends)
+none_in arena none = ap (map (λ (s : Span). row_of (spots_in arena s) (bytes_in arena s))) none
 
-module _ (arena : Arena) (r : ℕ) (within : r < length (rows_in arena)) where
-  pub row_at : stored_in (rows_in arena) r ≡ row_in arena r
-  unfolding rows_in
-  row_at =
-      get_or-map-range_with_len (row_in arena) 0 (length arena.ends) r r [] (omega (arith, within, row_count arena))
-      (omega arith)
+pub count_seen : (lists : Lists) (now : List (List Stored)) → rows_in (arena_of lists) ≡ now
+    → length now ≡ length lists.spans.items
+count_seen lists now seen = ap length (sym seen) ∙ row_count (arena_of lists) ∙ length-map lists.spans.items span_of
 
-  pub row_width : length (stored_in (rows_in arena) r) ≡ slice_index arena.ends r - row_start arena.ends r
-  row_width =
-      ap length row_at
-      ∙ length-map-range_with_len (field_in arena.spots arena.bytes) (row_start arena.ends r)
-      (slice_index arena.ends r - row_start arena.ends r)
+module _ (lists : Lists) (now : List (List Stored)) (r : ℕ) (seen : rows_in (arena_of lists) ≡ now)
+    (within : r < length now) where
+  abbrev span_here : Span
+  span_here = span_at (arena_of lists) r
 
-  pub field_at_place : (i : ℕ) → i < length (stored_in (rows_in arena) r)
-      → stored_at (stored_in (rows_in arena) r) i ≡ field_in arena.spots arena.bytes (row_start arena.ends r + i)
-  field_at_place i inside =
-      ap (λ (row : List Stored). stored_at row i) row_at
-      ∙ get_or-map-range_with_len (field_in arena.spots arena.bytes) (row_start arena.ends r)
-      (slice_index arena.ends r - row_start arena.ends r) i (row_start arena.ends r + i)
-      (record { null = true; off = false; bytes = [] }) (omega (arith, inside, row_width)) refl
+  pub span_within : r < length lists.spans.items
+  span_within = omega (arith, within, count_seen lists now seen)
 
--- the same of what is seen of them
-pub count_seen : (arena : Arena) (now : List (List Stored)) → rows_in arena ≡ now → length now ≡ length arena.ends
-count_seen arena now seen = ap length (sym seen) ∙ row_count arena
+  pub row_seen : row_of (spots_in (arena_of lists) span_here) (bytes_in (arena_of lists) span_here) ≡ stored_in now r
+  row_seen =
+      sym (row_at (arena_of lists) r (omega (arith, within, ap length (sym seen), row_count (arena_of lists))))
+      ∙ ap (λ (rows : List (List Stored)). stored_in rows r) seen
 
-pub row_seen : (arena : Arena) (now : List (List Stored)) (r : ℕ) → rows_in arena ≡ now → r < length now
-    → r < length arena.ends
-row_seen arena now r seen within = omega (arith, within, count_seen arena now seen)
+  pub width_seen : AreRowsIn (arena_of lists) → length (stored_in now r) ≡ span_here.width
+  width_seen are =
+      let lies = lies_at lists r are span_within in
+      let marks = lies.marks in
+      let left = length-drop span_here.first (arena_of lists).spots in
+      ap length (sym row_seen) ∙ length-row (spots_in (arena_of lists) span_here) (bytes_in (arena_of lists) span_here)
+      ∙ length-take-le span_here.width (drop span_here.first (arena_of lists).spots) (omega arith)
 
-pub width_seen : (arena : Arena) (now : List (List Stored)) (r : ℕ) → rows_in arena ≡ now → r < length now
-    → slice_index arena.ends r - row_start arena.ends r ≡ length (stored_in now r)
-width_seen arena now r seen within =
-    sym (row_width arena r (subst (λ (rows : List (List Stored)). r < length rows) (sym seen) within))
-    ∙ ap (λ (rows : List (List Stored)). length (stored_in rows r)) seen
+  module _ (i : ℕ) (inside : i < length (stored_in now r)) where
+    pub spot_within : i < length (spots_in (arena_of lists) span_here)
+    spot_within =
+        within_spots (spots_in (arena_of lists) span_here) (bytes_in (arena_of lists) span_here) (stored_in now r) i
+        row_seen inside
 
-pub none_in : (arena : Arena) → arena.ends ≡ [] → rows_in arena ≡ []
-unfolding rows_in
-none_in arena none = ap (λ (ends : List ℕ). map (row_in arena) (range_with_len 0 (length ends))) none
-
--- lists that have one more row
-pub arena_more : (arena : Arena) (fields : List FieldSpot) (row : List ℕ) (marked : List FieldSpot)
-    (filled until : List ℕ) → marked ≡ arena.spots ++ map (moved (length arena.bytes)) fields
-    → filled ≡ arena.bytes ++ take (spot_start fields (length fields)) row
-    → until ≡ arena.ends ++ (length arena.spots + length fields) ∷ []
-    → (let now : Arena = record { spots = marked; bytes = filled; ends = until } in now) ≡ with_row arena fields row
-unfolding with_row
-arena_more arena fields row marked filled until first second third =
-    ap (λ (s : List FieldSpot). let a : Arena = record { spots = s; bytes = filled; ends = until } in a) first
-    ∙ ap (λ (b : List ℕ). let a : Arena = record {
-      spots = arena.spots ++ map (moved (length arena.bytes)) fields;
-      bytes = b;
-      ends = until;
-    } in a) second
-    ∙ ap (λ (e : List ℕ). let a : Arena = record {
-      spots = arena.spots ++ map (moved (length arena.bytes)) fields;
-      bytes = arena.bytes ++ take (spot_start fields (length fields)) row;
-      ends = e;
-    } in a) third
+    pub field_here : stored_at (stored_in now r) i
+        ≡ field_in (spots_in (arena_of lists) span_here) (bytes_in (arena_of lists) span_here) i
+    field_here =
+        field_seen (spots_in (arena_of lists) span_here) (bytes_in (arena_of lists) span_here) (stored_in now r) i
+        row_seen inside

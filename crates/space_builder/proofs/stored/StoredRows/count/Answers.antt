@@ -1,9 +1,8 @@
 use Rattle.std.proofs.Common.{arith}
-use Rattle.space_builder.specs.build.Arena.{arena_of}
 use Rattle.space_builder.proofs.building.RowsIn.{count_seen}
 use Rattle.space_builder.proofs.stored.StoredRows.count.Goals as goal
 
 pub returns : goal.returns
 returns c =
     let lists = c.self.inside.lists in
-    omega (arith, c.len.ensures, lists.ends.ok, count_seen (arena_of lists) c.args.self.now c.self.view_is)
+    omega (arith, c.len.ensures, lists.spans.ok, count_seen lists c.args.self.now c.self.view_is)

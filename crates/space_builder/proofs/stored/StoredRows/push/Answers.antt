@@ -1,19 +1,17 @@
-use Rattle.std.proofs.Common.{◌∙◌, ◌++◌, ◌∷◌, List, [], ap, sym, subst}
+use Rattle.std.proofs.Common.{◌∙◌, ◌++◌, ◌∷◌, List, [], ap}
 use Rattle.row_layout.specs.StoredRow.{Stored}
 use Rattle.space_builder.specs.build.Stored.{row_of}
-use Rattle.space_builder.specs.build.Arena.{AreRowsIn, arena_of, rows_in}
+use Rattle.space_builder.specs.build.Arena.{arena_of}
 use Rattle.space_builder.proofs.building.RowsIn.{row_added, rows_lie}
 use Rattle.space_builder.proofs.stored.StoredRows.push.Goals as goal
 
 pub invariant_of-self-2 : goal.invariant_of-self-2
 invariant_of-self-2 c =
-    subst AreRowsIn (sym c.in_ok-push.ensures.ok)
-    (rows_lie (arena_of c.self.inside.lists) c.self.invariant c.args.fields.now c.args.bytes.now c.requires
-    c.in_ok-push.ensures.short)
+    rows_lie (arena_of c.self.inside.lists) (arena_of c.push.new.self) c.self.invariant c.args.fields.now
+    c.args.bytes.now c.requires c.in_ok-push.ensures.ok
 
 pub returns-clause-ok : goal.returns-clause-ok
 returns-clause-ok c =
-    ap rows_in c.in_ok-push.ensures.ok
-    ∙ row_added (arena_of c.self.inside.lists) c.self.invariant c.args.fields.now c.args.bytes.now c.requires
-    c.in_ok-push.ensures.short
+    row_added (arena_of c.self.inside.lists) (arena_of c.push.new.self) c.self.invariant c.args.fields.now
+    c.args.bytes.now c.requires c.in_ok-push.ensures.ok
     ∙ ap (λ (rows : List (List Stored)). rows ++ row_of c.args.fields.now c.args.bytes.now ∷ []) c.self.view_is
