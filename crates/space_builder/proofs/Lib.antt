@@ -10,6 +10,7 @@ pub mod IndexPlans
 pub mod PutSteps
 pub mod ValuePuts
 pub mod ValueSteps
+pub mod FirstPages
 pub mod SpacePuts
 pub mod TreeSpaces
 pub mod HeadPuts

@@ -13,7 +13,7 @@ use Rattle.row_layout.specs.StoredRow.{Stored}
 use Rattle.space_builder.specs.declared.built.PutStop.{PutStop}
 use Rattle.space_builder.specs.declared.space.Space.{Space}
 use Rattle.space_builder.specs.build.Puts.{HaveOnePage, PutsPages}
-use Rattle.space_builder.specs.build.Room.{TakesPages, TakesValues, HasLeafPages, pages_behind, first_pages_behind}
+use Rattle.space_builder.specs.build.Room.{TakesPages, TakesValues, HasLeafPages, pages_behind, AreFirstPages}
 use Rattle.space_builder.specs.build.Space.{IsSpaceOf, leaves_of, pages_behind_head}
 use Rattle.space_builder.specs.layout.Layout.{Rows, tree_counts, segment_sizes, value_counts, value_number, value_total, value_pages, trees_pages}
 use Rattle.space_builder.specs.layout.Layout.{segment_pages, system_pages}
@@ -94,13 +94,15 @@ module _ (laws : LowerLaws) (space : Space) (rows : Rows) (is : IsSpaceOf space 
       ∙ ap (λ (s : List ℕ). pages_behind table.format s leaves space.rows.now) sizes_are
       ∙ values_are leaves leaves_are) puts
 
-  pub first_pages_are : (pages : List ℕ) (leaves : ℕ) → leaves ≡ leaves_of table rows
-      → pages ≡ first_pages_behind table.format sizes leaves space.rows.now
-      → pages
-      ≡ first_pages_behind table.format (segment_sizes table rows) (leaves_of table rows) space.rows.now
-  first_pages_are pages leaves leaves_are pages_are =
-      pages_are ∙ ap (λ (s : List ℕ). first_pages_behind table.format s leaves space.rows.now) is.plan.sizes
-      ∙ ap (λ (n : ℕ). first_pages_behind table.format (segment_sizes table rows) n space.rows.now) leaves_are
+  pub first_pages_are : (starts pages : List ℕ) (format : Format) (sizes_now : List ℕ) (leaves : ℕ)
+      → format ≡ table.format → sizes_now ≡ sizes → leaves ≡ leaves_of table rows
+      → AreFirstPages format sizes_now leaves space.rows.now starts pages
+      → AreFirstPages table.format (segment_sizes table rows) (leaves_of table rows) space.rows.now starts pages
+  first_pages_are starts pages format sizes_now leaves format_is sizes_are leaves_are first =
+      subst (λ (n : ℕ). AreFirstPages table.format (segment_sizes table rows) n space.rows.now starts pages) leaves_are
+      (subst (λ (s : List ℕ). AreFirstPages table.format s leaves space.rows.now starts pages)
+      (sizes_are ∙ is.plan.sizes)
+      (subst (λ (f : Format). AreFirstPages f sizes_now leaves space.rows.now starts pages) format_is first))
 
   has_leaf_pages : HasLeafPages (segment_sizes table rows) (leaves_of table rows + value_total table rows)
   has_leaf_pages =

@@ -1,15 +1,11 @@
 -- The trees of a tablespace that is put are those of its layout.
-use Rattle.std.proofs.Common.{◌≡◌, ◌≢◌, ℕ, zero, suc, ◌+◌, ◌*◌, ◌<◌, ◌≤◌, ◌++◌, Bool, true, false, cond, List, []}
-use Rattle.std.proofs.Common.{length, get_or, slice_index, IfSome, sym, ap, ◌∙◌, subst, arith}
+use Rattle.std.proofs.Common.{◌≡◌, ◌≢◌, ℕ, ◌<◌, ◌≤◌, Bool, true, false, cond, List, []}
+use Rattle.std.proofs.Common.{length, get_or, IfSome, sym, ap, ◌∙◌, subst, arith}
 use Rattle.std.proofs.Common.{length-drop}
-use Rattle.std.specs.List.{flat_map, range_with_len}
 use Rattle.std.proofs.lemmas.Bool.{ne_eqb}
-use Rattle.std.proofs.lemmas.List.{get_or_append_left, get_or-append-add}
-use Rattle.std.proofs.lemmas.List.Elements.{All-get_or}
-use Rattle.std.proofs.lemmas.List.FromFn.{get_or-map-range_with_len, length-map-range_with_len}
+use Rattle.std.proofs.lemmas.List.FromFn.{get_or-map-range_with_len}
 use Rattle.page_source.specs.declared.objects.PageStore.{Ghosts as StoreOf}
 use Rattle.column_values.specs.Types.{Fields}
-use Rattle.compact_record.specs.Writing.{FitsField, FitFields}
 use Rattle.schema_text.specs.IndexFields.{leaf_fields, node_fields}
 use Rattle.schema_text.specs.TableDef.{TableDef}
 use Rattle.schema_text.specs.declared.table.Format.{Format}
@@ -19,16 +15,16 @@ use Rattle.space_layout.specs.NumberedPages.{Numbered}
 use Rattle.tree_layout.specs.Entries.{Entry}
 use Rattle.tree_layout.specs.Division.{tree_levels, level_counts, CanDivide}
 use Rattle.tree_layout.specs.Places.{FitsSegments, tree_number}
-use Rattle.row_layout.specs.HoldsValues.{clustered_entries, clustered_entry, pages_of_stored, stored_in}
+use Rattle.row_layout.specs.HoldsValues.{clustered_entries, pages_of_stored, stored_in}
 use Rattle.row_layout.specs.Laws.{FittedRowsAreRows}
 use Rattle.row_layout.specs.SecondaryEntries.{secondary_entries}
-use Rattle.row_layout.specs.StoredRow.{Stored, stored_at, kept_prefix, going_over, parts_of_row, part_of_field}
-use Rattle.row_layout.proofs.Zips.{zip_length}
+use Rattle.row_layout.specs.StoredRow.{Stored, stored_at, kept_prefix, going_over}
 use Rattle.space_builder.specs.declared.plan.IndexPages.{IndexPages}
 use Rattle.space_builder.specs.declared.space.Space.{Space}
 use Rattle.space_builder.specs.declared.tree_plan.TreePlan.{TreePlan}
 use Rattle.space_builder.specs.build.Picked.{first_page_in, picked_entries, entry_fields}
-use Rattle.space_builder.specs.build.Room.{TakesPages, first_page, first_pages, first_pages_behind, number_behind}
+use Rattle.space_builder.specs.build.Room.{TakesPages, AreFirstPages, number_behind}
+use Rattle.space_builder.specs.declared.values.FirstPages.{FirstPages}
 use Rattle.space_builder.specs.build.Space.{IsSpaceOf, IsTreeOf, leaves_of}
 use Rattle.space_builder.specs.build.Order.{IsIndexOrder}
 use Rattle.space_builder.specs.build.StoredRows.{NameSamePages, PicksEntries, SamePagesGiveRecords}
@@ -121,27 +117,6 @@ module _ (laws : LowerLaws) (space : Space) (rows : Rows) (is : IsSpaceOf space 
   pub can_put : CanPutTree tree entries
   can_put = record { is_plan = is_plan; divide = divides; counted = counted }
 
--- member i of list r, where all lists have the same length
-at_flat_from : (f : ℕ → List ℕ) (width from count r i : ℕ) → ((k : ℕ) → from ≤ k → k < from + count → length (f k) ≡ width)
-    → r < count → i < width → slice_index (flat_map f (range_with_len from count)) (r * width + i)
-    ≡ slice_index (f (from + r)) i
-at_flat_from f width from zero r i each below within = absurd (omega arith)
-at_flat_from f width from (suc count) zero i each below within =
-    let size = each from (omega arith) (omega arith) in
-    let place : 0 * width + i ≡ i = omega arith in
-    let here : from + 0 ≡ from = omega arith in
-    ap (slice_index (f from ++ flat_map f (range_with_len (from + 1) count))) place
-    ∙ get_or_append_left (f from) (flat_map f (range_with_len (from + 1) count)) 0 i (omega arith)
-    ∙ ap (λ (k : ℕ). slice_index (f k) i) (sym here)
-at_flat_from f width from (suc count) (suc r) i each below within =
-    let size = each from (omega arith) (omega arith) in
-    let place : suc r * width + i ≡ length (f from) + (r * width + i) = omega (arith, size) in
-    let next : from + 1 + r ≡ from + suc r = omega arith in
-    ap (slice_index (f from ++ flat_map f (range_with_len (from + 1) count))) place
-    ∙ get_or-append-add (f from) (flat_map f (range_with_len (from + 1) count)) (r * width + i) 0
-    ∙ at_flat_from f width (from + 1) count r i (λ k low high. each k (omega arith) (omega arith)) (omega arith) within
-    ∙ ap (λ (k : ℕ). slice_index (f k) i) next
-
 -- a field that went off goes on in a page
 kept_less : (format : Format) → kept_prefix format ≤ going_over format
 kept_less Compact = omega arith
@@ -166,26 +141,6 @@ module _ (laws : LowerLaws) (fitted : FittedRowsAreRows) (space : Space) (rows :
     some_index : 0 < length space.schema.now.indexes
     some_index = let some = is.can.is_table.clustered in omega arith
 
-    -- all rows have as many fields as the records
-    row_width : (r : ℕ) → r < length stored_of
-        → length (stored_in stored_of r) ≡ length (leaf_fields table_of 0).fields
-    unfolding clustered_entries parts_of_row
-    row_width r below =
-        let entries = clustered_entries table_of.format (value_number table_of rows) stored_of in
-        let divide = can_divide laws table_of rows is.can 0 some_index (value_number table_of rows) in
-        let size = length-map-range_with_len (clustered_entry table_of.format (value_number table_of rows) stored_of) 0
-        (length stored_of) in
-        let here = get_or-map-range_with_len (clustered_entry table_of.format (value_number table_of rows) stored_of) 0
-        (length stored_of) r r [] below (omega arith) in
-        let fit : FitFields (leaf_fields table_of 0)
-        (clustered_entry table_of.format (value_number table_of rows) stored_of r) =
-        subst (FitFields (leaf_fields table_of 0)) here
-        (All-get_or (FitFields (leaf_fields table_of 0)) entries r [] (omega arith) divide.fit) in
-        let long = zip_length FitsField (leaf_fields table_of 0).fields
-        (clustered_entry table_of.format (value_number table_of rows) stored_of r) fit in
-        sym (length-map-range_with_len (λ i. part_of_field table_of.format (value_number table_of rows r i 0)
-        (stored_at (stored_in stored_of r) i)) 0 (length (stored_in stored_of r))) ∙ sym long
-
     field_went : (r i : ℕ) → r < length stored_of → i < length (stored_in stored_of r)
         → (stored_at (stored_in stored_of r) i).off ≡ true
         → going_over table_of.format < length (stored_at (stored_in stored_of r) i).bytes
@@ -197,48 +152,37 @@ module _ (laws : LowerLaws) (fitted : FittedRowsAreRows) (space : Space) (rows :
         let size = fields.count in
         ((fields.each i (omega arith)).went went).long
 
-    pub name_pages : (pages : List ℕ)
-        → pages ≡ first_pages_behind table_of.format (segment_sizes table_of rows) (leaves_of table_of rows) space.rows.now
-        → NameSamePages stored_of (first_page_in pages (length (leaf_fields table_of 0).fields))
-        (value_number table_of rows)
+    pub name_pages : (starts pages : List ℕ)
+        → AreFirstPages table_of.format (segment_sizes table_of rows) (leaves_of table_of rows) space.rows.now starts pages
+        → NameSamePages stored_of (first_page_in starts pages) (value_number table_of rows)
     unfolding value_number value_counts
-    name_pages pages pages_are r i below inside went =
+    name_pages starts pages first r i below inside went =
         let format = table_of.format in
-        let width = length (leaf_fields table_of 0).fields in
-        let number = number_behind format (segment_sizes table_of rows) (leaves_of table_of rows) stored_of in
+        let sizes = segment_sizes table_of rows in
+        let leaves = leaves_of table_of rows in
         let row = stored_in stored_of r in
-        let list : ℕ → List ℕ = λ r. first_pages format (number r) (stored_in stored_of r) in
-        let stands : pages ≡ flat_map list (range_with_len 0 (length stored_of)) =
-        pages_are
-        ∙ ap (first_pages_behind format (segment_sizes table_of rows) (leaves_of table_of rows)) is.same in
-        let each : (k : ℕ) → 0 ≤ k → k < 0 + length stored_of → length (list k) ≡ width =
-        λ k low high. length-map-range_with_len
-        (λ i. first_page (number k i) (pages_of_stored format (stored_at (stored_in stored_of k) i))) 0
-        (length (stored_in stored_of k))
-        ∙ row_width k (omega arith) in
-        let wide = row_width r below in
         let some = some_page format (stored_at row i).null (stored_at row i).off (stored_at row i).bytes went
         (field_went r i below inside went) in
-        let first : 0 + r ≡ r = omega arith in
-        ap (λ (ns : List ℕ). slice_index ns (r * width + i)) stands
-        ∙ at_flat_from list width 0 (length stored_of) r i each below (omega arith)
-        ∙ ap (λ (k : ℕ). slice_index (list k) i) first
-        ∙ get_or-map-range_with_len (λ i. first_page (number r i) (pages_of_stored format (stored_at row i))) 0
-        (length row) i i 0 inside (omega arith)
-        ∙ get_or-map-range_with_len (number r i) 0 (pages_of_stored format (stored_at row i)) 0 0 0 some (omega arith)
+        subst (λ (stored : List (List Stored)). AreFirstPages format sizes leaves stored starts pages) is.same first r i
+        below inside went
+        ∙ get_or-map-range_with_len (number_behind format sizes leaves stored_of r i) 0
+        (pages_of_stored format (stored_at row i)) 0 0 0 some (omega arith)
 
     -- the records that are put are those of the layout
-    pub clustered_are : SamePagesGiveRecords → (pages : List ℕ) (format : Format) (width : ℕ)
-        → pages ≡ first_pages_behind table_of.format (segment_sizes table_of rows) (leaves_of table_of rows) space.rows.now
-        → format ≡ table_of.format → width ≡ length (leaf_fields table_of 0).fields
-        → clustered_entries format (first_page_in pages width) space.rows.now ≡ index_entries table_of rows 0
+    pub clustered_are : SamePagesGiveRecords → (first : FirstPages) (starts pages : List ℕ) (format : Format)
+        → AreFirstPages table_of.format (segment_sizes table_of rows) (leaves_of table_of rows) space.rows.now
+        first.starts.items first.pages.items
+        → starts ≡ first.starts.items → pages ≡ first.pages.items → format ≡ table_of.format
+        → clustered_entries format (first_page_in starts pages) space.rows.now ≡ index_entries table_of rows 0
     unfolding index_entries
-    clustered_are records pages format width pages_are format_is width_is =
-        ap (λ (f : Format). clustered_entries f (first_page_in pages width) space.rows.now) format_is
-        ∙ ap (λ (w : ℕ). clustered_entries table_of.format (first_page_in pages w) space.rows.now) width_is
-        ∙ ap (clustered_entries table_of.format (first_page_in pages (length (leaf_fields table_of 0).fields))) is.same
-        ∙ records table_of.format stored_of (first_page_in pages (length (leaf_fields table_of 0).fields))
-        (value_number table_of rows) (name_pages pages pages_are)
+    clustered_are records first starts pages format are starts_are pages_are format_is =
+        ap (λ (f : Format). clustered_entries f (first_page_in starts pages) space.rows.now) format_is
+        ∙ ap (λ (ns : List ℕ). clustered_entries table_of.format (first_page_in ns pages) space.rows.now) starts_are
+        ∙ ap (λ (ns : List ℕ). clustered_entries table_of.format (first_page_in first.starts.items ns) space.rows.now)
+        pages_are
+        ∙ ap (clustered_entries table_of.format (first_page_in first.starts.items first.pages.items)) is.same
+        ∙ records table_of.format stored_of (first_page_in first.starts.items first.pages.items)
+        (value_number table_of rows) (name_pages first.starts.items first.pages.items are)
 
 -- and so are the entries of another index
 pub secondary_are : (space : Space) (rows : Rows) (is : IsSpaceOf space rows) → PicksEntries → (j : ℕ) → 0 < j

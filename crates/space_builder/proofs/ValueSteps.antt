@@ -1,6 +1,6 @@
 -- The pages of values are put field by field, and row by row.
 use Rattle.std.proofs.Common.{◌≡◌, ℕ, ◌+◌, ◌<◌, ◌++◌, List, [], ◌∷◌, length, map, sum, slice_index, Ok, Err}
-use Rattle.std.proofs.Common.{refl, sym, ap, ◌∙◌, subst, arith, append_assoc, append-nil}
+use Rattle.std.proofs.Common.{sym, ap, ◌∙◌, subst, arith, append_assoc, append-nil}
 use Rattle.std.specs.List.{flat_map, range_with_len}
 use Rattle.std.proofs.lemmas.List.{length-map}
 use Rattle.page_source.specs.declared.objects.PageStore.{Ghosts as StoreOf}
@@ -16,10 +16,10 @@ use Rattle.space_builder.specs.declared.built.PutStop.{PutStop}
 use Rattle.space_builder.specs.layout.ValuePage.{page_counts, pages_of_bytes, pages_of_field, pages_of_row, pages_of_values}
 use Rattle.space_builder.specs.build.Puts.{HaveOnePage, PutsPages}
 use Rattle.space_builder.specs.build.Room.{TakesPages, HasLeafPages, TakesRow, TakesValues, gone_bytes, row_counts}
-use Rattle.space_builder.specs.build.Room.{row_number, row_pages, first_page, first_pages, row_first_pages}
+use Rattle.space_builder.specs.build.Room.{row_number, row_pages, first_page}
 use Rattle.space_builder.specs.build.Room.{number_behind, pages_behind}
 use Rattle.space_builder.proofs.Puts.{ArePut, none_put, all_put, puts_all}
-use Rattle.space_builder.proofs.PutSteps.{next_put, next_failed, some_next, some_one, flat_more}
+use Rattle.space_builder.proofs.PutSteps.{next_put, next_failed, some_next, some_one}
 use Rattle.space_builder.proofs.ValuePuts.{field_pages, field_count_is, count_at, counts_at, row_number_is, takes_still}
 use Rattle.space_builder.proofs.ValuePuts.{before_none, before_more, before_all, before_room, first_more}
 use Rattle.space_builder.proofs.ValuePuts.{rows_none, rows_more, rows_room}
@@ -128,19 +128,14 @@ module _ {T : Type 0} (g : StoreOf T) (format : Format) (sizes : List ℕ) (leav
   abbrev row_list : ℕ → List Numbered
   row_list r = pages_of_row format (number_behind format sizes leaves rows r) (stored_in rows r)
 
-  abbrev first_list : ℕ → List ℕ
-  first_list r = first_pages format (number_behind format sizes leaves rows r) (stored_in rows r)
-
-  pub record RowsPut (old now : T) (r next : ℕ) (firsts : List ℕ) : Type 0 where
+  pub record RowsPut (old now : T) (r next : ℕ) : Type 0 where
     pub put : ArePut g old now (flat_map row_list (range_with_len 0 r))
     pub place : next ≡ leaves + pages_before_row (page_counts format rows) r
-    pub first : firsts ≡ flat_map first_list (range_with_len 0 r)
 
-  pub rows_start : (old : T) → RowsPut old old 0 leaves []
+  pub rows_start : (old : T) → RowsPut old old 0 leaves
   rows_start old = record {
     put = none_put g old;
     place = let none = rows_none (page_counts format rows) in omega arith;
-    first = refl;
   }
 
   row_pages_are : (r next : ℕ) → r < length rows → next ≡ leaves + pages_before_row (page_counts format rows) r
@@ -154,9 +149,9 @@ module _ {T : Type 0} (g : StoreOf T) (format : Format) (sizes : List ℕ) (leav
   one_row one r inside =
       some_one (row_list r) (pages_behind format sizes leaves rows) (some_next g row_list (length rows) r inside) one
 
-  pub row_takes : (old now : T) (r next : ℕ) (firsts : List ℕ) → TakesValues (g.told old) format sizes leaves rows
-      → r < length rows → RowsPut old now r next firsts → TakesRow (g.told now) format sizes next (stored_in rows r)
-  row_takes old now r next firsts takes inside put =
+  pub row_takes : (old now : T) (r next : ℕ) → TakesValues (g.told old) format sizes leaves rows
+      → r < length rows → RowsPut old now r next → TakesRow (g.told now) format sizes next (stored_in rows r)
+  row_takes old now r next takes inside put =
       let long = length-map rows (λ (row : List Stored). map (pages_of_stored format) row) in
       let room = rows_room (page_counts format rows) r (omega arith) in
       let counts = ap (λ (ns : List ℕ). sum ns) (counts_at format rows r inside) in
@@ -168,14 +163,12 @@ module _ {T : Type 0} (g : StoreOf T) (format : Format) (sizes : List ℕ) (leav
         one = subst HaveOnePage (sym (row_pages_are r next inside put.place)) (one_row takes.one r inside);
       }
 
-  pub rows_next : (old now new : T) (r next next' : ℕ) (firsts firsts' : List ℕ)
-      → HaveOnePage (pages_behind format sizes leaves rows) → r < length rows → RowsPut old now r next firsts
+  pub rows_next : (old now new : T) (r next next' : ℕ)
+      → HaveOnePage (pages_behind format sizes leaves rows) → r < length rows → RowsPut old now r next
       → PutsPages g now new (row_pages format sizes next (stored_in rows r)) (Ok next')
-      → next' ≡ next + sum (row_counts format (stored_in rows r))
-      → firsts' ≡ firsts ++ row_first_pages format sizes next (stored_in rows r)
-      → RowsPut old new (r + 1) next' firsts'
+      → next' ≡ next + sum (row_counts format (stored_in rows r)) → RowsPut old new (r + 1) next'
   unfolding pages_of_values
-  rows_next old now new r next next' firsts firsts' one inside put puts place first =
+  rows_next old now new r next next' one inside put puts place =
       let long = length-map rows (λ (row : List Stored). map (pages_of_stored format) row) in
       let more = rows_more (page_counts format rows) r (omega arith) in
       let counts = ap (λ (ns : List ℕ). sum ns) (counts_at format rows r inside) in
@@ -184,24 +177,19 @@ module _ {T : Type 0} (g : StoreOf T) (format : Format) (sizes : List ℕ) (leav
             (all_put g now new (row_list r) next' (subst (λ (pages : List Numbered). PutsPages g now new pages (Ok next'))
             (row_pages_are r next inside here) puts));
         place = omega arith;
-        first =
-            first
-            ∙ ap (λ (number : ℕ → ℕ → ℕ). firsts ++ first_pages format number (stored_in rows r))
-            (row_number_is format sizes leaves rows r next inside here)
-            ∙ ap (λ (ns : List ℕ). ns ++ first_list r) put.first ∙ sym (flat_more first_list r);
       }
 
-  pub row_failed : {A B : Type 0} (old now new : T) (r next : ℕ) (firsts : List ℕ) (stop : PutStop) → r < length rows
-      → RowsPut old now r next firsts
+  pub row_failed : {A B : Type 0} (old now new : T) (r next : ℕ) (stop : PutStop) → r < length rows
+      → RowsPut old now r next
       → PutsPages {A = A} g now new (row_pages format sizes next (stored_in rows r)) (Err stop)
       → PutsPages {A = B} g old new (pages_behind format sizes leaves rows) (Err stop)
   unfolding pages_of_values
-  row_failed {A} {B} old now new r next firsts stop inside put puts =
+  row_failed {A} {B} old now new r next stop inside put puts =
       next_failed g row_list (length rows) {A = A} {B = B} old now new r stop inside put.put
       (subst (λ (pages : List Numbered). PutsPages {A = A} g now new pages (Err stop))
       (row_pages_are r next inside put.place) puts)
 
-  pub rows_all : {A : Type 0} (old now : T) (next : ℕ) (firsts : List ℕ) (a : A)
-      → RowsPut old now (length rows) next firsts → PutsPages g old now (pages_behind format sizes leaves rows) (Ok a)
+  pub rows_all : {A : Type 0} (old now : T) (next : ℕ) (a : A)
+      → RowsPut old now (length rows) next → PutsPages g old now (pages_behind format sizes leaves rows) (Ok a)
   unfolding pages_of_values
-  rows_all old now next firsts a put = puts_all g old now (pages_behind format sizes leaves rows) a put.put
+  rows_all old now next a put = puts_all g old now (pages_behind format sizes leaves rows) a put.put

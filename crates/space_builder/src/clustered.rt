@@ -19,10 +19,10 @@ pub(crate) struct ClusteredEntries<'a> {
     /// The rows, and their format.
     pub(crate) rows: &'a StoredRows,
     pub(crate) format: Format,
-    /// The pages where the bytes of fields begin that go off the page, one for each of so many fields of each row;
-    /// 0 past the last.
+    /// The pages where the bytes of fields begin that go off the page, 0 past the last, and where those of each row
+    /// begin among these.
     pub(crate) first_pages: &'a [u32],
-    pub(crate) width: usize,
+    pub(crate) starts: &'a [u32],
 }
 
 /// The length of a reference.
@@ -66,17 +66,20 @@ fn off_local(
     Ok(local)
 }
 
+/// Number `i`; 0 past the last.
+fn number_at(numbers: &[u32], i: usize) -> u32
+    ensures { result ≡ slice_index numbers.now i }
+{
+    if i < numbers.len() { numbers[i] } else { 0 }
+}
+
 impl ClusteredEntries<'_> {
     /// The page where the bytes of a field begin.
     fn first_page(&self, r: usize, i: usize) -> u32
-        ensures { result ≡ first_page_in self.now.first_pages.now self.now.width r i 0 }
+        ensures { result ≡ first_page_in self.now.starts.now self.now.first_pages.now r i 0 }
     {
-        let place = r.saturating_mul(self.width).saturating_add(i);
-        if place < self.first_pages.len() {
-            self.first_pages[place]
-        } else {
-            0
-        }
+        let start = number_at(self.starts, r) as usize;
+        number_at(self.first_pages, start.saturating_add(i))
     }
 
     /// Adds a field of a row.
@@ -90,7 +93,7 @@ impl ClusteredEntries<'_> {
         requires row { r < length self.now.rows.now }
         requires field { i < length (stored_in self.now.rows.now r) }
         ensures { OnOk result (parts.new ≡ parts.old ++ clustered_part self.now.format
-            (first_page_in self.now.first_pages.now self.now.width) self.now.rows.now r i ∷ []) }
+            (first_page_in self.now.starts.now self.now.first_pages.now) self.now.rows.now r i ∷ []) }
     {
         let rows = self.rows;
         if rows.is_null(r, i) {
@@ -110,7 +113,7 @@ impl ClusteredEntries<'_> {
         requires row { r < length self.now.rows.now }
         requires count { count ≤ length (stored_in self.now.rows.now r) }
         ensures { IfOk result (λ parts. parts ≡ take count (clustered_entry self.now.format
-            (first_page_in self.now.first_pages.now self.now.width) self.now.rows.now r)) }
+            (first_page_in self.now.starts.now self.now.first_pages.now) self.now.rows.now r)) }
     {
         let mut parts = Parts::new(alloc);
         for i in 0..count {
@@ -124,7 +127,7 @@ impl Entries for ClusteredEntries<'_> {
     ghost use Rattle.row_layout.specs.HoldsValues.{clustered_entries};
 
     ghost entries = { λ e.
-        clustered_entries e.format (first_page_in e.first_pages.now e.width) e.rows.now };
+        clustered_entries e.format (first_page_in e.starts.now e.first_pages.now) e.rows.now };
 
     fn count(&self) -> usize {
         self.rows.count()

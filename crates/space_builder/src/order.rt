@@ -72,25 +72,28 @@ fn compare_rows(keys: &IndexKeys, a: usize, b: usize) -> Ordering
 }
 
 /// So many numbers, from 0 on.
-fn numbers(alloc: Global, count: usize) -> Result<Vec<usize>, NoMemory>
+fn numbers(alloc: Global, count: usize) -> Result<Vec<u32>, NoMemory>
     ensures { IfOk result (λ list. list.items ≡ range_with_len 0 count) }
 {
+    let Ok(end) = u32::try_from(count) else {
+        return Err(NoMemory);
+    };
     let mut list = Vec::with_capacity(alloc, count)?;
-    for i in 0..count {
+    for i in 0..end {
         list.push(i)?;
     }
     Ok(list)
 }
 
 /// The rows in the order of their keys.
-fn order_of_keys(alloc: Global, keys: &IndexKeys) -> Result<Vec<usize>, NoMemory>
+fn order_of_keys(alloc: Global, keys: &IndexKeys) -> Result<Vec<u32>, NoMemory>
     requires few { keys.now.list.now.keys ≤ length keys.now.list.now.fields }
     requires each { length keys.now.fields.now ≡ keys.now.list.now.keys }
     ensures { IfOk result
         (λ order. IsKeyOrder (key_kinds keys.now.list.now) keys.now.fields.now keys.now.rows.now order.items) }
 {
     let mut order = numbers(alloc, keys.rows.count())?;
-    order.sort_by(|a, b| compare_rows(keys, *a, *b))?;
+    order.sort_by(|a, b| compare_rows(keys, *a as usize, *b as usize))?;
     Ok(order)
 }
 
@@ -158,7 +161,7 @@ pub(crate) fn order_of_index(
     schema: &Schema,
     rows: &StoredRows,
     index: usize,
-) -> Result<Vec<usize>, NoMemory>
+) -> Result<Vec<u32>, NoMemory>
     requires second { 0 < index }
     requires index { index < length schema.now.indexes }
     ensures { IfOk result (λ order. IsIndexOrder schema.now rows.now index order.items) }

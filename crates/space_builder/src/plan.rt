@@ -25,7 +25,7 @@ use thiserror::Error;
 /// The rows in the order of an index; none for the clustered one.
 #[derive(Debug, Drop)]
 pub(crate) struct RowOrder {
-    pub(crate) rows: Vec<usize>,
+    pub(crate) rows: Vec<u32>,
 }
 
 /// How many pages an index has.
@@ -118,7 +118,7 @@ fn tree_counts(
     alloc: Global,
     schema: &Schema,
     rows: &StoredRows,
-    order: &[usize],
+    order: &[u32],
     index: usize,
 ) -> Result<Vec<usize>, NoMemory>
     requires index { index < length schema.now.indexes }
@@ -135,7 +135,7 @@ fn tree_counts(
             rows,
             format: schema.format(),
             first_pages: &[],
-            width: 0,
+            starts: &[],
         };
         return count_tree(alloc, &leaf, &node, &entries);
     }
@@ -241,7 +241,7 @@ fn index_pages(
     alloc: Global,
     schema: &Schema,
     rows: &StoredRows,
-    order: &[usize],
+    order: &[u32],
     index: usize,
     values: usize,
 ) -> Result<IndexPages, PlanStop>

@@ -16,7 +16,7 @@ use std::alloc::Global;
 pub(crate) struct SecondaryEntries<'a> {
     /// The rows, and their order in the index.
     pub(crate) rows: &'a StoredRows,
-    pub(crate) order: &'a [usize],
+    pub(crate) order: &'a [u32],
     /// Which fields of a row an entry has.
     pub(crate) fields: &'a [usize],
 }
@@ -56,12 +56,12 @@ impl Entries for SecondaryEntries<'_> {
     }
 
     fn parts(&self, alloc: Global, k: usize) -> Result<Parts, NoMemory> {
-        self.first_fields(alloc, self.order[k], self.fields.len())
+        self.first_fields(alloc, self.order[k] as usize, self.fields.len())
     }
 }
 
 impl Leaves for SecondaryEntries<'_> {
     fn key(&self, alloc: Global, k: usize, keys: usize) -> Result<Parts, NoMemory> {
-        self.first_fields(alloc, self.order[k], keys.min(self.fields.len()))
+        self.first_fields(alloc, self.order[k] as usize, keys.min(self.fields.len()))
     }
 }

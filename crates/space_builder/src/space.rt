@@ -18,7 +18,7 @@ use crate::plan::{RowOrder, SpacePlan, leaf_size};
 use crate::secondary::SecondaryEntries;
 use crate::stored::StoredRows;
 use crate::tree_plan::TreePlan;
-use crate::values::put_values;
+use crate::values::{FirstPages, put_values};
 use page_source::{Page, PageStore};
 use row_layout::laws::fitted_rows_are_rows;
 use schema_text::Schema;
@@ -45,7 +45,7 @@ impl Space<'_> {
         store: &mut T,
         room: &mut PageRoom,
         tree: &TreePlan,
-        first_pages: &[u32],
+        first_pages: &FirstPages,
     ) -> Result<(), PutStop>
         requires space { IsSpace self.now }
         requires tree { IsTreeOf self.now 0 tree.now }
@@ -60,8 +60,8 @@ impl Space<'_> {
         let entries = ClusteredEntries {
             rows: self.rows,
             format: self.schema.format(),
-            first_pages,
-            width: tree.leaf.fields().len(),
+            first_pages: &first_pages.pages,
+            starts: &first_pages.starts,
         };
         put_tree(alloc, store, room, &entries, tree)
     }
@@ -100,7 +100,7 @@ impl Space<'_> {
         alloc: Global,
         store: &mut T,
         room: &mut PageRoom,
-        first_pages: &[u32],
+        first_pages: &FirstPages,
         j: usize,
     ) -> Result<(), PutStop>
         requires space { IsSpace self.now }
@@ -131,7 +131,7 @@ impl Space<'_> {
         &self,
         alloc: Global,
         store: &mut T,
-        first_pages: &[u32],
+        first_pages: &FirstPages,
     ) -> Result<(), PutStop>
         requires space { IsSpace self.now }
         requires first { HasFirstPages self.now first_pages.now }

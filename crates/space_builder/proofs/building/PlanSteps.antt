@@ -46,7 +46,7 @@ abbrev pub AreLeaves : TableDef → List (List Stored) → ℕ → List Entry �
 AreLeaves table stored j entries = OfStored table stored (λ rows. entries ≡ entries_with table rows (λ r i k. 0) j)
 
 pub clustered_leaves : (table : TableDef) (stored : List (List Stored))
-    → AreLeaves table stored 0 (clustered_entries table.format (first_page_in [] 0) stored)
+    → AreLeaves table stored 0 (clustered_entries table.format (first_page_in [] []) stored)
 clustered_leaves table stored rows are = ap (clustered_entries table.format (λ r i k. 0)) are.same
 
 pub picked_leaves : PicksEntries → (table : TableDef) (stored : List (List Stored)) (j : ℕ) (order : List ℕ) → 0 < j
@@ -90,9 +90,9 @@ module _ (laws : LowerLaws) (table : TableDef) (stored : List (List Stored)) (j 
 
 -- the same of the given fields and entries of an index
 pub clustered_given : (table : TableDef) (stored : List (List Stored)) (j : ℕ) (format : Format) → j ≡ 0
-    → format ≡ table.format → AreLeaves table stored j (clustered_entries format (first_page_in [] 0) stored)
+    → format ≡ table.format → AreLeaves table stored j (clustered_entries format (first_page_in [] []) stored)
 clustered_given table stored j format first same rows are =
-    ap (λ (f : Format). clustered_entries f (first_page_in [] 0) stored) same ∙ clustered_leaves table stored rows are
+    ap (λ (f : Format). clustered_entries f (first_page_in [] []) stored) same ∙ clustered_leaves table stored rows are
     ∙ ap (entries_with table rows (λ r i k. 0)) (sym first)
 
 pub picked_given : PicksEntries → (table : TableDef) (stored : List (List Stored)) (j : ℕ) (order fields : List ℕ)

@@ -1,5 +1,5 @@
 -- The entries of the indexes, by the fields of the rows that are stored.
-use Rattle.std.specs.Prelude.{ℕ, ◌+◌, ◌*◌, ◌==◌, if◌then◌else◌, List, [], ◌∷◌, ◌++◌, length, map, slice_index}
+use Rattle.std.specs.Prelude.{ℕ, ◌+◌, ◌==◌, if◌then◌else◌, List, [], ◌∷◌, ◌++◌, length, map, slice_index}
 use Rattle.std.specs.Prelude.{false}
 use Rattle.column_values.specs.Order.{Key}
 use Rattle.compact_record.specs.declared.parts.Part.{Part}
@@ -12,10 +12,10 @@ use Rattle.row_layout.specs.StoredRow.{Stored, stored_at, part_of_field}
 use Rattle.row_layout.specs.HoldsValues.{stored_in}
 use Rattle.space_builder.specs.build.Stored.{value_of}
 
--- the page where field i of row r begins, among those of so many fields for each row; 0 past the last, and for every
--- part of the field
-abbrev pub first_page_in : List ℕ → ℕ → ℕ → ℕ → ℕ → ℕ
-first_page_in pages width r i k = slice_index pages (r * width + i)
+-- the page where field i of row r begins, among the pages of fields, of which those of row r begin at a place of its
+-- own; 0 past the last, and for every part of the field
+abbrev pub first_page_in : List ℕ → List ℕ → ℕ → ℕ → ℕ → ℕ
+first_page_in starts pages r i k = slice_index pages (slice_index starts r + i)
 
 -- field i of the clustered record of row r
 abbrev pub clustered_part : Format → (ℕ → ℕ → ℕ → ℕ) → List (List Stored) → ℕ → ℕ → Part

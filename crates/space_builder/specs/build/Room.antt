@@ -1,5 +1,5 @@
 -- Whether the pages of segments can be put into a store, and where those of long values then stand.
-use Rattle.std.specs.Prelude.{ℕ, ◌+◌, ◌≤◌, ◌<◌, if◌then◌else◌, List, [], length, map, flat_map, sum, IfSome}
+use Rattle.std.specs.Prelude.{◌≡◌, ℕ, ◌+◌, ◌≤◌, ◌<◌, ◌++◌, true, if◌then◌else◌, List, [], length, map, sum, take, IfSome}
 use Rattle.std.specs.Prelude.{slice_index}
 use Rattle.std.specs.List.{range_with_len}
 use Rattle.page_source.specs.Objects.{Store}
@@ -11,6 +11,7 @@ use Rattle.row_layout.specs.StoredRow.{Stored, stored_at, off_bytes}
 use Rattle.row_layout.specs.HoldsValues.{pages_of_stored, stored_in}
 use Rattle.space_builder.specs.layout.ValuePage.{page_counts, pages_of_row, pages_of_values}
 use Rattle.space_builder.specs.build.Puts.{HaveOnePage}
+use Rattle.space_builder.specs.build.Picked.{first_page_in}
 
 -- pages of segments of these sizes lie below the size of the store
 pub record TakesPages (store : Store) (sizes : List ℕ) : Type 0 where
@@ -60,13 +61,35 @@ number_behind format sizes leaves rows = value_page_number sizes leaves (page_co
 abbrev pub pages_behind : Format → List ℕ → ℕ → List (List Stored) → List Numbered
 pages_behind format sizes leaves rows = pages_of_values format (number_behind format sizes leaves rows) rows
 
-abbrev pub first_pages_behind : Format → List ℕ → ℕ → List (List Stored) → List ℕ
-first_pages_behind format sizes leaves rows =
-    flat_map (λ r. first_pages format (number_behind format sizes leaves rows r) (stored_in rows r))
-    (range_with_len 0 (length rows))
+-- the page on which each field begins that goes on off the page of its record
+abbrev pub first_page_behind : Format → List ℕ → ℕ → List (List Stored) → ℕ → ℕ → ℕ
+first_page_behind format sizes leaves rows r i =
+    first_page (number_behind format sizes leaves rows r i) (pages_of_stored format (stored_at (stored_in rows r) i))
+
+abbrev pub AreFirstPages : Format → List ℕ → ℕ → List (List Stored) → List ℕ → List ℕ → Type 0
+AreFirstPages format sizes leaves rows starts pages =
+    (r i : ℕ) → r < length rows → i < length (stored_in rows r) → (stored_at (stored_in rows r) i).off ≡ true
+    → first_page_in starts pages r i 0 ≡ first_page_behind format sizes leaves rows r i
 
 pub record TakesValues (store : Store) (format : Format) (sizes : List ℕ) (leaves : ℕ) (rows : List (List Stored))
     : Type 0 where
   pub takes : TakesPages store sizes
   pub has : HasLeafPages sizes (leaves + value_page_count (page_counts format rows))
   pub one : HaveOnePage (pages_behind format sizes leaves rows)
+
+-- the first pages of the fields of the first so many rows are kept
+pub record AreKept (format : Format) (sizes : List ℕ) (leaves : ℕ) (rows : List (List Stored)) (count : ℕ)
+    (starts pages : List ℕ) : Type 0 where
+  pub few : length starts ≤ count
+  pub inside : (r i : ℕ) → r < count → i < length (stored_in rows r) → (stored_at (stored_in rows r) i).off ≡ true
+      → slice_index starts r + i < length pages
+  pub each : (r i : ℕ) → r < count → i < length (stored_in rows r) → (stored_at (stored_in rows r) i).off ≡ true
+      → first_page_in starts pages r i 0 ≡ first_page_behind format sizes leaves rows r i
+
+-- this list of the first pages of the fields of row r stands behind the others, if one of these goes off the page
+pub record KeepsRow (row : List Stored) (r : ℕ) (list starts starts_now pages pages_now : List ℕ) : Type 0 where
+  pub few : length starts_now ≤ r + 1
+  pub same : (q : ℕ) → q < r → slice_index starts_now q ≡ slice_index starts q
+  pub begins : take (length pages) pages_now ≡ pages
+  pub start : (i : ℕ) → i < length row → (stored_at row i).off ≡ true → slice_index starts_now r ≡ length pages
+  pub all : (i : ℕ) → i < length row → (stored_at row i).off ≡ true → pages_now ≡ pages ++ list

@@ -10,12 +10,13 @@ use Rattle.tree_layout.specs.Places.{leaf_size}
 use Rattle.space_builder.specs.declared.built.PutStop.{PutStop}
 use Rattle.space_builder.specs.declared.built.PutStop.TheVariants as stops
 use Rattle.space_builder.specs.declared.space.Space.{Space}
+use Rattle.space_builder.specs.declared.values.FirstPages.{FirstPages}
 use Rattle.space_builder.specs.declared.tree_plan.TreePlan.{TreePlan}
 use Rattle.space_builder.specs.layout.Layout.{Rows, stored_rows, tree_counts, segment_sizes, segment_pages, system_pages}
 use Rattle.space_builder.specs.layout.Laws.{CanBuild}
 use Rattle.space_builder.specs.build.Build.{HoldsLayout, HoldsPart, LacksHead}
 use Rattle.space_builder.specs.build.Plan.{AreOrders, IsPlanOf}
-use Rattle.space_builder.specs.build.Room.{first_pages_behind}
+use Rattle.space_builder.specs.build.Room.{AreFirstPages}
 
 -- the space is that of these rows
 pub record IsSpaceOf (space : Space) (rows : Rows) : Type 0 where
@@ -36,10 +37,10 @@ abbrev pub leaves_of : TableDef → Rows → ℕ
 leaves_of table rows = leaf_size (tree_counts table rows 0)
 
 -- the pages on which the fields of its rows go on
-abbrev pub HasFirstPages : Space → List ℕ → Type 0
-HasFirstPages space pages =
-    OfSpace space (λ rows. pages ≡ first_pages_behind space.schema.now.format (segment_sizes space.schema.now rows)
-    (leaves_of space.schema.now rows) space.rows.now)
+abbrev pub HasFirstPages : Space → FirstPages → Type 0
+HasFirstPages space first =
+    OfSpace space (λ rows. AreFirstPages space.schema.now.format (segment_sizes space.schema.now rows)
+    (leaves_of space.schema.now rows) space.rows.now first.starts.items first.pages.items)
 
 -- what the tree of index j is put by
 pub record IsTreeOf (space : Space) (j : ℕ) (tree : TreePlan) : Type 0 where

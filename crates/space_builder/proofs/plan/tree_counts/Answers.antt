@@ -11,14 +11,14 @@ pub count_tree-requires : goal.count_tree-requires
 count_tree-requires c =
     given_divides c.laws_below.ensures c.args.schema.now c.args.rows.now c.args.index c.requires.index
     c.in_ok-leaf.leaf c.in_ok-node.node c.in_ok-leaf.ensures.value c.in_ok-node.ensures.value
-    (clustered_entries c.format.result (first_page_in [] 0) c.args.rows.now)
+    (clustered_entries c.format.result (first_page_in [] []) c.args.rows.now)
     (clustered_given c.args.schema.now c.args.rows.now c.args.index c.format.result c.if-index-eq0.true
     c.format.ensures)
     c.requires.rows
 
 pub returns-then-index-eq0 : goal.returns-then-index-eq0
 returns-then-index-eq0 c =
-    let entries = clustered_entries c.format.result (first_page_in [] 0) c.args.rows.now in
+    let entries = clustered_entries c.format.result (first_page_in [] []) c.args.rows.now in
     IfOk-weaker c.count_tree.result
     (λ (counts : Vec ℕ Global). counts.items
     ≡ level_counts (tree_levels c.in_ok-leaf.leaf c.in_ok-node.node (λ l k. 0) entries))

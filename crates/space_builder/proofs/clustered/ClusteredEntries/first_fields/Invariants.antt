@@ -7,5 +7,5 @@ use Rattle.space_builder.proofs.clustered.ClusteredEntries.first_fields.Given as
 abbrev pub invariant-loop-i : goal.invariant-loop-i
 invariant-loop-i l =
     l.parts
-    ≡ map (clustered_part l.self.format (first_page_in l.self.first_pages.now l.self.width) l.self.rows.now l.r)
+    ≡ map (clustered_part l.self.format (first_page_in l.self.starts.now l.self.first_pages.now) l.self.rows.now l.r)
     (range_with_len 0 l.i)

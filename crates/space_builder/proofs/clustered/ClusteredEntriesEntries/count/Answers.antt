@@ -6,4 +6,4 @@ use Rattle.space_builder.proofs.clustered.ClusteredEntriesEntries.count.Goals as
 pub returns : goal.returns
 returns c =
     let e = c.args.self.now in
-    c.count.ensures ∙ sym (count_clustered e.format (first_page_in e.first_pages.now e.width) e.rows.now)
+    c.count.ensures ∙ sym (count_clustered e.format (first_page_in e.starts.now e.first_pages.now) e.rows.now)

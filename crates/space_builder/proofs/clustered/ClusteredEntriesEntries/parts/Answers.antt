@@ -9,18 +9,18 @@ use Rattle.space_builder.proofs.clustered.ClusteredEntriesEntries.parts.Goals as
 pub width-requires : goal.width-requires
 width-requires c =
     let e = c.args.self.now in
-    omega (arith, c.requires, count_clustered e.format (first_page_in e.first_pages.now e.width) e.rows.now)
+    omega (arith, c.requires, count_clustered e.format (first_page_in e.starts.now e.first_pages.now) e.rows.now)
 
 pub first_fields-requires-clause-row : goal.first_fields-requires-clause-row
 first_fields-requires-clause-row c =
     let e = c.args.self.now in
-    omega (arith, c.requires, count_clustered e.format (first_page_in e.first_pages.now e.width) e.rows.now)
+    omega (arith, c.requires, count_clustered e.format (first_page_in e.starts.now e.first_pages.now) e.rows.now)
 
 pub returns : goal.returns
 returns c =
     let e = c.args.self.now in
     let k = c.args.k in
-    let number : ℕ → ℕ → ℕ → ℕ = first_page_in e.first_pages.now e.width in
+    let number : ℕ → ℕ → ℕ → ℕ = first_page_in e.starts.now e.first_pages.now in
     let entry = clustered_entry e.format number e.rows.now k in
     let within : k < length e.rows.now = omega (arith, c.requires, count_clustered e.format number e.rows.now) in
     let there : entry_at (clustered_entries e.format number e.rows.now) k ≡ entry =

@@ -1,8 +1,8 @@
-use Rattle.std.proofs.Common.{◌∙◌, ℕ, List, Ok, Err, ap, sym, subst}
+use Rattle.std.proofs.Common.{◌∙◌, ℕ, List, Ok, Err, sym, subst}
 use Rattle.std.proofs.lemmas.Result.{err_from_is_err_and}
 use Rattle.schema_text.specs.declared.table.Format.{Format}
 use Rattle.space_builder.specs.layout.Layout.{value_pages, trees_pages}
-use Rattle.space_builder.specs.build.Room.{TakesPages, TakesValues, first_pages_behind}
+use Rattle.space_builder.specs.build.Room.{TakesPages, TakesValues}
 use Rattle.space_builder.proofs.Puts.{all_put}
 use Rattle.space_builder.proofs.SpaceSteps.{takes_values, first_pages_are, values_told, stop_in_values, stop_in_trees}
 use Rattle.space_builder.proofs.SpaceSteps.{ends_in_system}
@@ -32,13 +32,9 @@ returns-in_err-first_pages g c = λ rows is.
 
 pub put_trees-requires-clause-first : goal.put_trees-requires-clause-first
 put_trees-requires-clause-first g c = λ rows is.
-    first_pages_are c.laws_below.ensures c.args.self.now rows is c.deref-2.result.now c.leaves.result
-    (c.leaves.ensures rows is)
-    (c.deref-2.ensures.value ∙ c.in_ok-first_pages.ensures.first
-    ∙ ap (λ (format : Format). first_pages_behind format c.deref.result.now c.leaves.result c.args.self.now.rows.now)
-    c.format-format.ensures
-    ∙ ap (λ (sizes : List ℕ). first_pages_behind c.args.self.now.schema.now.format sizes c.leaves.result
-    c.args.self.now.rows.now) c.deref.ensures.value)
+    first_pages_are c.laws_below.ensures c.args.self.now rows is c.in_ok-first_pages.first_pages.starts.items
+    c.in_ok-first_pages.first_pages.pages.items c.format-format.result c.deref.result.now c.leaves.result
+    c.format-format.ensures c.deref.ensures.value (c.leaves.ensures rows is) c.in_ok-first_pages.ensures.first
 
 pub put_trees-requires-clause-takes : goal.put_trees-requires-clause-takes
 put_trees-requires-clause-takes g c =
@@ -48,7 +44,7 @@ put_trees-requires-clause-takes g c =
 pub put_system_pages-requires : goal.put_system_pages-requires
 put_system_pages-requires g c =
     let trees = c.in_ok-put_trees.ensures c.requires.space.0 c.requires.space.1 in
-    subst (TakesPages (g.T.PageStore.told c.put_trees.new.store)) (sym c.deref-3.ensures.value)
+    subst (TakesPages (g.T.PageStore.told c.put_trees.new.store)) (sym c.deref-2.ensures.value)
     (takes_still (g.T.PageStore.told c.args.store.now) (g.T.PageStore.told c.put_trees.new.store)
     c.args.self.now.plan.now.sizes.items
     (trees.others.sizes.size ∙ c.in_ok-first_pages.ensures.puts.others.sizes.size) c.requires.takes)
@@ -77,5 +73,5 @@ returns g c = λ rows is.
     c.put_trees.new.store
     (all_put g.T.PageStore c.put_values.new.store c.put_trees.new.store (trees_pages c.args.self.now.schema.now rows)
     c.in_ok-put_trees.field-0 (c.in_ok-put_trees.ensures rows is))
-    c.put_system_pages.new.store c.put_system_pages.result c.deref-3.result.now c.deref-3.ensures.value
+    c.put_system_pages.new.store c.put_system_pages.result c.deref-2.result.now c.deref-2.ensures.value
     c.put_system_pages.ensures

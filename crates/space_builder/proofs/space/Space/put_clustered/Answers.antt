@@ -1,5 +1,4 @@
-use Rattle.std.proofs.Common.{◌∙◌, List, length, ap, subst}
-use Rattle.column_values.specs.Types.{Fields}
+use Rattle.std.proofs.Common.{List, subst}
 use Rattle.row_layout.specs.HoldsValues.{clustered_entries}
 use Rattle.space_layout.specs.NumberedPages.{Numbered}
 use Rattle.space_builder.specs.build.Picked.{first_page_in}
@@ -14,12 +13,11 @@ put_tree-requires-clause-tree g c =
     let is = c.requires.space.1 in
     can_put c.laws_below.ensures c.args.self.now rows is 0 (some_index c.args.self.now rows is) c.args.tree.now
     c.requires.tree
-    (clustered_entries c.format.result (first_page_in c.args.first_pages.now (length c.fields.result.now))
+    (clustered_entries c.format.result (first_page_in c.deref-2.result.now c.deref.result.now)
     c.args.self.now.rows.now)
     (clustered_are c.laws_below.ensures c.fitted_rows_are_rows.ensures c.args.self.now rows is
-    c.same_pages_give_records.ensures c.args.first_pages.now c.format.result (length c.fields.result.now)
-    (c.requires.first rows is) c.format.ensures
-    (ap length c.fields.ensures.same ∙ ap (λ (fields : Fields). length fields.fields) c.requires.tree.leaf))
+    c.same_pages_give_records.ensures c.args.first_pages.now c.deref-2.result.now c.deref.result.now c.format.result
+    (c.requires.first rows is) c.deref-2.ensures.value c.deref.ensures.value c.format.ensures)
 
 pub put_tree-requires-clause-room : goal.put_tree-requires-clause-room
 put_tree-requires-clause-room g c =
@@ -31,10 +29,9 @@ returns g c = λ rows is.
     c.put_tree.result)
     (pages_are c.laws_below.ensures c.args.self.now rows is 0 (some_index c.args.self.now rows is) c.args.tree.now
     c.requires.tree
-    (clustered_entries c.format.result (first_page_in c.args.first_pages.now (length c.fields.result.now))
+    (clustered_entries c.format.result (first_page_in c.deref-2.result.now c.deref.result.now)
     c.args.self.now.rows.now)
     (clustered_are c.laws_below.ensures c.fitted_rows_are_rows.ensures c.args.self.now rows is
-    c.same_pages_give_records.ensures c.args.first_pages.now c.format.result (length c.fields.result.now)
-    (c.requires.first rows is) c.format.ensures
-    (ap length c.fields.ensures.same ∙ ap (λ (fields : Fields). length fields.fields) c.requires.tree.leaf)))
+    c.same_pages_give_records.ensures c.args.first_pages.now c.deref-2.result.now c.deref.result.now c.format.result
+    (c.requires.first rows is) c.deref-2.ensures.value c.deref.ensures.value c.format.ensures))
     c.put_tree.ensures
