@@ -309,7 +309,3 @@ module _ (once : BuildsOnce) {Q R O T : Type 0} (g : Meanings Q R O T) (old now 
 pub build_never_usage : {Q R O T : Type 0} (g : Meanings Q R O T) (old now : Objects Q R O T) (status : Status)
     → ServesBuild g old now status → status ≡ statuses.Usage → ⊥
 build_never_usage g old now status serves same = subst (EndsBuild g old now) same serves.ends
-
-pub build_never_unbuilt : {Q R O T : Type 0} (g : Meanings Q R O T) (old now : Objects Q R O T) (status : Status)
-    → ServesBuild g old now status → status ≡ statuses.Unbuilt → ⊥
-build_never_unbuilt g old now status serves same = subst (EndsBuild g old now) same serves.ends

@@ -10,3 +10,4 @@ pub mod Outcomes
 pub mod Serving
 pub mod BuildOutcomes
 pub mod BuildEnds
+pub mod SampleEnds

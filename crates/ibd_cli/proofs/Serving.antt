@@ -310,9 +310,3 @@ serves_file all once f q o task key file file_now schema schema_now out out_now 
 
 pub never_usage : (status : Status) → IsOfTable status → status ≡ statuses.Usage → ⊥
 never_usage status is same = subst IsOfTable same is
-
-pub never_unbuilt : (status : Status) → IsOfTable status → status ≡ statuses.Unbuilt → ⊥
-never_unbuilt status is same = subst IsOfTable same is
-
-pub usage_is_built : statuses.Usage ≡ statuses.Unbuilt → ⊥
-usage_is_built same = cc

@@ -1,10 +1,11 @@
 -- A list of known length, word by word.
 use Rattle.std.proofs.Common.{◌≡◌, ℕ, List, [], ◌∷◌, length, slice_get, Some, refl, sym, ap, ◌∙◌, subst, arith}
+use Rattle.std.proofs.lemmas.Fmt.{decimal_injective}
 use Rattle.ibd_cli.specs.declared.words.Form.{Form}
 use Rattle.ibd_cli.specs.declared.words.Form.TheVariants.{Table, Build, Sample}
 use Rattle.ibd_cli.specs.declared.words.Task.{Task}
 use Rattle.ibd_cli.specs.declared.words.Task.TheVariants.{Check, Dump, Cross, Get}
-use Rattle.ibd_cli.specs.Forms.{IsForm, AsksNoTable, AsksNoBuild}
+use Rattle.ibd_cli.specs.Forms.{IsForm, AsksNoTable, AsksNoBuild, AsksNoSample}
 
 pub two_words : (words : List (List ℕ)) (name last : List ℕ) → length words ≡ 2 → slice_get words 0 ≡ Some name
     → slice_get words 1 ≡ Some last → words ≡ name ∷ last ∷ []
@@ -98,6 +99,20 @@ asks_table words form task none same is = none task (subst (IsForm words) same i
 
 pub asks_build : (words : List (List ℕ)) (form : Form) → AsksNoBuild words → form ≡ Build → IsForm words form → ⊥
 asks_build words form none same is = none (subst (IsForm words) same is)
+
+pub asks_sample : (words : List (List ℕ)) (form : Form) (n : ℕ) → AsksNoSample words → form ≡ Sample n
+    → IsForm words form → ⊥
+asks_sample words form n none same is = none n (subst (IsForm words) same is)
+
+second_word : (words : List (List ℕ)) (a b x y : List ℕ) → words ≡ a ∷ x ∷ [] → words ≡ b ∷ y ∷ [] → x ≡ y
+second_word words a b x y is same = let e : a ∷ x ∷ [] ≡ b ∷ y ∷ [] = sym is ∙ same in cc
+
+-- such words ask for one sample
+pub same_count : (words : List (List ℕ)) (form : Form) (m n : ℕ) → form ≡ Sample m → IsForm words form
+    → IsForm words (Sample n) → m ≡ n
+same_count words form m n same is sample =
+    let has = subst (IsForm words) same is in
+    decimal_injective m n (omega (arith, has.0)) (omega (arith, sample.0)) (second_word words _ _ _ _ has.1 sample.1)
 
 pub build_and_sample : (words : List (List ℕ)) (form : Form) (n : ℕ) → form ≡ Build → IsForm words form
     → IsForm words (Sample n) → ⊥

@@ -23,6 +23,8 @@ use Rattle.key_lookup.specs.declared.stop.GetStop.TheVariants as gets
 use Rattle.space_builder.specs.declared.built.BuildStop.{BuildStop}
 use Rattle.space_builder.specs.declared.built.BuildStop.TheVariants as builds
 use Rattle.key_lookup.specs.Get.{IsLineFound}
+use Rattle.sample_table.specs.declared.made.SampleStop.{SampleStop}
+use Rattle.sample_table.specs.declared.made.SampleStop.TheVariants as samples
 use Rattle.ibd_cli.specs.declared.schema_file.SchemaStop.{SchemaStop}
 use Rattle.ibd_cli.specs.declared.schema_file.SchemaStop.TheVariants.{Refused, Source, Memory}
 use Rattle.ibd_cli.specs.declared.status.Status.{Status}
@@ -72,7 +74,7 @@ status_of_get gets.Source = statuses.SourceFault
 status_of_get gets.Sink = statuses.SinkFault
 status_of_get gets.Memory = statuses.Memory
 
--- and of a build
+-- of a build
 abbrev pub status_of_build : BuildStop → Status
 status_of_build (builds.RootPlace line) = statuses.SchemaRefused line whys.Root
 status_of_build (builds.RowsRefused line why) = statuses.RowsRefused line why
@@ -80,6 +82,11 @@ status_of_build builds.Full = statuses.Full
 status_of_build builds.Source = statuses.SourceFault
 status_of_build builds.Store = statuses.StoreFault
 status_of_build builds.Memory = statuses.Memory
+
+-- and of a sample
+abbrev pub status_of_sample : SampleStop → Status
+status_of_sample samples.Full = statuses.Full
+status_of_sample samples.Memory = statuses.Memory
 
 -- the text was read to its end and is that of the schema, or it is refused
 abbrev pub ReadsSchema : List ℕ → Option (List ℕ) → Result TableDef SchemaStop → Type 0

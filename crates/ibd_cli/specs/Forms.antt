@@ -33,9 +33,9 @@ HasNoForm words = (form : Form) → ¬ (IsForm words form)
 abbrev pub AsksNoBuild : List (List ℕ) → Type 0
 AsksNoBuild words = ¬ (IsForm words Build)
 
--- they ask for a sample
-abbrev pub AsksSample : List (List ℕ) → Type 0
-AsksSample words = (n : ℕ) × IsForm words (Sample n)
+-- they are no sample
+abbrev pub AsksNoSample : List (List ℕ) → Type 0
+AsksNoSample words = (n : ℕ) → ¬ (IsForm words (Sample n))
 
 -- they are no command on a table
 abbrev pub AsksNoTable : List (List ℕ) → Type 0

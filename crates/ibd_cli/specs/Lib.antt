@@ -5,4 +5,5 @@ pub mod Reading
 pub mod Outcome
 pub mod Run
 pub mod Build
+pub mod Sample
 pub mod Answers

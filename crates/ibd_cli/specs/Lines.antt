@@ -8,7 +8,7 @@ use Rattle.space_builder.specs.declared.built.RowsWhy.{RowsWhy}
 use Rattle.space_builder.specs.declared.built.RowsWhy.TheVariants as rows_whys
 use Rattle.ibd_cli.specs.declared.status.Status.{Status}
 use Rattle.ibd_cli.specs.declared.status.Status.TheVariants.{Done, Usage, SchemaRefused, Broken, RowsRefused}
-use Rattle.ibd_cli.specs.declared.status.Status.TheVariants.{SourceFault, SinkFault, StoreFault, Memory, Full, Unbuilt}
+use Rattle.ibd_cli.specs.declared.status.Status.TheVariants.{SourceFault, SinkFault, StoreFault, Memory, Full}
 use Rattle.ibd_cli.specs.declared.status.Status.TheVariants.{CrossMissing, CrossExtra, KeyRefused, Absent}
 
 -- a number behind its name
@@ -59,7 +59,6 @@ status_line SinkFault = codes "sink\n"
 status_line StoreFault = codes "store\n"
 status_line Memory = codes "memory\n"
 status_line Full = codes "full\n"
-status_line Unbuilt = codes "unbuilt\n"
 status_line (CrossMissing index row) = difference_line index (codes " missing row ") row
 status_line (CrossExtra index page) = difference_line index (codes " extra page ") page
 status_line KeyRefused = codes "key\n"
@@ -77,7 +76,6 @@ status_number SinkFault = 6
 status_number StoreFault = 7
 status_number Memory = 8
 status_number Full = 9
-status_number Unbuilt = 10
 status_number (CrossMissing index row) = 11
 status_number (CrossExtra index page) = 12
 status_number KeyRefused = 13

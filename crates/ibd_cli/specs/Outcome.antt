@@ -40,12 +40,16 @@ IsOfNoTable schema = (table : TableDef) → ¬ (IsTextOf table schema)
 abbrev pub OfTable : Told → (TableDef → Type 0) → Type 0
 OfTable told Fact = (table : TableDef) × IsTextOf table told.schema × Fact table
 
--- the line of a check
-abbrev pub checked_line : Checked → List ℕ
-checked_line checked =
+-- the numbers of a checked file, each behind its name
+abbrev pub checked_numbers : Checked → List ℕ
+checked_numbers checked =
     counted (codes "pages=") checked.pages ++ counted (codes " used=") checked.used
     ++ counted (codes " rows=") checked.rows ++ counted (codes " deleted=") checked.deleted
-    ++ counted (codes " unreached=") checked.unreached ++ codes "\n"
+    ++ counted (codes " unreached=") checked.unreached
+
+-- the line of a check
+abbrev pub checked_line : Checked → List ℕ
+checked_line checked = checked_numbers checked ++ codes "\n"
 
 -- the line of a comparison
 abbrev pub crossed_line : Crossed → List ℕ

@@ -13,7 +13,7 @@ use Rattle.schema_text.specs.declared.errors.SchemaWhy.{SchemaWhy}
 use Rattle.table_check.specs.First.{TakesSteps, AsksAtMost}
 use Rattle.ibd_cli.specs.declared.status.Status.{Status}
 use Rattle.ibd_cli.specs.declared.status.Status.TheVariants.{Done, Usage, SchemaRefused, Broken, RowsRefused}
-use Rattle.ibd_cli.specs.declared.status.Status.TheVariants.{SourceFault, SinkFault, StoreFault, Memory, Full, Unbuilt}
+use Rattle.ibd_cli.specs.declared.status.Status.TheVariants.{SourceFault, SinkFault, StoreFault, Memory, Full}
 use Rattle.ibd_cli.specs.declared.status.Status.TheVariants.{KeyRefused, Absent}
 use Rattle.ibd_cli.specs.declared.words.Task.{Task}
 use Rattle.ibd_cli.specs.declared.words.Task.TheVariants.{Check, Dump, Cross, Get}
@@ -124,7 +124,6 @@ IsOfTable Usage = ⊥
 IsOfTable (RowsRefused line why) = ⊥
 IsOfTable StoreFault = ⊥
 IsOfTable Full = ⊥
-IsOfTable Unbuilt = ⊥
 IsOfTable status = ⊤
 
 -- the whole promise of a command on a table

@@ -2,7 +2,7 @@
 
 ghost use Rattle.std.specs.Prelude.{ℕ, List};
 ghost use Rattle.page_source.specs.Calls.{Puts};
-ghost use Rattle.ibd_cli.specs.Outcome.{checked_line};
+ghost use Rattle.ibd_cli.specs.Outcome.{checked_numbers, checked_line};
 ghost use Rattle.ibd_cli.specs.Answers.{ServesFile};
 ghost use Rattle.ibd_cli.specs.declared.words.Task.{Task};
 
@@ -37,6 +37,14 @@ pub fn check_file<F: PageSource, O: ByteSink, L: Ledger>(
 fn put_checked<O: ByteSink>(out: &mut O, checked: &Checked) -> Result<(), Failed>
     ensures { Puts O.ByteSink out.old out.new (checked_line checked.now) result }
 {
+    put_numbers(out, checked)?;
+    out.put(b"\n")
+}
+
+/// Puts the numbers of a checked file, each behind its name.
+pub(crate) fn put_numbers<O: ByteSink>(out: &mut O, checked: &Checked) -> Result<(), Failed>
+    ensures { Puts O.ByteSink out.old out.new (checked_numbers checked.now) result }
+{
     let mut pages = Buffer::new();
     let mut used = Buffer::new();
     let mut rows = Buffer::new();
@@ -53,7 +61,6 @@ fn put_checked<O: ByteSink>(out: &mut O, checked: &Checked) -> Result<(), Failed
         deleted.format(checked.deleted).as_bytes(),
         b" unreached=",
         unreached.format(checked.unreached).as_bytes(),
-        b"\n",
     ];
     put_pieces(out, &pieces)
 }

@@ -3,7 +3,7 @@
 #![tactic(auto)]
 
 ghost use Rattle.std.specs.Prelude.{◌≡◌, ◌<◌, ◌↔◌};
-ghost use Rattle.ibd_cli.specs.Forms.{HasNoForm, AsksSample};
+ghost use Rattle.ibd_cli.specs.Forms.{HasNoForm};
 
 mod build;
 mod check;
@@ -13,6 +13,7 @@ mod dump;
 mod get;
 mod report;
 mod run;
+mod sample;
 mod schema_file;
 mod status;
 #[cfg(test)]
@@ -47,7 +48,6 @@ fn start<L: Ledger>(rt: &HostRuntime, words: &Words, blank: Blank) -> Status
     requires parts { blank.parts ≡ L.parts }
     requires shared { 0 < blank.parts }
     ensures usage { (result ≡ Status.Usage) ↔ HasNoForm words.now }
-    ensures unbuilt { (result ≡ Status.Unbuilt) ↔ AsksSample words.now }
 {
     run(
         rt.alloc(),

@@ -38,7 +38,6 @@ fn put_status<E: ByteSink>(err: &mut E, status: Status) -> Result<(), Failed>
         Status::StoreFault => err.put(b"store\n"),
         Status::Memory => err.put(b"memory\n"),
         Status::Full => err.put(b"full\n"),
-        Status::Unbuilt => err.put(b"unbuilt\n"),
         Status::CrossMissing { index, row } => put_difference(err, index, " missing row ", row),
         Status::CrossExtra { index, page } => {
             put_difference(err, index, " extra page ", u64::from(page))

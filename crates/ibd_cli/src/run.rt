@@ -1,13 +1,14 @@
 //! The whole program as one call over the objects that reach outside.
 
-ghost use Rattle.std.specs.Prelude.{◌≡◌, ◌↔◌};
+ghost use Rattle.std.specs.Prelude.{◌≡◌, ◌↔◌, ℕ};
 ghost use Rattle.page_source.specs.Objects.{IsFresh};
-ghost use Rattle.ibd_cli.specs.Forms.{IsForm, HasNoForm, AsksNoTable, AsksNoBuild, AsksSample, key_word};
+ghost use Rattle.ibd_cli.specs.Forms.{IsForm, HasNoForm, AsksNoTable, AsksNoBuild, AsksNoSample, key_word};
 ghost use Rattle.ibd_cli.specs.Lines.{status_line};
 ghost use Rattle.ibd_cli.specs.Causes.{Reports};
 ghost use Rattle.ibd_cli.specs.Answers.{ServesFile};
 ghost use Rattle.ibd_cli.specs.Run.{Serves};
 ghost use Rattle.ibd_cli.specs.Build.{ServesBuild};
+ghost use Rattle.ibd_cli.specs.Sample.{ServesSample};
 
 use crate::build::build_file;
 use crate::check::check_file;
@@ -15,6 +16,7 @@ use crate::cross::cross_file;
 use crate::dump::dump_file;
 use crate::get::get_row;
 use crate::report::report;
+use crate::sample::take_sample;
 use crate::schema_file::read_schema;
 use crate::status::Status;
 use crate::words::{Form, Task, Words};
@@ -52,13 +54,12 @@ pub fn run<
 
     // The words decide which command it is.
     ensures usage { (result ≡ Status.Usage) ↔ HasNoForm words.now }
-    ensures unbuilt { (result ≡ Status.Unbuilt) ↔ AsksSample words.now }
 
     // What a command doesn't name is never called.
     ensures file { AsksNoTable words.now → file.new ≡ file.old }
     ensures schema { AsksNoTable words.now → AsksNoBuild words.now → schema.new ≡ schema.old }
-    ensures steps { AsksNoTable words.now → steps.new ≡ steps.old }
-    ensures out { AsksNoTable words.now → AsksNoBuild words.now → out.new ≡ out.old }
+    ensures steps { AsksNoTable words.now → AsksNoSample words.now → steps.new ≡ steps.old }
+    ensures out { AsksNoTable words.now → AsksNoBuild words.now → AsksNoSample words.now → out.new ≡ out.old }
     ensures rows { AsksNoBuild words.now → rows.new ≡ rows.old }
     ensures target { AsksNoBuild words.now → target.new ≡ target.old }
 
@@ -73,6 +74,9 @@ pub fn run<
         (record { schema = schema.old; rows = rows.old; out = out.old; target = target.old })
         (record { schema = schema.new; rows = rows.new; out = out.new; target = target.new }) result }
 
+    // What a sample does, and how it ends.
+    ensures samples { (n : ℕ) → IsForm words.now (Form.Sample n) → ServesSample O.ByteSink n out.old out.new result }
+
     ensures report { Reports (E.written err.old) (E.written err.new) (E.faults err.old) (E.faults err.new)
         (status_line result) }
 {
@@ -80,7 +84,7 @@ pub fn run<
         None => Status::Usage,
         Some(Form::Table(task)) => serve(alloc, task, words.key(), file, schema, out, steps),
         Some(Form::Build) => build_file(alloc, schema, rows, out, target, steps),
-        Some(Form::Sample(_)) => Status::Unbuilt,
+        Some(Form::Sample(rows)) => take_sample(alloc, rows, out, steps),
     };
     report(err, status);
     status

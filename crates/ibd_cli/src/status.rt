@@ -2,13 +2,14 @@
 
 ghost use Rattle.std.specs.Prelude.{◌≡◌};
 ghost use Rattle.ibd_cli.specs.Answers.{status_of_schema, status_of_stop, status_of_dump};
-ghost use Rattle.ibd_cli.specs.Answers.{status_of_cross, status_of_get, status_of_build};
+ghost use Rattle.ibd_cli.specs.Answers.{status_of_cross, status_of_get, status_of_build, status_of_sample};
 ghost use Rattle.ibd_cli.specs.Lines.{status_number};
 
 use crate::schema_file::SchemaStop;
 use cross_index::CrossStop;
 use key_lookup::GetStop;
 use page_source::{Fault, Stop};
+use sample_table::SampleStop;
 use schema_text::SchemaWhy;
 use space_builder::{BuildStop, RowsWhy};
 use sql_dump::DumpStop;
@@ -36,8 +37,6 @@ pub enum Status {
     Memory,
     /// The rows need more than 256 extents. Nothing was written.
     Full,
-    /// The command isn't served yet. Nothing was written.
-    Unbuilt,
     /// The least key that only one side has is that of a row, counted from 1, which this index lacks.
     CrossMissing { index: u32, row: u64 },
     /// It is that of an entry of this index, on this leaf page, which is of no row.
@@ -64,7 +63,6 @@ impl Status {
             Status::StoreFault => 7,
             Status::Memory => 8,
             Status::Full => 9,
-            Status::Unbuilt => 10,
             Status::CrossMissing { .. } => 11,
             Status::CrossExtra { .. } => 12,
             Status::KeyRefused => 13,
@@ -153,6 +151,17 @@ impl From<BuildStop> for Status {
             BuildStop::Source => Status::SourceFault,
             BuildStop::Store => Status::StoreFault,
             BuildStop::Memory => Status::Memory,
+        }
+    }
+}
+
+impl From<SampleStop> for Status {
+    ghost from_gives = { λ stop status. status ≡ status_of_sample stop };
+
+    fn from(stop: SampleStop) -> Self {
+        match stop {
+            SampleStop::Full => Status::Full,
+            SampleStop::Memory => Status::Memory,
         }
     }
 }

@@ -49,7 +49,7 @@ pub enum Form {
 }
 
 impl Words {
-    ghost use Rattle.ibd_cli.specs.Forms.{IsForm, HasNoForm, key_word};
+    ghost use Rattle.ibd_cli.specs.Forms.{IsForm, HasNoForm, AsksNoSample, key_word};
 
     /// No word, and no memory taken yet.
     pub fn new(alloc: Global) -> Words
@@ -124,7 +124,7 @@ impl Words {
     }
 
     fn sample_form(&self) -> Option<Form>
-        ensures { MatchOption result ((n : ℕ) → ¬ (IsForm self.now (Form.Sample n))) (λ form. IsForm self.now form) }
+        ensures { MatchOption result (AsksNoSample self.now) (λ form. IsForm self.now form) }
     {
         if !self.is_command("sample", 2) {
             return None;

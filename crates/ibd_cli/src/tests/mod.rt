@@ -6,4 +6,5 @@ mod command;
 mod failing;
 mod fetches;
 mod files;
+mod sample;
 mod words;

@@ -1,21 +1,22 @@
-use Rattle.std.proofs.Common.{◌∙◌, List, ℕ, codes, subst}
-use Rattle.page_source.specs.Calls.{Puts}
-use Rattle.ibd_cli.specs.Lines.{counted}
-use Rattle.ibd_cli.proofs.Joined.{joined}
+use Rattle.std.proofs.Common.{[], codes}
+use Rattle.page_source.proofs.Texts.{put_none, put_more, put_last, put_cut}
+use Rattle.ibd_cli.specs.Outcome.{checked_numbers}
 use Rattle.ibd_cli.proofs.check.put_checked.Goals as goal
+
+pub returns-in_err-put_numbers : goal.returns-in_err-put_numbers
+returns-in_err-put_numbers g c =
+    let s = g.O.ByteSink in
+    let out = c.args.out.now in
+    put_cut s out out c.put_numbers.new.out [] (checked_numbers c.args.checked.now) (codes "\n") c.put_numbers.result _
+    c.from_residual.result (put_none s out) c.put_numbers.ensures c.in_err-put_numbers.was c.from_residual.ensures.0
 
 pub returns : goal.returns
 returns g c =
-    let n = c.args.checked.now in
-    let put = rw (
-      c.as_slice.ensures,
-      c.as_bytes.ensures.value ∙ c.format.ensures.text,
-      c.as_bytes-2.ensures.value ∙ c.format-2.ensures.text,
-      c.as_bytes-3.ensures.value ∙ c.format-3.ensures.text,
-      c.as_bytes-4.ensures.value ∙ c.format-4.ensures.text,
-      c.as_bytes-5.ensures.value ∙ c.format-5.ensures.text,
-    ) at c.put_pieces.ensures in
-    subst (λ (text : List ℕ). Puts g.O.ByteSink c.args.out.now c.put_pieces.new.sink text c.put_pieces.result)
-    (joined (counted (codes "pages=") n.pages) (counted (codes " used=") n.used) (counted (codes " rows=") n.rows)
-    (counted (codes " deleted=") n.deleted) (counted (codes " unreached=") n.unreached) (codes "\n"))
-    put
+    let s = g.O.ByteSink in
+    let out = c.args.out.now in
+    let numbers = checked_numbers c.args.checked.now in
+    let last = c.put.ensures in
+    let front = put_more s out out c.put_numbers.new.out [] numbers c.put_numbers.result
+    c.in_ok-put_numbers.field-0 (put_none s out) c.put_numbers.ensures c.in_ok-put_numbers.was in
+    put_last s out c.put_numbers.new.out c.put.new.self numbers (codes "\n") c.put.result front
+    (record { ok = last.ok; failed = last.failed; cause = last.cause })

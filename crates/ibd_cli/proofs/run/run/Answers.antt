@@ -1,9 +1,11 @@
 use Rattle.std.proofs.Common.{rules, refl, sym, subst, ◌∙◌}
 use Rattle.ibd_cli.specs.Forms.{IsForm}
 use Rattle.ibd_cli.specs.declared.words.Form.TheVariants.{Table, Build, Sample}
-use Rattle.ibd_cli.proofs.WordLists.{same_task, never_build, never_sample, build_and_sample, asks_table, asks_build}
-use Rattle.ibd_cli.proofs.Serving.{never_usage, never_unbuilt, usage_is_built}
-use Rattle.ibd_cli.proofs.BuildEnds.{build_never_usage, build_never_unbuilt}
+use Rattle.ibd_cli.proofs.WordLists.{same_task, same_count, never_build, never_sample, build_and_sample}
+use Rattle.ibd_cli.proofs.WordLists.{asks_table, asks_build, asks_sample}
+use Rattle.ibd_cli.proofs.Serving.{never_usage}
+use Rattle.ibd_cli.proofs.BuildEnds.{build_never_usage}
+use Rattle.ibd_cli.proofs.SampleEnds.{sample_never_usage}
 use Rattle.ibd_cli.proofs.run.run.Goals as goal
 use Rattle.ibd_cli.proofs.run.run.Goals.{in-None, in-Some-Table, in-Some-Build, in-Some-Sample}
 
@@ -11,6 +13,11 @@ pub build_file-status-requires : goal.build_file-status-requires
 build_file-status-requires g c =
     let fresh = c.requires.fresh (subst (IsForm _) c.in-Some-Build.field-0-is c.in-Some-Build.ensures) in
     search (rules, fresh)
+
+pub take_sample-status-requires : goal.take_sample-status-requires
+take_sample-status-requires g c =
+    let form = subst (IsForm _) c.in-Some-Sample.field-0-is c.in-Some-Sample.ensures in
+    search (rules, form.0)
 
 pub returns-clause-usage : goal.returns-clause-usage
 returns-clause-usage g c = (
@@ -20,7 +27,8 @@ returns-clause-usage g c = (
         | in-Some-Table w ↦ absurd (never_usage _ w.serve-status.ensures.of_table (sym w.status-is ∙ usage))
         | in-Some-Build w ↦
             absurd (build_never_usage _ _ _ _ w.build_file-status.ensures.builds (sym w.status-is ∙ usage))
-        | in-Some-Sample w ↦ absurd (usage_is_built (sym usage ∙ w.status-is))
+        | in-Some-Sample w ↦
+            absurd (sample_never_usage _ _ _ _ _ w.take_sample-status.ensures (sym w.status-is ∙ usage))
       ],
   λ none.
       elim c.match-form.branch [
@@ -28,28 +36,6 @@ returns-clause-usage g c = (
         | in-Some-Table w ↦ absurd (none _ w.in-Some-Table.ensures)
         | in-Some-Build w ↦ absurd (none _ w.in-Some-Build.ensures)
         | in-Some-Sample w ↦ absurd (none _ w.in-Some-Sample.ensures)
-      ],
-)
-
-pub returns-clause-unbuilt : goal.returns-clause-unbuilt
-returns-clause-unbuilt g c = (
-  λ unbuilt.
-      elim c.match-form.branch [
-        | in-None w ↦ absurd (usage_is_built (sym w.status-is ∙ unbuilt))
-        | in-Some-Table w ↦ absurd (never_unbuilt _ w.serve-status.ensures.of_table (sym w.status-is ∙ unbuilt))
-        | in-Some-Build w ↦
-            absurd (build_never_unbuilt _ _ _ _ w.build_file-status.ensures.builds (sym w.status-is ∙ unbuilt))
-        | in-Some-Sample w ↦ (_, subst (IsForm _) w.in-Some-Sample.field-0-is w.in-Some-Sample.ensures)
-      ],
-  λ sample.
-      elim c.match-form.branch [
-        | in-None w ↦ absurd (w.in-None.ensures (Sample sample.0) sample.1)
-        | in-Some-Table w ↦
-            absurd (never_sample _ (Sample sample.0) sample.0 _ refl sample.1
-            (subst (IsForm _) w.in-Some-Table.field-0-is w.in-Some-Table.ensures))
-        | in-Some-Build w ↦
-            absurd (build_and_sample _ _ _ w.in-Some-Build.field-0-is w.in-Some-Build.ensures sample.1)
-        | in-Some-Sample w ↦ w.status-is
       ],
 )
 
@@ -63,47 +49,47 @@ returns-clause-file g c = λ none.
     ]
 
 pub returns-clause-schema : goal.returns-clause-schema
-returns-clause-schema g c = λ none unbuilt.
+returns-clause-schema g c = λ none no_build.
     elim c.match-form.branch [
       | in-None w ↦ w.schema-is
       | in-Some-Table w ↦ absurd (asks_table _ _ _ none w.in-Some-Table.field-0-is w.in-Some-Table.ensures)
-      | in-Some-Build w ↦ absurd (asks_build _ _ unbuilt w.in-Some-Build.field-0-is w.in-Some-Build.ensures)
+      | in-Some-Build w ↦ absurd (asks_build _ _ no_build w.in-Some-Build.field-0-is w.in-Some-Build.ensures)
       | in-Some-Sample w ↦ w.schema-is
     ]
 
 pub returns-clause-steps : goal.returns-clause-steps
-returns-clause-steps g c = λ none.
+returns-clause-steps g c = λ none no_sample.
     elim c.match-form.branch [
       | in-None w ↦ w.steps-is
       | in-Some-Table w ↦ absurd (asks_table _ _ _ none w.in-Some-Table.field-0-is w.in-Some-Table.ensures)
       | in-Some-Build w ↦ w.steps-is ∙ w.build_file-status.ensures.steps
-      | in-Some-Sample w ↦ w.steps-is
+      | in-Some-Sample w ↦ absurd (asks_sample _ _ _ no_sample w.in-Some-Sample.field-0-is w.in-Some-Sample.ensures)
     ]
 
 pub returns-clause-out : goal.returns-clause-out
-returns-clause-out g c = λ none unbuilt.
+returns-clause-out g c = λ none no_build no_sample.
     elim c.match-form.branch [
       | in-None w ↦ w.out-is
       | in-Some-Table w ↦ absurd (asks_table _ _ _ none w.in-Some-Table.field-0-is w.in-Some-Table.ensures)
-      | in-Some-Build w ↦ absurd (asks_build _ _ unbuilt w.in-Some-Build.field-0-is w.in-Some-Build.ensures)
-      | in-Some-Sample w ↦ w.out-is
+      | in-Some-Build w ↦ absurd (asks_build _ _ no_build w.in-Some-Build.field-0-is w.in-Some-Build.ensures)
+      | in-Some-Sample w ↦ absurd (asks_sample _ _ _ no_sample w.in-Some-Sample.field-0-is w.in-Some-Sample.ensures)
     ]
 
 pub returns-clause-rows : goal.returns-clause-rows
-returns-clause-rows g c = λ unbuilt.
+returns-clause-rows g c = λ no_build.
     elim c.match-form.branch [
       | in-None w ↦ w.rows-is
       | in-Some-Table w ↦ w.rows-is
-      | in-Some-Build w ↦ absurd (asks_build _ _ unbuilt w.in-Some-Build.field-0-is w.in-Some-Build.ensures)
+      | in-Some-Build w ↦ absurd (asks_build _ _ no_build w.in-Some-Build.field-0-is w.in-Some-Build.ensures)
       | in-Some-Sample w ↦ w.rows-is
     ]
 
 pub returns-clause-target : goal.returns-clause-target
-returns-clause-target g c = λ unbuilt.
+returns-clause-target g c = λ no_build.
     elim c.match-form.branch [
       | in-None w ↦ w.target-is
       | in-Some-Table w ↦ w.target-is
-      | in-Some-Build w ↦ absurd (asks_build _ _ unbuilt w.in-Some-Build.field-0-is w.in-Some-Build.ensures)
+      | in-Some-Build w ↦ absurd (asks_build _ _ no_build w.in-Some-Build.field-0-is w.in-Some-Build.ensures)
       | in-Some-Sample w ↦ w.target-is
     ]
 
@@ -132,4 +118,18 @@ returns-clause-builds g c = λ is_build.
       | in-Some-Sample w ↦
           absurd (build_and_sample _ Build _ refl is_build
           (subst (IsForm _) w.in-Some-Sample.field-0-is w.in-Some-Sample.ensures))
+    ]
+
+pub returns-clause-samples : goal.returns-clause-samples
+returns-clause-samples g c = λ n is_sample.
+    elim c.match-form.branch [
+      | in-None w ↦ absurd (w.in-None.ensures (Sample n) is_sample)
+      | in-Some-Table w ↦
+          absurd (never_sample _ (Sample n) n _ refl is_sample
+          (subst (IsForm _) w.in-Some-Table.field-0-is w.in-Some-Table.ensures))
+      | in-Some-Build w ↦
+          absurd (build_and_sample _ _ n w.in-Some-Build.field-0-is w.in-Some-Build.ensures is_sample)
+      | in-Some-Sample w ↦
+          let e = same_count _ _ _ n w.in-Some-Sample.field-0-is w.in-Some-Sample.ensures is_sample in
+          rw (w.status-is, w.out-is) (rw e at w.take_sample-status.ensures)
     ]
