@@ -1,6 +1,6 @@
 //! One line of the cases.
 
-use crate::command::{Command, try_schema};
+use crate::command::{BuildCase, Command, try_schema};
 use crate::error::LineError;
 use crate::plan::Plan;
 use crate::report::Report;
@@ -71,7 +71,7 @@ fn try_schema_line(
     }
 }
 
-/// Names a file.
+/// Names a file: one that is made of another one, or what a build leaves.
 fn name_file(
     alloc: Global,
     shelf: &mut Shelf,
@@ -81,6 +81,10 @@ fn name_file(
 ) -> Result<(), LineError> {
     if name.is_empty() || answer.is_some() {
         return Err(LineError::Word);
+    }
+    if let Some(build) = made.strip_prefix("build ") {
+        let base = BuildCase::read(alloc, build)?.base(alloc, shelf)?;
+        return shelf.put_file(alloc, name, base);
     }
     let mut words = Words::of(alloc, made)?;
     let plan = Plan::read(alloc, &mut words)?;

@@ -11,9 +11,11 @@ mod outcome;
 mod pages;
 mod plan;
 mod report;
+mod rows;
 mod run;
 mod sheaf;
 mod shelf;
+mod store;
 mod text;
 mod words;
 

@@ -189,7 +189,9 @@ impl Outcome {
         let written = self.written.bytes();
         match self.end {
             Ok(()) | Err(End::Broken(_)) if wanted == b"ends".as_slice() => text.extend(b"ends")?,
-            Ok(()) if wanted.starts_with(b"bytes=") => put_sum(&mut text, written)?,
+            Ok(()) if wanted.starts_with(b"bytes=") => {
+                put_length(&mut text, written.len() as u64, crc32c(written))?
+            }
             Ok(()) if written.is_empty() => text.extend(b"nothing")?,
             Ok(()) => text.extend(written)?,
             Err(end) => {
@@ -212,11 +214,12 @@ fn may_be_written(end: End, written: &[u8], whole: &[u8]) -> bool {
     }
 }
 
-fn put_sum(text: &mut ByteList, written: &[u8]) -> Result<(), NoMemory> {
+/// Adds how many bytes a text has, and its checksum.
+pub fn put_length(text: &mut ByteList, bytes: u64, sum: u32) -> Result<(), NoMemory> {
     text.extend(b"bytes=")?;
-    put_number(text, written.len() as u64)?;
+    put_number(text, bytes)?;
     text.extend(b" sum=")?;
-    put_hex(text, crc32c(written))
+    put_hex(text, sum)
 }
 
 /// Adds the numbers of a sound table.

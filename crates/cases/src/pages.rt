@@ -85,6 +85,16 @@ impl<'a> CasePages<'a> {
         &self.fetched
     }
 
+    /// How many pages it was asked for, those that it didn't give too.
+    pub fn fetches(&self) -> u64 {
+        self.fetches
+    }
+
+    /// How many calls there were, of whatever kind.
+    pub fn calls(&self) -> u64 {
+        self.made
+    }
+
     /// Counts a call, and answers the file that it sees where it doesn't fail.
     fn count_call(&mut self) -> Option<Image<'a>>
         ensures { self.new ≡ self.old }

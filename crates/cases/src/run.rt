@@ -11,13 +11,13 @@ use crate::shelf::{Base, Shelf, edited};
 use crate::words::Range;
 use cross_index::cross;
 use key_lookup::get;
-use page_source::{ByteList, Fails, MemorySink, NoMemory, PAGE_SIZE, Steps};
+use page_source::{ByteList, Fails, MemorySink, NoMemory, PAGE_SIZE, Steps, Stop};
 use schema_text::Schema;
 use sql_dump::dump;
 use std::alloc::Global;
 use std::marker::Brand;
 use std::sync::ledger::{Blank, Ledger};
-use table_check::check;
+use table_check::{Checked, check};
 
 /// The room of a sink of which a line says nothing.
 const ROOM: u64 = 16_777_216;
@@ -175,6 +175,13 @@ impl<'a> Ready<'a> {
         Ok(file)
     }
 
+    /// The numbers of the file as it is, where it is sound.
+    pub fn checked(&self, alloc: Global) -> Result<Checked, End> {
+        let schema = Schema::read(alloc, self.schema)?;
+        let mut file = self.file(alloc, Hitch::None);
+        Ok(check_file::<Brand>(alloc, &mut file, &schema, Blank::new(1))?)
+    }
+
     fn run_over(
         &self,
         alloc: Global,
@@ -187,7 +194,10 @@ impl<'a> Ready<'a> {
             Err(error) => return Ok(Outcome::stopped(alloc, End::from(error))),
         };
         match task {
-            Task::Check => Ok(check_file::<Brand>(alloc, file, &schema, Blank::new(1))?),
+            Task::Check => {
+                let checked = check_file::<Brand>(alloc, file, &schema, Blank::new(1));
+                Ok(checked_outcome(alloc, checked)?)
+            }
             Task::Cross => Ok(cross_file::<Brand>(alloc, file, &schema, Blank::new(1))?),
             Task::Dump => {
                 let mut sink = sink_of(alloc, hitch)?;
@@ -214,18 +224,23 @@ fn written_of(
     Ok(Outcome { end, written })
 }
 
-/// A check of the file, and its numbers.
+/// A check of the file.
 fn check_file<L: Ledger>(
     alloc: Global,
     file: &mut CasePages<'_>,
     schema: &Schema,
     blank: Blank,
-) -> Result<Outcome, NoMemory>
+) -> Result<Checked, Stop>
     requires name { blank.name ≡ L.name }
     requires parts { blank.parts ≡ L.parts }
     requires shared { 0 < blank.parts }
 {
-    match check(alloc, file, schema, &mut Steps::<L>::new(blank)) {
+    check(alloc, file, schema, &mut Steps::<L>::new(blank))
+}
+
+/// How a check ended, with its numbers as a text.
+fn checked_outcome(alloc: Global, checked: Result<Checked, Stop>) -> Result<Outcome, NoMemory> {
+    match checked {
         Ok(checked) => {
             let mut written = ByteList::new(alloc);
             put_checked(&mut written, &checked)?;
@@ -298,7 +313,7 @@ fn dump_file<L: Ledger>(
 /// The sink of one run.
 fn sink_of(alloc: Global, hitch: Hitch) -> Result<MemorySink, NoMemory> {
     let room = match hitch {
-        Hitch::Room(room) => room.min(ROOM),
+        Hitch::Room(room) => room,
         _ => ROOM,
     };
     let fails = match hitch {

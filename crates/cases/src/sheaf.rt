@@ -50,7 +50,7 @@ impl Sheaf {
     }
 
     /// Keeps a page that begins with these bytes, in place of the one with this number.
-    fn put(&mut self, alloc: Global, n: u32, bytes: &[u8]) -> Result<(), NoMemory> {
+    pub fn put(&mut self, alloc: Global, n: u32, bytes: &[u8]) -> Result<(), NoMemory> {
         let mut page = Page::zeroed(alloc)?;
         if bytes.len() <= PAGE_SIZE {
             page.put_bytes(0, bytes);

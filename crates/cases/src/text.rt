@@ -5,7 +5,10 @@ use page_source::{ByteList, NoMemory};
 use std::alloc::Global;
 
 /// The most bytes that an escape may repeat.
-const MOST: usize = 1_000_000;
+const MOST: usize = 17_000_000;
+
+/// How many of them are added at a time.
+const BLOCK: usize = 256;
 
 /// The bytes that a text spells: `\n` is a line feed, `\\` a backslash, `\xHH` any byte, and `\{N}` behind a byte makes
 /// it stand N times.
@@ -65,9 +68,12 @@ fn repeat_last(bytes: &mut ByteList, times: &[u8]) -> Result<(), LineError> {
     if times == 0 || times > MOST {
         return Err(LineError::Escape);
     }
-    for _ in 1..times {
-        bytes.push(last)?;
+    let block = [last; BLOCK];
+    let more = times - 1;
+    for _ in 0..more / BLOCK {
+        bytes.extend(&block)?;
     }
+    bytes.extend(&block[..more % BLOCK])?;
     Ok(())
 }
 

@@ -37,8 +37,8 @@ impl<'a> GetCase<'a> {
         })
     }
 
-    /// Looks the row up, and compares; then how many pages were fetched, where the line says it. Of a text that is no
-    /// key's the file isn't touched.
+    /// Looks the row up, and compares; then how many steps were ticked, where the line says it. Of a text that is no
+    /// key's the file isn't called at all.
     pub fn run(
         &self,
         alloc: Global,
@@ -48,16 +48,22 @@ impl<'a> GetCase<'a> {
     ) -> Result<(), LineError> {
         let task = Task::Get(self.key.bytes());
         self.file.run(alloc, shelf, &[task], answer, report)?;
-        let steps = if answer == "key" { Some(0) } else { self.steps };
+        let is_refused = answer == "key";
+        let steps = if is_refused { Some(0) } else { self.steps };
         let Some(steps) = steps else {
             return Ok(());
         };
         let ready = Ready::new(alloc, shelf, self.file.plan())?;
         let file = ready.fetches(alloc, task)?;
+        let ticked = if is_refused {
+            file.calls()
+        } else {
+            file.fetches()
+        };
         let mut wanted = ByteList::new(alloc);
         put_number(&mut wanted, steps)?;
         let mut came = ByteList::new(alloc);
-        put_number(&mut came, file.fetched().len() as u64)?;
+        put_number(&mut came, ticked)?;
         report.compare(b" of the steps", wanted.bytes(), came.bytes())
     }
 }

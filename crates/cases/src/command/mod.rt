@@ -1,11 +1,13 @@
-//! The commands, one module each. A command that comes later, as `build`, gets a module of its own here, a variant of
-//! `Command`, and its arms in `read` and `run`.
+//! The commands, one module each. A command that comes later gets a module of its own here, a variant of `Command`, and
+//! its arms in `read` and `run`.
 
 mod audit;
+mod build;
 mod file;
 mod get;
 mod page;
 mod row;
+mod sample;
 mod schema;
 mod sweep;
 mod value;
@@ -17,10 +19,12 @@ use crate::run::Task;
 use crate::shelf::Shelf;
 use crate::words::Words;
 use audit::AuditCase;
+pub use build::BuildCase;
 use file::{FetchCase, FileCase};
 use get::GetCase;
 use page::PageCase;
 use row::{RowCase, RowText};
+use sample::SampleCase;
 pub use schema::try_schema;
 use std::alloc::Global;
 use sweep::SweepCase;
@@ -35,6 +39,8 @@ pub enum Command<'a> {
     Both(FileCase<'a>),
     Cross(FileCase<'a>),
     Get(GetCase<'a>),
+    Build(BuildCase<'a>),
+    Sample(SampleCase),
     Fetches(FetchCase<'a>),
     Audit(AuditCase<'a>),
     Walk(WalkCase<'a>),
@@ -50,6 +56,7 @@ impl<'a> Command<'a> {
         let (word, rest) = what.split_once(' ').ok_or(LineError::Command)?;
         match word {
             "get" => Ok(Command::Get(GetCase::read(alloc, rest)?)),
+            "build" => Ok(Command::Build(BuildCase::read(alloc, rest)?)),
             "value" => Ok(Command::Value(ValueCase::read(alloc, rest)?)),
             "line" => Ok(Command::Row(RowCase::read(alloc, RowText::Line, rest)?)),
             "key" => Ok(Command::Row(RowCase::read(alloc, RowText::Key, rest)?)),
@@ -68,6 +75,7 @@ impl<'a> Command<'a> {
             "dump" => Ok(Command::Dump(FileCase::read(alloc, words)?)),
             "both" => Ok(Command::Both(FileCase::read(alloc, words)?)),
             "cross" => Ok(Command::Cross(FileCase::read(alloc, words)?)),
+            "sample" => Ok(Command::Sample(SampleCase::read(words)?)),
             "fetches" => Ok(Command::Fetches(FetchCase::read(alloc, words)?)),
             "audit" => Ok(Command::Audit(AuditCase::read(alloc, words)?)),
             "walk" => Ok(Command::Walk(WalkCase::read(alloc, words)?)),
@@ -93,6 +101,8 @@ impl<'a> Command<'a> {
             }
             Command::Cross(case) => case.run(alloc, shelf, &[Task::Cross], answer, report),
             Command::Get(case) => case.run(alloc, shelf, answer, report),
+            Command::Build(case) => case.run(alloc, shelf, answer, report),
+            Command::Sample(case) => case.run(alloc, answer, report),
             Command::Fetches(case) => case.run(alloc, shelf, answer, report),
             Command::Audit(case) => case.run(alloc, shelf, answer, report),
             Command::Walk(case) => case.run(alloc, shelf, answer, report),
