@@ -8,7 +8,7 @@ use page_source::ByteList;
 use std::alloc::Global;
 
 /// How the pages that were edited are sealed.
-#[derive(Clone, Copy, Debug, PartialEq, Eq)]
+#[derive(Clone, Copy)]
 pub enum Frame {
     /// With the end of their LSN, and checksums of this kind.
     Sums(SumKind),
@@ -17,7 +17,7 @@ pub enum Frame {
 }
 
 /// An edit of a page, or of how the pages edited before are sealed.
-#[derive(Debug, Drop)]
+#[derive(Drop)]
 pub enum Edit {
     /// Bytes that stand from a byte on.
     Put {

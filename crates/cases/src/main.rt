@@ -25,7 +25,7 @@ use std::alloc::Global;
 use std::io::{BufRead, BufReader};
 
 /// How many cases passed, and how many didn't.
-#[derive(Clone, Copy, Debug, PartialEq, Eq)]
+#[derive(Clone, Copy)]
 struct Tally {
     passed: u64,
     failed: u64,

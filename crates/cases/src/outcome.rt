@@ -12,7 +12,7 @@ use std::alloc::Global;
 use table_check::Checked;
 
 /// What ends a call before it is done.
-#[derive(Clone, Copy, Debug, PartialEq, Eq)]
+#[derive(Clone, Copy)]
 pub enum End {
     Broken(Fault),
     Source,
@@ -161,7 +161,7 @@ fn word_of(why: SchemaWhy) -> &'static str {
 }
 
 /// How a command ended, and what it wrote.
-#[derive(Debug, Drop)]
+#[derive(Drop)]
 pub struct Outcome {
     pub end: Result<(), End>,
     pub written: ByteList,

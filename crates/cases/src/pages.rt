@@ -10,7 +10,7 @@ use std::marker::Model;
 use std::sync::ledger::Ledger;
 
 /// The pages of a file that aren't zeros: those of the edited ones, and where none is, those under them.
-#[derive(Clone, Copy, Debug)]
+#[derive(Clone, Copy)]
 pub struct Image<'a> {
     pub over: &'a Sheaf,
     pub under: &'a Sheaf,
@@ -34,7 +34,7 @@ impl Image<'_> {
 
 /// A file of pages that tells nothing. From its call number `turns_at` on, counted from 1, it is another one, and its
 /// call number `fails_at` fails.
-#[derive(Debug, Drop)]
+#[derive(Drop)]
 pub struct CasePages<'a> {
     first: Image<'a>,
     second: Image<'a>,

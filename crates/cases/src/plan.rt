@@ -7,7 +7,7 @@ use fil_frame::SumKind;
 use std::alloc::Global;
 
 /// How many bytes the file has.
-#[derive(Clone, Copy, Debug, PartialEq, Eq)]
+#[derive(Clone, Copy)]
 pub enum Size {
     /// As many as before.
     AsIs,
@@ -20,7 +20,7 @@ pub enum Size {
 }
 
 /// What goes wrong, each number of the range in turn.
-#[derive(Clone, Copy, Debug, PartialEq, Eq)]
+#[derive(Clone, Copy)]
 pub enum Trouble<'a> {
     None,
     /// The file's call with this number fails.
@@ -34,7 +34,7 @@ pub enum Trouble<'a> {
 }
 
 /// A file by its name, and what is done to it.
-#[derive(Debug, Drop)]
+#[derive(Drop)]
 pub struct Plan<'a> {
     pub base: &'a str,
     pub schema: Option<&'a str>,
@@ -98,7 +98,7 @@ impl<'a> Plan<'a> {
     }
 
     fn read_trouble(&mut self, word: &'a str, words: &mut Words<'a>) -> Result<(), LineError> {
-        if self.trouble != Trouble::None {
+        if !matches!(self.trouble, Trouble::None) {
             return Err(LineError::Word);
         }
         self.trouble = match word {

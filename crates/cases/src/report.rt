@@ -12,7 +12,7 @@ const MOST_SHOWN: u64 = 10;
 const MOST_BYTES: usize = 2000;
 
 /// How many tries of a line there were, how many of them came out otherwise, and what came.
-#[derive(Debug, Drop)]
+#[derive(Drop)]
 pub struct Report {
     tried: u64,
     failed: u64,

@@ -10,7 +10,7 @@ use std::alloc::Global;
 const MOST: u64 = 1_000_000;
 
 /// A line that stands for many: the texts between which its number stands.
-#[derive(Debug, Drop)]
+#[derive(Drop)]
 struct MadeLine {
     texts: Vec<ByteList>,
 }

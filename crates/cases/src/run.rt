@@ -23,7 +23,7 @@ use table_check::{Checked, check};
 const ROOM: u64 = 16_777_216;
 
 /// What is run.
-#[derive(Clone, Copy, Debug, PartialEq, Eq)]
+#[derive(Clone, Copy)]
 pub enum Task<'a> {
     Check,
     Dump,
@@ -57,7 +57,7 @@ impl Task<'_> {
 }
 
 /// What goes wrong in one run.
-#[derive(Clone, Copy, Debug, PartialEq, Eq)]
+#[derive(Clone, Copy)]
 pub enum Hitch {
     None,
     /// This call of the file fails.
@@ -71,7 +71,7 @@ pub enum Hitch {
 }
 
 /// A file that stands ready, and the schema of its table.
-#[derive(Debug, Drop)]
+#[derive(Drop)]
 pub struct Ready<'a> {
     base: &'a Base,
     over: Sheaf,

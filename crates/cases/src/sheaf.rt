@@ -13,14 +13,14 @@ const SPACE: u32 = 23;
 const LSN: u64 = 0x1_0000_2F1C;
 
 /// A page that is kept, and whether it was edited since it was sealed.
-#[derive(Debug, Drop)]
+#[derive(Drop)]
 struct Leaf {
     page: Page,
     is_open: bool,
 }
 
 /// Some pages of a file, by their numbers.
-#[derive(Debug, Drop)]
+#[derive(Drop)]
 pub struct Sheaf {
     leaves: BTreeMap<u32, Leaf>,
 }

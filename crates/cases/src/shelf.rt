@@ -23,7 +23,7 @@ const KNOWN: [(&str, Which); 8] = [
 ];
 
 /// A file that lines name.
-#[derive(Debug, Drop)]
+#[derive(Drop)]
 pub struct Base {
     /// Its pages that aren't zeros.
     pub sheaf: Sheaf,

@@ -10,7 +10,7 @@ use std::alloc::Global;
 use std::marker::Model;
 
 /// A store that tells nothing, and has room for so many pages. Its call number `fails_at`, counted from 1, fails.
-#[derive(Debug, Drop)]
+#[derive(Drop)]
 pub struct CaseStore {
     alloc: Global,
     room: u32,

@@ -4,7 +4,7 @@ use crate::error::LineError;
 use std::alloc::Global;
 
 /// The words of a text, which single spaces divide, and how many of them were taken.
-#[derive(Debug, Drop)]
+#[derive(Drop)]
 pub struct Words<'a> {
     words: Vec<&'a str>,
     taken: usize,
@@ -79,7 +79,7 @@ pub fn page_number(word: &str) -> Result<u32, LineError> {
 }
 
 /// The numbers from the first to the last.
-#[derive(Clone, Copy, Debug, PartialEq, Eq)]
+#[derive(Clone, Copy)]
 pub struct Range {
     pub first: u64,
     pub last: u64,

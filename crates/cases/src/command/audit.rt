@@ -20,7 +20,7 @@ use std::marker::Brand;
 use std::sync::ledger::{Blank, Ledger};
 
 /// What is asked of the file besides the owners of its pages.
-#[derive(Clone, Copy, Debug, PartialEq, Eq)]
+#[derive(Clone, Copy)]
 enum Question {
     /// The segment whose inode stands at this address.
     At(Address),
@@ -29,7 +29,7 @@ enum Question {
 }
 
 /// `audit BASE ITEM .. [at P:O ..] [type P ..]`.
-#[derive(Debug, Drop)]
+#[derive(Drop)]
 pub struct AuditCase<'a> {
     plan: Plan<'a>,
     questions: Vec<Question>,

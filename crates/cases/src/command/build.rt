@@ -28,14 +28,14 @@ const ROOM: u32 = 16_384;
 const MOST_TRIES: u64 = 1000;
 
 /// An object of which calls fail.
-#[derive(Clone, Copy, Debug, PartialEq, Eq)]
+#[derive(Clone, Copy)]
 enum Object {
     Rows,
     Target,
 }
 
 /// Which calls of an object fail, each of them in a try of its own. There is no call 0.
-#[derive(Clone, Copy, Debug, PartialEq, Eq)]
+#[derive(Clone, Copy)]
 struct Failing {
     object: Object,
     calls: Range,
@@ -69,7 +69,7 @@ impl Failing {
 }
 
 /// `build SCHEMA [room N] [fail OBJECT CALLS] = ROWS`, without its first word.
-#[derive(Debug, Drop)]
+#[derive(Drop)]
 pub struct BuildCase<'a> {
     schema: &'a str,
     room: u32,
@@ -202,7 +202,7 @@ impl<'a> BuildCase<'a> {
     ) -> Result<(), LineError> {
         let rows = self.rows.bytes();
         let dumped = ready.run(alloc, Task::Dump, Hitch::Room(rows.len() as u64))?;
-        if dumped.end == Ok(()) && dumped.written.bytes() == rows {
+        if dumped.end.is_ok() && dumped.written.bytes() == rows {
             return Ok(());
         }
         text.extend(b", but a dump says ")?;

@@ -14,7 +14,7 @@ use std::alloc::Global;
 const MOST_TRIES: u64 = 100_000;
 
 /// `check BASE ITEM ..` or `dump BASE ITEM ..`, with both, `both BASE ITEM ..`, and `cross BASE ITEM ..`.
-#[derive(Debug, Drop)]
+#[derive(Drop)]
 pub struct FileCase<'a> {
     plan: Plan<'a>,
 }
@@ -89,7 +89,7 @@ fn which_of(
     number: u64,
 ) -> Result<ByteList, LineError> {
     let mut which = copied(alloc, task.which())?;
-    if trouble != Trouble::None {
+    if !matches!(trouble, Trouble::None) {
         which.extend(b" at ")?;
         put_number(&mut which, number)?;
     }
@@ -97,7 +97,7 @@ fn which_of(
 }
 
 /// `fetches check BASE ITEM ..`: which pages are fetched, in order.
-#[derive(Debug, Drop)]
+#[derive(Drop)]
 pub struct FetchCase<'a> {
     task: Task<'static>,
     plan: Plan<'a>,

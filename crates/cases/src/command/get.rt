@@ -12,7 +12,7 @@ use page_source::ByteList;
 use std::alloc::Global;
 
 /// `get BASE ITEM .. [steps N] = KEY`, without its first word.
-#[derive(Debug, Drop)]
+#[derive(Drop)]
 pub struct GetCase<'a> {
     file: FileCase<'a>,
     steps: Option<u64>,

@@ -32,7 +32,7 @@ use value::ValueCase;
 use walk::WalkCase;
 
 /// What a line tries.
-#[derive(Debug, Drop)]
+#[derive(Drop)]
 pub enum Command<'a> {
     Check(FileCase<'a>),
     Dump(FileCase<'a>),

@@ -21,7 +21,7 @@ use std::alloc::Global;
 const MEMBERS: u32 = 128;
 
 /// Where in its tree the page stands.
-#[derive(Clone, Copy, Debug, PartialEq, Eq)]
+#[derive(Clone, Copy)]
 struct Stand {
     leaf: bool,
     root: bool,
@@ -51,7 +51,7 @@ fn is_first_of(word: &str, first: &str, second: &str) -> Result<bool, LineError>
 }
 
 /// `page BASE P STAND INDEX ITEM ..`.
-#[derive(Debug, Drop)]
+#[derive(Drop)]
 pub struct PageCase<'a> {
     number: u32,
     stand: Stand,

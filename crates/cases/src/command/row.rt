@@ -10,14 +10,14 @@ use schema_text::{Schema, SchemaError};
 use std::alloc::Global;
 
 /// Which of the two is read.
-#[derive(Clone, Copy, Debug, PartialEq, Eq)]
+#[derive(Clone, Copy)]
 pub enum RowText {
     Line,
     Key,
 }
 
 /// `line SCHEMA = TEXT` or `key SCHEMA = TEXT`.
-#[derive(Debug, Drop)]
+#[derive(Drop)]
 pub struct RowCase<'a> {
     what: RowText,
     schema: &'a str,

@@ -16,7 +16,7 @@ use std::sync::ledger::{Blank, Ledger};
 const MOST_ROWS: u32 = 200_000;
 
 /// `sample N`.
-#[derive(Debug, Drop)]
+#[derive(Drop)]
 pub struct SampleCase {
     rows: u32,
 }

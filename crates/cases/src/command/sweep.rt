@@ -13,7 +13,7 @@ use page_source::{ByteList, PAGE_SIZE};
 use std::alloc::Global;
 
 /// Which bytes are changed, and which bits of each.
-#[derive(Debug, Drop)]
+#[derive(Drop)]
 struct Tried {
     /// These of each page.
     bytes: Vec<Range>,
@@ -53,7 +53,7 @@ impl Tried {
 }
 
 /// The answer at some bytes of some pages.
-#[derive(Debug, Drop)]
+#[derive(Drop)]
 struct Reply<'a> {
     pages: Vec<Range>,
     bytes: Vec<Range>,
@@ -105,7 +105,7 @@ fn wanted_of(alloc: Global, answer: &str, sound: &[u8], page: u32) -> Result<Byt
 }
 
 /// `sweep check BASE BYTES-TRIED`.
-#[derive(Debug, Drop)]
+#[derive(Drop)]
 pub struct SweepCase<'a> {
     task: Task<'static>,
     base: &'a str,

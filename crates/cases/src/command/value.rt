@@ -18,7 +18,7 @@ const CHECKED: &[u8] = b"pages=6 used=4 rows=1 deleted=0 unreached=0";
 const MOST: usize = 8000;
 
 /// `value TYPE NULLITY = FRONT:BYTES`, without its first word.
-#[derive(Debug, Drop)]
+#[derive(Drop)]
 pub struct ValueCase<'a> {
     kind: &'a str,
     front: ByteList,

@@ -22,7 +22,7 @@ use std::sync::ledger::{Blank, Ledger};
 use tree_walk::{TreeEnds, Walk, walk_tree};
 
 /// `walk BASE ITEM ..`.
-#[derive(Debug, Drop)]
+#[derive(Drop)]
 pub struct WalkCase<'a> {
     plan: Plan<'a>,
 }
