@@ -14,8 +14,6 @@ mod owner;
 mod settle;
 mod space;
 mod stages;
-#[cfg(test)]
-mod tests;
 
 pub use marks::Marks;
 pub use owner::Owner;

@@ -2,8 +2,8 @@
 
 use super::answers::{audited, expect_owners};
 use super::draft::{Draft, header};
-use crate::{Owner, Space};
 use page_source::Stop;
+use space_audit::{Owner, Space};
 use space_header::Address;
 use std::process::Abort;
 use std::test::Fail;

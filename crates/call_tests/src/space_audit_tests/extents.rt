@@ -2,9 +2,9 @@
 
 use super::answers::{audited, expect_owners};
 use super::draft::{Draft, extent, file_of, header, one, put_page};
-use crate::{Owner, Space};
 use extent_map::{Extent, write_extent};
 use page_source::{NoMemory, SparsePages};
+use space_audit::{Owner, Space};
 use space_header::write_base;
 use std::alloc::Global;
 use std::process::Abort;

@@ -2,13 +2,12 @@
 
 ghost use Rattle.std.specs.Prelude.{◌≡◌, ◌<◌};
 
-use crate::{Owner, Space, audit};
 use page_source::{SparsePages, Steps, Stop};
+use space_audit::{Owner, Space, audit};
 use std::alloc::Global;
 use std::marker::Brand;
 use std::process::Abort;
 use std::sync::ledger::{Blank, Ledger};
-use std::test::Fail;
 
 fn run<L: Ledger>(alloc: Global, file: &mut SparsePages, blank: Blank) -> Result<Space, Stop>
     requires name { blank.name ≡ L.name }
