@@ -13,8 +13,6 @@ mod lengths;
 mod moments;
 mod order;
 mod powers;
-#[cfg(test)]
-mod tests;
 mod texts;
 mod utf8;
 mod utf8_blocks;

@@ -9,8 +9,6 @@ pub mod laws;
 mod located;
 mod parts;
 mod places;
-#[cfg(test)]
-mod tests;
 mod writing;
 
 pub use errors::LocateError;

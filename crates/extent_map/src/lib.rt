@@ -9,8 +9,6 @@ mod flags;
 mod head;
 pub mod laws;
 pub mod states;
-#[cfg(test)]
-mod tests;
 
 pub use descriptors::read_extents;
 pub use extent::{Extent, read_extent, write_extent};

@@ -9,8 +9,6 @@ pub mod kinds;
 pub mod laws;
 mod rnd;
 pub mod tables;
-#[cfg(test)]
-mod tests;
 
 pub use crc::crc32c;
 pub use frame::{SumKind, frame_fault, kind, page_sum, seal, seal_as, sum_kind};

@@ -1,5 +1,5 @@
 -- One pass over the chain, record by record.
-use Rattle.std.proofs.Common.{◌≡◌, ℕ, ◌+◌, ◌-◌, ◌<◌, ◌≤◌, Bool, List, All, refl, sym, ap, ◌∙◌, arith}
+use Rattle.std.proofs.Common.{◌≡◌, ℕ, ◌+◌, ◌-◌, ◌<◌, ◌≤◌, Bool, List, All, sym, ap, ◌∙◌, arith}
 use Rattle.column_values.specs.Types.{Fields}
 use Rattle.compact_record.specs.Header.{next_origin}
 use Rattle.compact_record.specs.Reading.{Reading, IsSpelled}

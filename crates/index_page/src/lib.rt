@@ -13,8 +13,6 @@ mod numbers;
 mod pass;
 mod records;
 mod room;
-#[cfg(test)]
-mod tests;
 mod walk;
 
 pub use fault::{Scratch, page_fault};

@@ -6,8 +6,6 @@ mod inodes;
 pub mod laws;
 mod read;
 mod segments;
-#[cfg(test)]
-mod tests;
 mod walk;
 
 pub use inode::{Inode, read_inode, write_inode};

@@ -14,8 +14,6 @@ mod look_up;
 mod record;
 mod room;
 mod stop;
-#[cfg(test)]
-mod tests;
 mod tree;
 mod value;
 mod way;

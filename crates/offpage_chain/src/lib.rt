@@ -6,8 +6,6 @@ pub mod laws;
 pub mod part;
 mod reader;
 mod reference;
-#[cfg(test)]
-mod tests;
 mod write;
 
 pub use check::check_chain;

@@ -5,7 +5,5 @@ mod finish;
 pub mod laws;
 mod packer;
 mod parts;
-#[cfg(test)]
-mod tests;
 
 pub use packer::{Heads, Packer};

@@ -14,8 +14,6 @@ mod pieces;
 mod rule;
 mod steps;
 mod streams;
-#[cfg(test)]
-mod tests;
 
 pub use bytes::ByteList;
 pub use checks::{Halt, Stop};

@@ -5,8 +5,6 @@ mod answer;
 mod made;
 mod objects;
 mod row;
-#[cfg(test)]
-mod tests;
 mod text;
 
 pub use answer::sample;

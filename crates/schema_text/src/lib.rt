@@ -13,8 +13,6 @@ mod part;
 mod print;
 mod read;
 mod table;
-#[cfg(test)]
-mod tests;
 mod types;
 mod words;
 

@@ -6,8 +6,6 @@ mod address;
 mod header;
 pub mod laws;
 mod list;
-#[cfg(test)]
-mod tests;
 
 pub use address::{Address, Base, Node, is_null, read_base, read_node, write_base, write_node};
 pub use header::SpaceHeader;

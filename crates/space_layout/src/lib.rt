@@ -7,8 +7,6 @@ mod heads;
 pub mod laws;
 mod numbers;
 mod runs;
-#[cfg(test)]
-mod tests;
 
 pub use heads::{put_bitmap_page, put_header_page, put_inode_page};
 pub use numbers::{extents_needed, is_shape, segment_page};

@@ -10,8 +10,6 @@ mod reader;
 mod row;
 mod rows;
 mod stop;
-#[cfg(test)]
-mod tests;
 mod text;
 
 pub use buffer::Buffer;

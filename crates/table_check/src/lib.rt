@@ -7,8 +7,6 @@ mod leaf;
 mod record;
 mod rows;
 mod table;
-#[cfg(test)]
-mod tests;
 mod trees;
 mod unreached;
 pub mod value;

@@ -8,8 +8,6 @@ pub mod laws;
 mod leaves;
 mod level;
 mod place;
-#[cfg(test)]
-mod tests;
 mod tree;
 mod walk;
 

@@ -4,8 +4,6 @@
 mod build;
 mod pieces;
 mod plan;
-#[cfg(test)]
-mod tests;
 
 pub use build::{edited, file};
 pub use pieces::Piece;

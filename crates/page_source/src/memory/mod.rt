@@ -11,8 +11,6 @@ mod pages;
 mod sink;
 mod sparse;
 mod store;
-#[cfg(test)]
-mod tests;
 
 pub use bytes::MemoryBytes;
 pub use calls::Fails;

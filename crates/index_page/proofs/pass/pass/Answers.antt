@@ -1,6 +1,5 @@
 use Rattle.std.proofs.Common.{ℕ}
 use Rattle.std.proofs.lemmas.List.Elements.{All-append}
-use Rattle.column_values.specs.Types.{Fields}
 use Rattle.compact_record.specs.Reading.{IsSpelled}
 use Rattle.index_page.specs.Header.{records_of, free_of, heap_of}
 use Rattle.index_page.specs.Marks.{none_seen, LiesFree, with_record}

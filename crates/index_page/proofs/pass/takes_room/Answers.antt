@@ -1,4 +1,4 @@
-use Rattle.std.proofs.Common.{arith, ap}
+use Rattle.std.proofs.Common.{arith}
 use Rattle.index_page.proofs.RoomMarks.{has_bytes}
 use Rattle.index_page.proofs.pass.takes_room.Goals as goal
 

@@ -1,0 +1,259 @@
+//! What a listed call, a page that isn't there and a passed room do, and that each call can succeed.
+
+ghost use Rattle.std.specs.Prelude.{◌≡◌, ◌<◌};
+ghost use Rattle.page_source.specs.Objects.{CanSize};
+
+use page_source::{
+    ByteList, ByteSink, ByteSource, ChangingPages, Failed, Fails, LoggedPages, MemoryBytes,
+    MemoryPages, MemorySink, MemoryStore, NoMemory, Page, PageMap, PageSource, PageStore,
+    SparsePages, Steps,
+};
+use std::alloc::Global;
+use std::marker::Brand;
+use std::sync::ledger::{Blank, Ledger};
+use std::test::Fail;
+
+/// What the four fetches in turn answer, with the page's first byte after each.
+fn fetched<L: Ledger>(
+    file: &mut MemoryPages,
+    page: &mut Page,
+    numbers: [u32; 4],
+    blank: Blank,
+) -> [(Result<(), Failed>, u8); 4]
+    requires name { blank.name ≡ L.name }
+    requires parts { blank.parts ≡ L.parts }
+    requires shared { 0 < blank.parts }
+{
+    let mut steps = Steps::<L>::new(blank);
+    numbers.map(|n| {
+        let answer = file.fetch(n, page, &mut steps);
+        (answer, page.bytes()[0])
+    })
+}
+
+fn whole_pages<P: PageSource>(file: &mut P) -> Result<u32, Failed> {
+    file.pages()
+}
+
+fn read_three<S: ByteSource>(text: &mut S, buffer: &mut [u8; 3]) -> Result<usize, Failed> {
+    text.read(buffer)
+}
+
+fn put_text<S: ByteSink>(sink: &mut S, text: &str) -> Result<(), Failed> {
+    sink.put(text.as_bytes())
+}
+
+fn size_to<S: PageStore>(store: &mut S, pages: u32) -> Result<(), Failed>
+    requires { CanSize (S.told store.old) pages }
+{
+    store.set_size(pages)
+}
+
+fn two_pages_and_a_byte(alloc: Global) -> Result<ByteList, NoMemory> {
+    let mut bytes = ByteList::new(alloc);
+    bytes.extend(&[0x11; 16384])?;
+    bytes.extend(&[0x22; 16384])?;
+    bytes.push(0x33)?;
+    Ok(bytes)
+}
+
+#[test]
+fn pages_fail_where_listed_or_not_there(rt: HostRuntime) -> Result<(), Fail> {
+    let alloc = rt.alloc();
+    let fails = Fails::of(alloc, &[1, 4])?;
+    let mut file = MemoryPages::new(two_pages_and_a_byte(alloc)?, fails);
+    assert_eq!(rt; whole_pages(&mut file), Err(Failed));
+    assert_eq!(rt; file.pages(), Ok(2));
+    let mut page = Page::zeroed(alloc)?;
+    let found = fetched::<Brand>(&mut file, &mut page, [1, 0, 0, 2], Blank::new(1));
+    let wanted = [
+        (Ok(()), 0x22),
+        (Err(Failed), 0x22),
+        (Ok(()), 0x11),
+        (Err(Failed), 0x11),
+    ];
+    assert_eq!(rt; found, wanted);
+    Ok(())
+}
+
+#[test]
+fn bytes_fail_where_listed(rt: HostRuntime) -> Result<(), Fail> {
+    let alloc = rt.alloc();
+    let mut bytes = ByteList::new(alloc);
+    bytes.extend(b"hello")?;
+    let mut text = MemoryBytes::new(bytes, Fails::of(alloc, &[2])?);
+    let mut buffer = [0; 3];
+    for (answer, left) in [
+        (Ok(3), b"hel"),
+        (Err(Failed), b"hel"),
+        (Ok(2), b"lol"),
+        (Ok(0), b"lol"),
+    ] {
+        assert_eq!(rt; read_three(&mut text, &mut buffer), answer);
+        assert_eq!(rt; &buffer, left);
+    }
+    Ok(())
+}
+
+#[test]
+fn a_sink_fails_where_listed_or_full(rt: HostRuntime) -> Result<(), Fail> {
+    let alloc = rt.alloc();
+    let mut sink = MemorySink::new(alloc, 5, Fails::of(alloc, &[2])?)?;
+    for (piece, answer) in [
+        ("ab", Ok(())),
+        ("cd", Err(Failed)),
+        ("cdef", Err(Failed)),
+        ("cde", Ok(())),
+        ("f", Err(Failed)),
+        ("", Ok(())),
+    ] {
+        assert_eq!(rt; put_text(&mut sink, piece), answer);
+    }
+    assert_eq!(rt; sink.bytes(), b"abcde".as_slice());
+    Ok(())
+}
+
+#[test]
+fn a_store_fails_where_listed_or_too_small(rt: HostRuntime) -> Result<(), Fail> {
+    let alloc = rt.alloc();
+    for (room, listed, answer) in [(64, 0, Ok(())), (63, 0, Err(Failed)), (64, 1, Err(Failed))] {
+        let mut store = MemoryStore::new(alloc, room, Fails::of(alloc, &[listed])?)?;
+        assert_eq!(rt; size_to(&mut store, 64), answer);
+    }
+    let mut store = MemoryStore::new(alloc, 64, Fails::of(alloc, &[3])?)?;
+    store.set_size(64)?;
+    let page = Page::zeroed(alloc)?;
+    assert_eq!(rt; store.put(63, &page), Ok(()));
+    assert_eq!(rt; store.put(0, &page), Err(Failed));
+    assert_eq!(rt; store.put(0, &page), Ok(()));
+    Ok(())
+}
+
+/// A page of this byte.
+fn page_of(alloc: Global, byte: u8) -> Result<Page, NoMemory> {
+    let mut page = Page::zeroed(alloc)?;
+    page.put_bytes(0, &[byte; 16384]);
+    Ok(page)
+}
+
+/// A map with two pages, the first of which was put twice.
+fn two_held(alloc: Global) -> Result<PageMap, NoMemory> {
+    let mut held = PageMap::new(alloc);
+    held.put(2, page_of(alloc, 0x44)?)?;
+    held.put(70_000, page_of(alloc, 0x33)?)?;
+    held.put(2, page_of(alloc, 0x22)?)?;
+    Ok(held)
+}
+
+/// What a fetch answers, and the page's last byte.
+fn last_byte<L: Ledger>(
+    file: &mut SparsePages,
+    page: &mut Page,
+    n: u32,
+    blank: Blank,
+) -> (Result<(), Failed>, u8)
+    requires name { blank.name ≡ L.name }
+    requires parts { blank.parts ≡ L.parts }
+    requires shared { 0 < blank.parts }
+{
+    let answer = file.fetch(n, page, &mut Steps::<L>::new(blank));
+    (answer, page.bytes()[16383])
+}
+
+#[test]
+fn pages_that_are_not_held_are_zeros(rt: HostRuntime) -> Result<(), Fail> {
+    let alloc = rt.alloc();
+    let mut file = SparsePages::new(70_001, two_held(alloc)?, Fails::of(alloc, &[3])?);
+    let mut page = page_of(alloc, 0xFF)?;
+    assert_eq!(rt; whole_pages(&mut file), Ok(70_001));
+    for (n, answer) in [
+        (2, (Ok(()), 0x22)),
+        (3, (Err(Failed), 0x22)),
+        (3, (Ok(()), 0)),
+        (70_000, (Ok(()), 0x33)),
+        (70_001, (Err(Failed), 0x33)),
+    ] {
+        let found = last_byte::<Brand>(&mut file, &mut page, n, Blank::new(1));
+        assert_eq!(rt; found, answer, "{n}");
+    }
+    Ok(())
+}
+
+#[test]
+fn a_store_becomes_a_file(rt: HostRuntime) -> Result<(), Fail> {
+    let alloc = rt.alloc();
+    let mut store = MemoryStore::new(alloc, 128, Fails::of(alloc, &[])?)?;
+    store.set_size(64)?;
+    store.put(0, &page_of(alloc, 0x11)?)?;
+    store.put(63, &page_of(alloc, 0x22)?)?;
+    let mut file = store.into_pages(Fails::of(alloc, &[])?)?;
+    let mut page = Page::zeroed(alloc)?;
+    assert_eq!(rt; file.pages(), Ok(64));
+    for (n, answer) in [
+        (63, (Ok(()), 0x22)),
+        (1, (Ok(()), 0)),
+        (0, (Ok(()), 0x11)),
+        (64, (Err(Failed), 0x11)),
+    ] {
+        let found = last_byte::<Brand>(&mut file, &mut page, n, Blank::new(1));
+        assert_eq!(rt; found, answer, "{n}");
+    }
+    Ok(())
+}
+
+/// What the fetches in turn answer.
+fn logged<L: Ledger>(
+    file: &mut LoggedPages,
+    page: &mut Page,
+    numbers: [u32; 4],
+    blank: Blank,
+) -> [Result<(), Failed>; 4]
+    requires name { blank.name ≡ L.name }
+    requires parts { blank.parts ≡ L.parts }
+    requires shared { 0 < blank.parts }
+{
+    let mut steps = Steps::<L>::new(blank);
+    numbers.map(|n| file.fetch(n, page, &mut steps))
+}
+
+#[test]
+fn a_file_keeps_what_was_fetched(rt: HostRuntime) -> Result<(), Fail> {
+    let alloc = rt.alloc();
+    let mut file = LoggedPages::new(alloc, two_pages_and_a_byte(alloc)?, 2)?;
+    let mut page = Page::zeroed(alloc)?;
+    assert_eq!(rt; whole_pages(&mut file), Ok(2));
+    let found = logged::<Brand>(&mut file, &mut page, [1, 2, 0, 1], Blank::new(1));
+    assert_eq!(rt; found, [Ok(()), Err(Failed), Ok(()), Ok(())]);
+    assert_eq!(rt; file.log(), [1, 0].as_slice());
+    Ok(())
+}
+
+/// What the two fetches answer.
+fn changed<L: Ledger>(
+    file: &mut ChangingPages,
+    page: &mut Page,
+    numbers: [u32; 2],
+    blank: Blank,
+) -> [Result<(), Failed>; 2]
+    requires name { blank.name ≡ L.name }
+    requires parts { blank.parts ≡ L.parts }
+    requires shared { 0 < blank.parts }
+{
+    let mut steps = Steps::<L>::new(blank);
+    numbers.map(|n| file.fetch(n, page, &mut steps))
+}
+
+#[test]
+fn a_file_changes(rt: HostRuntime) -> Result<(), Fail> {
+    let alloc = rt.alloc();
+    let mut first = ByteList::new(alloc);
+    first.extend(&[0x11; 16384])?;
+    let mut file = ChangingPages::new(first, two_pages_and_a_byte(alloc)?, 2);
+    assert_eq!(rt; whole_pages(&mut file), Ok(1));
+    assert_eq!(rt; file.pages(), Ok(2));
+    let mut page = Page::zeroed(alloc)?;
+    let found = changed::<Brand>(&mut file, &mut page, [1, 2], Blank::new(1));
+    assert_eq!(rt; found, [Ok(()), Err(Failed)]);
+    assert_eq!(rt; page.bytes()[0], 0x22);
+    Ok(())
+}

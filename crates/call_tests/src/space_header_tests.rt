@@ -1,0 +1,200 @@
+//! Lists that are linked and lists that aren't, and a header that is read and written.
+
+ghost use Rattle.std.specs.Prelude.{◌≡◌, ◌<◌, ◌≤◌, length};
+
+use page_source::{NoMemory, Page, Steps};
+use space_header::{
+    Address, Base, ExtentList, FollowError, Node, SpaceHeader, descriptor_address, follow,
+    read_base, read_node, write_base, write_node,
+};
+use std::alloc::Global;
+use std::marker::Brand;
+use std::sync::ledger::{Blank, Ledger};
+use std::test::Fail;
+
+const NULL: Address = Address {
+    page: 0xFFFF_FFFF,
+    offset: 0,
+};
+
+fn followed<L: Ledger>(
+    alloc: Global,
+    base: &Base,
+    nodes: &[Node],
+    blank: Blank,
+) -> Result<ExtentList, FollowError>
+    requires few { length nodes.now ≤ 65536 }
+    requires name { blank.name ≡ L.name }
+    requires parts { blank.parts ≡ L.parts }
+    requires shared { 0 < blank.parts }
+{
+    let mut steps = Steps::<L>::new(blank);
+    follow(alloc, base, nodes, &mut steps)
+}
+
+/// The node between these addresses.
+fn between(prev: Address, next: Address) -> Node {
+    Node { prev, next }
+}
+
+/// Extents 2, 0 and 3, of four.
+fn linked() -> (Base, [Node; 4]) {
+    let base = Base {
+        length: 3,
+        first: descriptor_address(2),
+        last: descriptor_address(3),
+    };
+    let nodes = [
+        between(descriptor_address(2), descriptor_address(3)),
+        between(NULL, NULL),
+        between(NULL, descriptor_address(0)),
+        between(descriptor_address(0), NULL),
+    ];
+    (base, nodes)
+}
+
+#[test]
+fn follows_a_list(rt: HostRuntime) -> Result<(), Fail> {
+    let (base, nodes) = linked();
+    let list = followed::<Brand>(rt.alloc(), &base, &nodes, Blank::new(1))?;
+    assert_eq!(rt; list.items(), [2, 0, 3].as_slice());
+    let none = Base {
+        length: 0,
+        first: NULL,
+        last: NULL,
+    };
+    let list = followed::<Brand>(rt.alloc(), &none, &[], Blank::new(1))?;
+    assert_eq!(rt; list.items(), [].as_slice());
+    Ok(())
+}
+
+#[test]
+fn refuses_what_is_no_list(rt: HostRuntime) {
+    let off = Address {
+        page: 0,
+        offset: 159,
+    };
+    let next_page = Address {
+        page: 1,
+        offset: 158,
+    };
+    let (good, _) = linked();
+    let bases = [
+        Base { length: 2, ..good },
+        Base { length: 4, ..good },
+        Base { length: 5, ..good },
+        Base {
+            first: NULL,
+            ..good
+        },
+        Base {
+            first: next_page,
+            ..good
+        },
+        Base { last: NULL, ..good },
+        Base {
+            last: descriptor_address(0),
+            ..good
+        },
+    ];
+    for base in bases {
+        let (_, nodes) = linked();
+        let answer = followed::<Brand>(rt.alloc(), &base, &nodes, Blank::new(1));
+        assert!(rt; matches!(answer, Err(FollowError::ChainBroken)), "{base:?}");
+    }
+    // The next address of extent 0: itself, a neighbour, extent 1, past the end, no node, no extent.
+    for next in [
+        descriptor_address(0),
+        descriptor_address(2),
+        descriptor_address(1),
+        descriptor_address(4),
+        off,
+        next_page,
+        NULL,
+    ] {
+        let (base, mut nodes) = linked();
+        nodes[0].next = next;
+        let answer = followed::<Brand>(rt.alloc(), &base, &nodes, Blank::new(1));
+        assert!(rt; matches!(answer, Err(FollowError::ChainBroken)), "{next:?}");
+    }
+    // Its previous address: none, itself, the one after it.
+    for prev in [NULL, descriptor_address(0), descriptor_address(3)] {
+        let (base, mut nodes) = linked();
+        nodes[0].prev = prev;
+        let answer = followed::<Brand>(rt.alloc(), &base, &nodes, Blank::new(1));
+        assert!(rt; matches!(answer, Err(FollowError::ChainBroken)), "{prev:?}");
+    }
+}
+
+/// The nodes of 257 extents, of which 1 to 255 are linked in order.
+fn rising_nodes(alloc: Global) -> Result<Vec<Node>, NoMemory> {
+    let mut nodes = Vec::new(alloc);
+    for e in 0..257u32 {
+        let prev = match e {
+            2..=255 => descriptor_address(e - 1),
+            _ => NULL,
+        };
+        let next = match e {
+            1..=254 => descriptor_address(e + 1),
+            _ => NULL,
+        };
+        nodes.push(between(prev, next))?;
+    }
+    Ok(nodes)
+}
+
+#[test]
+fn follows_255_extents(rt: HostRuntime) -> Result<(), Fail> {
+    let base = Base {
+        length: 255,
+        first: Address {
+            page: 0,
+            offset: 198,
+        },
+        last: Address {
+            page: 0,
+            offset: 10358,
+        },
+    };
+    let nodes = rising_nodes(rt.alloc())?;
+    assert_eq!(rt; nodes.len(), 257);
+    let list = followed::<Brand>(rt.alloc(), &base, &nodes, Blank::new(1))?;
+    assert_eq!(rt; list.items().len(), 255);
+    assert_eq!(rt; list.items().first(), Some(&1));
+    assert_eq!(rt; list.items().last(), Some(&255));
+    Ok(())
+}
+
+#[test]
+fn writes_what_it_reads(rt: HostRuntime) -> Result<(), Fail> {
+    let mut page = Page::zeroed(rt.alloc())?;
+    let (base, nodes) = linked();
+    let header = SpaceHeader {
+        space: 23,
+        size: 64,
+        limit: 64,
+        flags: 33,
+        frag_used: 4,
+        next_segment: 0x0102_0304_0506_0708,
+        free: base,
+        free_frag: base,
+        full_frag: base,
+        inodes_full: base,
+        inodes_free: base,
+    };
+    header.write(&mut page);
+    assert_eq!(rt; SpaceHeader::read(&page), header);
+    assert_eq!(rt;
+        &page.bytes()[38..78],
+        [
+            0, 0, 0, 23, 0, 0, 0, 0, 0, 0, 0, 64, 0, 0, 0, 64, 0, 0, 0, 33, 0, 0, 0, 4, 0, 0, 0, 3,
+            0, 0, 0, 0, 0, 238, 0, 0, 0, 0, 1, 22
+        ]
+        .as_slice()
+    );
+    write_base(&mut page, 200, &base);
+    assert_eq!(rt; read_base(&page, 200), base);
+    write_node(&mut page, 16372, &nodes[0]);
+    assert_eq!(rt; read_node(&page, 16372), nodes[0]);
+    Ok(())
+}

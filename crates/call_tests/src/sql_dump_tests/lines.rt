@@ -1,0 +1,167 @@
+//! The lines of crafted records, over a file that tells nothing.
+
+ghost use Rattle.std.specs.Prelude.{◌≡◌, ◌<◌};
+
+use page_source::{ByteList, ChangingPages, Fails, Fault, MemorySink, Page, Rule, Steps, write_be};
+use schema_text::Schema;
+use sql_dump::{Buffer, ChainRoom, RowReader, WriteStop, put_row};
+use std::alloc::Global;
+use std::marker::Brand;
+use std::process::Abort;
+use std::sync::ledger::{Blank, Ledger};
+use std::test::Fail;
+
+const TABLE: &[u8] =
+    b"table t dynamic\ncolumn id int notnull\ncolumn note text null\nclustered root 3 id\n";
+
+const LEAF: u32 = 3;
+
+const ORIGIN: usize = 300;
+
+/// Where the text begins, behind the id, the transaction id and the roll pointer.
+const NOTE: usize = ORIGIN + 17;
+
+/// A record with the id 7: whether its text is null, its local bytes, and whether a reference to page 0 stands behind
+/// them, for the bytes of the parts on the pages from there on. Then how many pages may be fetched, and what stands in
+/// the parentheses.
+#[derive(Clone, Copy)]
+struct Case {
+    null: bool,
+    local: &'static [u8],
+    parts: &'static [&'static [u8]],
+    left: u32,
+    values: Result<&'static [u8], WriteStop>,
+}
+
+const SHORT: Case = Case {
+    null: false,
+    local: b"it's",
+    parts: &[],
+    left: 2,
+    values: Ok(b"7,'it\\'s'"),
+};
+
+const LONG: Case = Case {
+    local: b"a",
+    parts: &[b"b\n", b"c"],
+    values: Ok(b"7,'ab\\nc'"),
+    ..SHORT
+};
+
+/// Writes the record.
+fn put_record(rt: &impl Abort, page: &mut Page, case: &Case) {
+    let mut total = 0;
+    for part in case.parts {
+        assert!(rt; part.len() < 1000 && total < 9000);
+        total += part.len() as u64;
+    }
+    assert!(rt; total < 9000);
+    let is_long = total > 0;
+    let length = case.local.len();
+    assert!(rt; length < 100);
+    page.clear();
+    page.put_bytes(ORIGIN, &[0x80, 0, 0, 7]);
+    page.put_bytes(ORIGIN - 6, &[u8::from(case.null)]);
+    page.put_bytes(NOTE, case.local);
+    if is_long {
+        page.put_bytes(ORIGIN - 8, &[length as u8 + 20, 0xC0]);
+        write_be::<4>(page, NOTE + length + 8, 38);
+        write_be::<4>(page, NOTE + length + 16, total);
+    } else if !case.null {
+        page.put_bytes(ORIGIN - 7, &[length as u8]);
+    }
+}
+
+/// The pages of its chain.
+fn chain(rt: &impl Abort, alloc: Global, case: &Case) -> Result<ByteList, Fail> {
+    let mut file = ByteList::new(alloc);
+    let mut page = Page::zeroed(alloc)?;
+    for (n, part) in case.parts.iter().enumerate() {
+        assert!(rt; part.len() < 1000 && n < 9);
+        let is_last = n + 1 == case.parts.len();
+        page.clear();
+        write_be::<4>(&mut page, 38, part.len() as u64);
+        write_be::<4>(
+            &mut page,
+            42,
+            if is_last { 0xFFFF_FFFF } else { n as u64 + 1 },
+        );
+        page.put_bytes(46, part);
+        file.extend(page.bytes())?;
+    }
+    Ok(file)
+}
+
+/// Puts its line.
+fn put_one<L: Ledger>(
+    alloc: Global,
+    table: &Schema,
+    page: &Page,
+    file: ByteList,
+    left: u32,
+    blank: Blank,
+) -> Result<(Result<(), WriteStop>, MemorySink), Fail>
+    requires name { blank.name ≡ L.name }
+    requires parts { blank.parts ≡ L.parts }
+    requires shared { 0 < blank.parts }
+{
+    let mut reader = RowReader::new(alloc, table)?;
+    let mut sink = MemorySink::new(alloc, 1000, Fails::of(alloc, &[])?)?;
+    let mut room = ChainRoom {
+        page: Page::zeroed(alloc)?,
+        left,
+        text: Buffer::new(alloc)?,
+    };
+    let mut source = ChangingPages::new(file, ByteList::new(alloc), 100);
+    reader.read(page, LEAF, ORIGIN)?;
+    let row = reader.row(page, LEAF);
+    let steps = &mut Steps::<L>::new(blank);
+    let answer = put_row(&mut source, &mut sink, &row, &mut room, steps);
+    Ok((answer, sink))
+}
+
+#[test]
+fn a_line_is_put(rt: HostRuntime) -> Result<(), Fail> {
+    let alloc = rt.alloc();
+    let table = Schema::read(alloc, TABLE)?;
+    let mut page = Page::zeroed(alloc)?;
+    let broken = |rule: Rule, page| Err(WriteStop::Broken(Fault { rule, page }));
+    for case in [
+        SHORT,
+        Case {
+            null: true,
+            local: b"",
+            values: Ok(b"7,NULL"),
+            ..SHORT
+        },
+        LONG,
+        Case {
+            left: 1,
+            values: broken(Rule::ChainLength, 1),
+            ..LONG
+        },
+    ] {
+        put_record(&rt, &mut page, &case);
+        let file = chain(&rt, alloc, &case)?;
+        let (answer, sink) = put_one::<Brand>(
+            alloc,
+            &table,
+            &page,
+            file,
+            case.left,
+            Blank::new(1),
+        )?;
+        match case.values {
+            Ok(values) => {
+                assert_eq!(rt; answer, Ok(()));
+                let line = sink.bytes().strip_prefix(b"INSERT INTO `t` VALUES (");
+                assert_eq!(rt;
+                    line.and_then(|line| line.strip_suffix(b");\n")),
+                    Some(values)
+                );
+            }
+            Err(stop) => assert_eq!(rt; answer, Err(stop)),
+        }
+    }
+    Ok(())
+}

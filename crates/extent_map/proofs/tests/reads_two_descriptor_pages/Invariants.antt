@@ -1,7 +1,0 @@
-use Rattle.extent_map.proofs.tests.reads_two_descriptor_pages.Given as goal
-
-abbrev pub ghosts-read : goal.ghosts-read
-ghosts-read g a = record { name = a.blank.name; parts = a.blank.parts }
-
-abbrev pub ghosts-followed : goal.ghosts-followed
-ghosts-followed g a = record { name = a.blank.name; parts = a.blank.parts }

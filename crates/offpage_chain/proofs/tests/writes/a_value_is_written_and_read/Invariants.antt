@@ -1,4 +1,0 @@
-use Rattle.offpage_chain.proofs.tests.writes.a_value_is_written_and_read.Given as goal
-
-abbrev pub ghosts-read_back : goal.ghosts-read_back
-ghosts-read_back g a = record { name = a.blank.name; parts = a.blank.parts }

@@ -1,4 +1,0 @@
-use Rattle.sql_dump.proofs.tests.lines.a_line_is_kept_or_put.Given as goal
-
-abbrev pub ghosts-put_one : goal.ghosts-put_one
-ghosts-put_one g a = record { name = a.blank.name; parts = a.blank.parts }

@@ -1,4 +1,0 @@
-use Rattle.tree_walk.proofs.tests.leaves.rows_come_leaf_by_leaf.Given as goal
-
-abbrev pub ghosts-rows_of : goal.ghosts-rows_of
-ghosts-rows_of g a = record { name = a.blank.name; parts = a.blank.parts }
