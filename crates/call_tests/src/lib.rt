@@ -18,6 +18,8 @@ mod key_lookup_tests;
 #[cfg(test)]
 mod offpage_chain_tests;
 #[cfg(test)]
+mod outside_tests;
+#[cfg(test)]
 mod page_packer_tests;
 #[cfg(test)]
 mod page_source_tests;
