@@ -329,14 +329,17 @@ fn word_of(why: RowsWhy) -> &'static [u8] {
 
 /// Adds what is wrong with the store that a build left. Page 0 is put last, and before a refusal there is no call.
 fn put_wrong(text: &mut ByteList, stop: BuildStop, store: &CaseStore) -> Result<(), NoMemory> {
-    if stop == BuildStop::Store {
-        if store.holds_head() {
-            return text.extend(b", but page 0 was put");
+    match stop {
+        BuildStop::Store | BuildStop::Memory => {
+            if store.holds_head() {
+                return text.extend(b", but page 0 was put");
+            }
         }
-        return Ok(());
-    }
-    if !store.is_untouched() {
-        return text.extend(b", but the store was called");
+        _ => {
+            if !store.is_untouched() {
+                return text.extend(b", but the store was called");
+            }
+        }
     }
     Ok(())
 }
