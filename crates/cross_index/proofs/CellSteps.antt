@@ -142,12 +142,12 @@ cells_more bytes value now places from until lie grown begins ends =
     ∙ ap (λ (list : Key). list ++ Some value ∷ []) (cells_stay bytes value places lie)
 
 -- the kinds of a key's fields
-kinds_size : (fields : Fields) → fields.keys ≤ length fields.fields → length (key_kinds fields) ≡ fields.keys
+pub kinds_size : (fields : Fields) → fields.keys ≤ length fields.fields → length (key_kinds fields) ≡ fields.keys
 kinds_size fields few =
     length-map (take fields.keys fields.fields) (λ (f : Field). f.kind)
     ∙ length-take-le fields.keys fields.fields few
 
-kind_of_field : (fields : Fields) (i : ℕ) → fields.keys ≤ length fields.fields → i < fields.keys
+pub kind_of_field : (fields : Fields) (i : ℕ) → fields.keys ≤ length fields.fields → i < fields.keys
     → (field_at fields i).kind ≡ get_or (key_kinds fields) i Child
 kind_of_field fields i few below =
     sym (get_or-map (λ (f : Field). f.kind) (take fields.keys fields.fields) i child_field Child

@@ -8,6 +8,7 @@ pub mod Merge
 pub mod CellSteps
 pub mod MarkSteps
 pub mod RankSteps
+pub mod FrontSteps
 pub mod EntrySteps
 pub mod ChainSteps
 pub mod RowSteps

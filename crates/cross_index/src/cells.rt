@@ -1,6 +1,6 @@
 //! Values that may be null, one after another in one run of bytes.
 
-ghost use Rattle.std.specs.Prelude.{◌≡◌, ◌<◌, ◌++◌, ◌∷◌, [], All, Some, None, OnOk, length, slice_index_or, true, false};
+ghost use Rattle.std.specs.Prelude.{◌≡◌, ◌<◌, ◌++◌, ◌∷◌, [], All, Some, None, OnOk, MatchOption, length, slice_index_or, true, false};
 ghost use Rattle.column_values.specs.Order.{cell_cmp};
 ghost use Rattle.compact_record.specs.Reading.{cell_at};
 ghost use Rattle.compact_record.specs.declared.places.Place.{Place};
@@ -132,7 +132,10 @@ impl Cells {
     }
 
     /// The bytes of a value; none where it is null or past the last.
-    pub(crate) fn value(&self, i: usize) -> Option<&[u8]> {
+    pub(crate) fn value(&self, i: usize) -> Option<&[u8]>
+        ensures { MatchOption result (slice_index_or self.now i None ≡ None)
+            (λ value. slice_index_or self.now i None ≡ Some value.now) }
+    {
         let place = place_at(&self.marks, i, self.bytes.len());
         if place.null {
             return None;

@@ -1,20 +1,25 @@
-//! The rows sorted by four bytes of their keys, and whether that is the order of the keys.
+//! The rows sorted by the fronts of their keys.
 
 ghost use Rattle.std.specs.Prelude.{◌≡◌, ◌*◌, ◌%◌, ◌/◌, ◌^◌, ◌≤◌, ◌<◌, IfOk, IfSome, IsPermutation, IsSortedBy, IsTrue};
-ghost use Rattle.std.specs.Prelude.{length, map};
+ghost use Rattle.std.specs.Prelude.{ℕ, [], ◌∷◌, length, map, slice_index_or, None, false};
+ghost use Rattle.std.specs.Ordering.{is_lt};
+ghost use Rattle.column_values.specs.Types.{field_at};
+ghost use Rattle.column_values.specs.Order.{key_cmp};
 ghost use Rattle.std.specs.List.{range_with_len};
 ghost use Rattle.compact_record.specs.Reading.{key_kinds};
 ghost use Rattle.cross_index.specs.calls.Kept.{kept_keys};
 ghost use Rattle.cross_index.specs.calls.Order.{IsOrder};
-ghost use Rattle.cross_index.specs.calls.Ranks.{AreInOrder};
+ghost use Rattle.cross_index.specs.calls.Ranks.{AreInOrder, HasFront, HaveFronts, IsNumberAt, filler_of, key_of_rank};
 
+use crate::cells::Cells;
 use crate::order::{Keys, cell_number, compare_rows};
-use column_values::{ColumnType, FieldType};
+use column_values::{ColumnType, FieldList, FieldType};
 use page_source::NoMemory;
 use std::alloc::Global;
 use std::cmp::Ordering;
 
-/// A rank is four bytes of the key of a row, as a number, times this, and the number of the row.
+/// A rank is the front of a row's key times this, and the number of the row. The front is a number: the four bytes of
+/// the first value behind what all of them begin with, and 0 where it is null.
 const ROWS: usize = 4_294_967_296;
 
 /// The row of a rank.
@@ -26,18 +31,20 @@ fn row_of(rank: usize) -> usize
 
 /// How many bytes two values have in common at their fronts.
 fn common(a: &[u8], b: &[u8]) -> usize
-    ensures { result ≤ length a.now }
+    ensures few { result ≤ length a.now }
+    ensures same { (i d : ℕ) → i < result → slice_index_or b.now i d ≡ slice_index_or a.now i d }
 {
-    for i in 0..a.len().min(b.len()) {
+    let most = a.len().min(b.len());
+    for i in 0..most {
         if a[i] != b[i] {
             return i;
         }
     }
-    a.len().min(b.len())
+    most
 }
 
-/// How many bytes the values in a slot of all rows have in common, those that aren't null.
-fn common_front(keys: &Keys, slot: usize, count: usize) -> usize {
+/// What the values in a slot of all rows have in common at their fronts, those that aren't null.
+fn common_front<'a>(keys: &Keys<'a>, slot: usize, count: usize) -> &'a [u8] {
     let mut front: Option<&[u8]> = None;
     for row in 0..count {
         if let Some(value) = keys.cells.value(cell_number(row, keys.width, slot)) {
@@ -48,13 +55,15 @@ fn common_front(keys: &Keys, slot: usize, count: usize) -> usize {
         }
     }
     match front {
-        Some(bytes) => bytes.len(),
-        None => 0,
+        Some(bytes) => bytes,
+        None => &[],
     }
 }
 
 /// What a value of a kind goes on with in comparisons.
-fn filler(kind: &FieldType) -> u8 {
+fn filler(kind: &FieldType) -> u8
+    ensures { result ≡ filler_of kind.now }
+{
     match *kind {
         FieldType::Column(
             ColumnType::Char { .. }
@@ -67,43 +76,81 @@ fn filler(kind: &FieldType) -> u8 {
     }
 }
 
-/// Four bytes of a value as a number, those behind so many.
-fn four_bytes(value: &[u8], skipped: usize, filler: u8) -> u32 {
-    let mut number = 0u32;
-    for k in 0..4usize {
-        let byte = match value.get(skipped.saturating_add(k)) {
-            Some(byte) => *byte,
-            None => filler,
-        };
-        number = number << 8 | u32::from(byte);
-    }
-    number
+/// The kind of the first field of a list.
+fn first_kind(fields: &FieldList) -> FieldType
+    requires { 0 < length fields.now.fields }
+    ensures { result ≡ (field_at fields.now 0).kind }
+{
+    fields.fields()[0].kind
 }
 
-/// The ranks of so many rows, by their values in a slot.
-fn ranks_in(
+/// Byte `i` of a value that goes on so.
+fn byte_at(value: &[u8], i: usize, filler: u8) -> u8
+    ensures { result ≡ slice_index_or value.now i filler }
+{
+    if i < value.len() { value[i] } else { filler }
+}
+
+/// The four bytes of a value behind so many, as a number.
+fn number_at(value: &[u8], at: usize, filler: u8) -> usize
+    requires { at < 2 ^ 32 }
+    ensures { IsNumberAt filler value.now at result }
+{
+    let first = byte_at(value, at, filler);
+    let second = byte_at(value, at + 1, filler);
+    let third = byte_at(value, at + 2, filler);
+    let fourth = byte_at(value, at + 3, filler);
+    usize::from(first) * 16_777_216
+        + usize::from(second) * 65_536
+        + usize::from(third) * 256
+        + usize::from(fourth)
+}
+
+/// The front of a value as a number; none where it doesn't begin with these bytes.
+fn front_of(cells: &Cells, i: usize, begin: &[u8], filler: u8) -> Option<usize>
+    requires { length begin.now < 2 ^ 32 }
+    ensures few { IfSome result (λ front. front < 2 ^ 32) }
+    ensures front { IfSome result (λ front. HasFront filler begin.now (slice_index_or cells.now i None) front) }
+{
+    let Some(value) = cells.value(i) else {
+        return Some(0);
+    };
+    if common(begin, value) < begin.len() {
+        return None;
+    }
+    Some(number_at(value, begin.len(), filler))
+}
+
+/// The ranks of so many rows, or none where a value doesn't begin with these bytes.
+fn ranks_of(
     alloc: Global,
     keys: &Keys,
-    slot: usize,
+    begin: &[u8],
     filler: u8,
     count: usize,
-) -> Result<Vec<usize>, NoMemory>
-    requires { count ≤ 2 ^ 32 }
-    ensures { IfOk result (λ ranks. map (λ rank. rank % 2 ^ 32) ranks.items ≡ range_with_len 0 count) }
+) -> Result<Option<Vec<usize>>, NoMemory>
+    requires few { count ≤ 2 ^ 32 }
+    requires some { 0 < length keys.now.slots.now }
+    requires short { length begin.now < 2 ^ 32 }
+    ensures rows { IfOk result (λ found. IfSome found (λ ranks.
+        map (λ rank. rank % 2 ^ 32) ranks.items ≡ range_with_len 0 count)) }
+    ensures fronts { IfOk result (λ found. IfSome found (λ ranks.
+        HaveFronts filler begin.now keys.now.cells.now keys.now.width keys.now.slots.now ranks.items)) }
 {
-    let skipped = common_front(keys, slot, count);
+    let _count = keys.cells.len();
+    let slot = keys.slots[0];
     let mut ranks = Vec::with_capacity(alloc, count)?;
     for row in 0..count {
-        let number = match keys.cells.value(cell_number(row, keys.width, slot)) {
-            Some(value) => four_bytes(value, skipped, filler),
-            None => 0,
+        let number = cell_number(row, keys.width, slot);
+        let Some(front) = front_of(keys.cells, number, begin, filler) else {
+            return Ok(None);
         };
-        ranks.push(number as usize * ROWS + row)?;
+        ranks.push(front * ROWS + row)?;
     }
-    Ok(ranks)
+    Ok(Some(ranks))
 }
 
-/// The order of two ranks by their four bytes, and then by the whole keys.
+/// The order of two ranks by their fronts, and then by the whole keys.
 fn compare_ranks(keys: &Keys, a: usize, b: usize) -> Ordering
     requires few { keys.now.fields.now.keys ≤ length keys.now.fields.now.fields }
     requires each { length keys.now.slots.now ≡ keys.now.fields.now.keys }
@@ -115,37 +162,59 @@ fn compare_ranks(keys: &Keys, a: usize, b: usize) -> Ordering
     }
 }
 
-/// Whether the keys of the rows of these ranks don't fall.
-fn are_in_order(keys: &Keys, ranks: &[usize]) -> bool
+/// Whether the key of the row of a rank isn't below that of the rank before it.
+fn follows(keys: &Keys, begin: &[u8], before: usize, here: usize) -> bool
     requires few { keys.now.fields.now.keys ≤ length keys.now.fields.now.fields }
     requires each { length keys.now.slots.now ≡ keys.now.fields.now.keys }
+    requires fronts { HaveFronts (filler_of (field_at keys.now.fields.now 0).kind) begin.now keys.now.cells.now
+        keys.now.width keys.now.slots.now (before ∷ here ∷ []) }
+    ensures { IsTrue result → is_lt (key_cmp (key_kinds keys.now.fields.now)
+        (key_of_rank keys.now.cells.now keys.now.width keys.now.slots.now here)
+        (key_of_rank keys.now.cells.now keys.now.width keys.now.slots.now before)) ≡ false }
+{
+    if before / ROWS < here / ROWS {
+        return true;
+    }
+    match compare_rows(keys, row_of(here), row_of(before)) {
+        Ordering::Less => false,
+        Ordering::Equal | Ordering::Greater => true,
+    }
+}
+
+/// Whether the keys of the rows of these ranks don't fall.
+fn are_in_order(keys: &Keys, begin: &[u8], ranks: &[usize]) -> bool
+    requires few { keys.now.fields.now.keys ≤ length keys.now.fields.now.fields }
+    requires each { length keys.now.slots.now ≡ keys.now.fields.now.keys }
+    requires fronts { HaveFronts (filler_of (field_at keys.now.fields.now 0).kind) begin.now keys.now.cells.now
+        keys.now.width keys.now.slots.now ranks.now }
     ensures { IsTrue result → AreInOrder (key_kinds keys.now.fields.now) keys.now.cells.now keys.now.width
         keys.now.slots.now ranks.now }
 {
     for i in 1..ranks.len() {
-        match compare_rows(keys, row_of(ranks[i]), row_of(ranks[i - 1])) {
-            Ordering::Less => return false,
-            Ordering::Equal | Ordering::Greater => {}
+        if !follows(keys, begin, ranks[i - 1], ranks[i]) {
+            return false;
         }
     }
     true
 }
 
-/// Sorts the ranks, and answers whether the keys of their rows don't fall then. Rows with equal bytes stay in their own
+/// Sorts the ranks, and answers whether the keys of their rows don't fall then. Rows with equal fronts stay in their own
 /// order, where that is right, or are sorted by their keys.
-fn sort(keys: &Keys, ranks: &mut Vec<usize>) -> bool
+fn sort(keys: &Keys, begin: &[u8], ranks: &mut Vec<usize>) -> bool
     requires few { keys.now.fields.now.keys ≤ length keys.now.fields.now.fields }
     requires each { length keys.now.slots.now ≡ keys.now.fields.now.keys }
+    requires fronts { HaveFronts (filler_of (field_at keys.now.fields.now 0).kind) begin.now keys.now.cells.now
+        keys.now.width keys.now.slots.now ranks.old.items }
     ensures places { IsPermutation ranks.old.items ranks.new.items }
     ensures order { IsTrue result → AreInOrder (key_kinds keys.now.fields.now) keys.now.cells.now keys.now.width
         keys.now.slots.now ranks.new.items }
 {
     ranks.sort_unstable();
-    if are_in_order(keys, ranks) {
+    if are_in_order(keys, begin, ranks) {
         return true;
     }
     ranks.sort_unstable_by(|a, b| compare_ranks(keys, *a, *b));
-    are_in_order(keys, ranks)
+    are_in_order(keys, begin, ranks)
 }
 
 /// The rows of ranks.
@@ -171,9 +240,15 @@ pub(crate) fn order_by_ranks(
     if count > ROWS || keys.slots.is_empty() {
         return Ok(None);
     }
-    let field = keys.fields.fields()[0];
-    let mut ranks = ranks_in(alloc, keys, keys.slots[0], filler(&field.kind), count)?;
-    if !sort(keys, &mut ranks) {
+    let begin = common_front(keys, keys.slots[0], count);
+    if begin.len() >= ROWS {
+        return Ok(None);
+    }
+    let filler = filler(&first_kind(keys.fields));
+    let Some(mut ranks) = ranks_of(alloc, keys, begin, filler, count)? else {
+        return Ok(None);
+    };
+    if !sort(keys, begin, &mut ranks) {
         return Ok(None);
     }
     strip(&mut ranks);

@@ -10,7 +10,7 @@ returns c =
     let same : length c.strip.new.ranks ≡ length ranks.items =
     ap length c.strip.ensures ∙ rw c.deref_mut.ensures.value (length-map ranks.items (λ rank. rank % 2 ^ 32)) in
     rows_in_order (key_kinds c.args.keys.now.fields.now) c.args.keys.now.cells.now c.args.keys.now.width
-    c.args.keys.now.slots.now c.in_ok-ranks.ranks.items ranks.items _ c.args.count c.in_ok-ranks.ensures
+    c.args.keys.now.slots.now c.in-Some.ranks.items ranks.items _ c.args.count (rw c.in-Some.is at c.in_ok-ranks.ensures.rows)
     c.sort.ensures.places (c.if-not-sort.ensures.order refl)
     (written_over ranks.items c.strip.new.ranks ranks.len (omega (arith, ranks.ok)) same
     ∙ rw c.deref_mut.ensures.value at c.strip.ensures)
