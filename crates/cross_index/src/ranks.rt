@@ -43,7 +43,8 @@ fn common(a: &[u8], b: &[u8]) -> usize
     most
 }
 
-/// What the values in a slot of all rows have in common at their fronts, those that aren't null.
+/// What the values in a slot of all rows have in common at their fronts, those that aren't null. Nothing is said of it,
+/// since `ranks_of` compares each value with it.
 fn common_front<'a>(keys: &Keys<'a>, slot: usize, count: usize) -> &'a [u8] {
     let mut front: Option<&[u8]> = None;
     for row in 0..count {
@@ -150,7 +151,8 @@ fn ranks_of(
     Ok(Some(ranks))
 }
 
-/// The order of two ranks by their fronts, and then by the whole keys.
+/// The order of two ranks by their fronts, and then by the whole keys. Nothing is said of it, since `are_in_order` tests
+/// what comes of the sort by it.
 fn compare_ranks(keys: &Keys, a: usize, b: usize) -> Ordering
     requires few { keys.now.fields.now.keys ≤ length keys.now.fields.now.fields }
     requires each { length keys.now.slots.now ≡ keys.now.fields.now.keys }
