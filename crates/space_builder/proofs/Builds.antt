@@ -18,12 +18,13 @@ use Rattle.space_builder.specs.declared.built.BuildStop.TheVariants as stops
 use Rattle.space_builder.specs.declared.built.PutStop.{PutStop}
 use Rattle.space_builder.specs.declared.built.PutStop.TheVariants as puts
 use Rattle.space_builder.specs.declared.plan.PlanStop.{PlanStop}
+use Rattle.space_builder.specs.declared.space.Space.{Space}
 use Rattle.space_builder.specs.declared.plan.PlanStop.TheVariants as plans
 use Rattle.space_builder.specs.build.BadLine.{RootOrderChecks}
 use Rattle.space_builder.specs.build.Build.{AreRowsRead, Builds, BuildsWithCause, LacksHead}
-use Rattle.space_builder.specs.build.Plan.{FindsPlan}
+use Rattle.space_builder.specs.build.Plan.{AreOrders, FindsPlan}
 use Rattle.space_builder.specs.build.ReadRows.{AreReadRows, FindsRows}
-use Rattle.space_builder.specs.build.Space.{PutsSpace, LeavesSpace}
+use Rattle.space_builder.specs.build.Space.{IsSpaceOf, PutsSpace, LeavesSpace}
 use Rattle.space_builder.specs.build.StoredRows.{AreStoredRows}
 use Rattle.space_builder.specs.build.Stops.{stop_of_put, stop_of_plan}
 use Rattle.space_builder.specs.layout.Laws.{CanBuild}
@@ -83,6 +84,22 @@ module _ {R : Type 0} (g : TextOf R) (table : TableDef) (old new : R) where
         → built.rows ≡ length read.rows → Builds table (g.left old) (Ok built) before now
     all_put built before now fits holds pages count =
         (roots, (read.rows, rows_read, (fits, holds, pages, count)))
+
+-- rows that were read, with their orders and the plan, are a space
+module _ {R : Type 0} (g : TextOf R) (space : Space) (old new : R) (is_table : IsTable space.schema.now)
+    (roots : RootOrderChecks space.schema.now None) (read : AreReadRows g space.schema.now old new space.rows.now)
+    (orders : AreOrders space.schema.now space.rows.now space.orders.now)
+    (plan : FindsPlan space.schema.now space.rows.now (Ok space.plan.now)) where
+  pub is_space : IsSpaceOf space read.rows
+  is_space =
+      let are = are_stored g space.schema.now old new space.rows.now is_table roots read in
+      record {
+        can =
+            can_build g space.schema.now old new space.rows.now is_table roots read (plan read.rows are).fits;
+        same = read.same;
+        orders = orders;
+        plan = plan read.rows are;
+      }
 
 -- the store alone is blamed where putting stopped
 pub put_cause : {T A : Type 0} (g : StoreOf T) (table : TableDef) (rows : Rows) (old new : T) (source source_now : ℕ)

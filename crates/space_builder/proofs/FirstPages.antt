@@ -53,7 +53,8 @@ module _ (format : Format) (sizes : List ℕ) (leaves : ℕ) (rows : List (List 
   list_at r i inside =
       get_or-map-range_with_len
       (λ i. first_page (number_behind format sizes leaves rows r i)
-      (pages_of_stored format (stored_at (stored_in rows r) i))) 0 (length (stored_in rows r)) i i 0 inside (omega arith)
+      (pages_of_stored format (stored_at (stored_in rows r) i))) 0 (length (stored_in rows r)) i i 0 inside
+      (omega arith)
 
   module _ (r next : ℕ) (starts starts' pages pages' : List ℕ) (kept : Kept r starts pages) (row : r < length rows)
       (place : next ≡ leaves + pages_before_row (page_counts format rows) r)
@@ -75,7 +76,8 @@ module _ (format : Format) (sizes : List ℕ) (leaves : ℕ) (rows : List (List 
             ∙ begins_at pages pages' (slice_index starts q + i) keeps.begins (kept.inside q i below within went)
             ∙ kept.each q i below within went
 
-        right_pages : q ≡ r → pages' ≡ pages ++ first_pages format (number_behind format sizes leaves rows q) (stored_in rows q)
+        right_pages : q ≡ r
+            → pages' ≡ pages ++ first_pages format (number_behind format sizes leaves rows q) (stored_in rows q)
         right_pages same =
             subst (λ (k : ℕ). (j : ℕ) → j < length (stored_in rows k) → (stored_at (stored_in rows k) j).off ≡ true
             → pages' ≡ pages ++ row_first_pages format sizes next (stored_in rows r)) (sym same) keeps.all i within went

@@ -4,7 +4,8 @@ use Rattle.std.proofs.Common.{List, [], ◌∷◌, ◌++◌, length, get_or, tak
 use Rattle.std.proofs.Common.{refl, sym, ap, ◌∙◌, subst, arith, inl, inr, Ok, Err}
 use Rattle.std.proofs.lemmas.Bool.{cases_lt, ne_eqb, eq-eqb, true≢false}
 use Rattle.std.proofs.lemmas.Bool.Decides.{eqb_tells}
-use Rattle.std.proofs.lemmas.List.{length_push, get_or_append_left, get_or_push, take_more, take_all, take-append-drop, append-nil}
+use Rattle.std.proofs.lemmas.List.{length_push, get_or_append_left, get_or_push, take_more, take_all, take-append-drop}
+use Rattle.std.proofs.lemmas.List.{append-nil}
 use Rattle.std.proofs.lemmas.List.Sums.{sum_by_push}
 use Rattle.page_source.specs.declared.objects.PageStore.{Ghosts as StoreOf}
 use Rattle.column_values.specs.Types.{Fields}
@@ -380,7 +381,8 @@ module _ (laws : PutLaws) (plan : TreePlan) (l : ℕ) (entries : List Entry) (ca
             → MakesRoom g plan l k room_here now new packing next starts more (Ok tt)
             → fits_more next (size_of_record fields entry) ≡ true
         room_next new next more made =
-            elim room_here as (λ room. room_here ≡ room → MakesRoom g plan l k room now new packing next starts more (Ok tt)
+            elim room_here as (λ room. room_here ≡ room → MakesRoom g plan l k room now new packing next starts more
+            (Ok tt)
             → fits_more next (size_of_record fields entry) ≡ true) [
               | true ↦ λ room made.
                   ap (λ (p : Packing). fits_more p (size_of_record fields entry)) made.packed ∙ room
@@ -391,22 +393,27 @@ module _ (laws : PutLaws) (plan : TreePlan) (l : ℕ) (entries : List Entry) (ca
             ] refl made
 
         pub stands_next : (new : T) (next : Packing) (more : List ℕ) (mark : Bool)
-            → mark ≡ (not (l == 0) && (k == 0)) → MakesRoom g plan l k room_here now new packing next starts more (Ok tt)
+            → mark ≡ (not (l == 0) && (k == 0))
+            → MakesRoom g plan l k room_here now new packing next starts more (Ok tt)
             → Stands g plan l old new (with_record next fields entry mark) entries more (k + 1)
         stands_next new next more mark marked made =
-            elim room_here as (λ room. room_here ≡ room → MakesRoom g plan l k room now new packing next starts more (Ok tt)
+            elim room_here as (λ room. room_here ≡ room → MakesRoom g plan l k room now new packing next starts more
+            (Ok tt)
             → Stands g plan l old new (with_record next fields entry mark) entries more (k + 1)) [
               | true ↦ λ room made.
                   subst (λ (new : T). Stands g plan l old new (with_record next fields entry mark) entries more (k + 1))
                   (sym made.store)
-                  (subst (λ (p : Packing). Stands g plan l old now (with_record p fields entry mark) entries more (k + 1))
+                  (subst (λ (p : Packing). Stands g plan l old now (with_record p fields entry mark) entries more
+                  (k + 1))
                   (sym made.packed)
                   (subst (λ (xs : List ℕ). Stands g plan l old now (with_record packing fields entry mark) entries xs
                   (k + 1)) (sym made.begins) (stands_kept mark marked (sym (fits_is entry) ∙ room))))
               | false ↦ λ room made.
-                  subst (λ (p : Packing). Stands g plan l old new (with_record p fields entry mark) entries more (k + 1))
+                  subst (λ (p : Packing). Stands g plan l old new (with_record p fields entry mark) entries more
+                  (k + 1))
                   (sym made.packed)
-                  (subst (λ (xs : List ℕ). Stands g plan l old new (with_record (none_packed l) fields entry mark) entries
+                  (subst (λ (xs : List ℕ). Stands g plan l old new (with_record (none_packed l) fields entry mark)
+                  entries
                   xs (k + 1)) (sym made.begins)
                   (stands_turned new mark marked (sym (fits_is entry) ∙ room)
                   (all_put g now new (page_here ∷ []) tt made.puts)))

@@ -160,7 +160,8 @@ module _ {T : Type 0} (g : StoreOf T) (f : ℕ → List Numbered) (count : ℕ) 
   pub some_next : (r : ℕ) → r < count → AreSome (f r) (first_ones count)
   some_next r inside page among = contains_flat f count r page inside among
 
-  pub next_put : HaveOnePage (first_ones count) → (old now new : T) (r : ℕ) → r < count → ArePut g old now (first_ones r)
+  pub next_put : HaveOnePage (first_ones count) → (old now new : T) (r : ℕ) → r < count
+      → ArePut g old now (first_ones r)
       → ArePut g now new (f r) → ArePut g old new (first_ones (r + 1))
   next_put one old now new r inside before put =
       let more = flat_more f r in

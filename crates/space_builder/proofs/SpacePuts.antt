@@ -135,7 +135,8 @@ lacks_head numbers old now fresh kept other =
     told1 now (λ held none. ap is_some (none 0 other)) (fresh_kept numbers old now fresh kept)
 
 pub only_member : {A : Type 0} (x y : A) → Contains (x ∷ []) y → x ≡ y
-only_member x y among = elim (contains_cases x [] y among) [ inl same ↦ same | inr none ↦ absurd (contains_none y none) ]
+only_member x y among =
+    elim (contains_cases x [] y among) [ inl same ↦ same | inr none ↦ absurd (contains_none y none) ]
 
 pair_same : (a b : Numbered) → a.0 ≡ b.0 → a.1 ≡ b.1 → a ≡ b
 pair_same a b number page = ap (λ (n : ℕ). (n, a.1)) number ∙ ap (λ (p : List ℕ). (b.0, p)) page

@@ -65,4 +65,5 @@ page_low laws plan is_plan l k page =
 pub room_kept : {T : Type 0} (g : StoreOf T) (plan : TreePlan) (old now : T) (pages : List Numbered)
     → ArePut g old now pages → HasRoomFor g old plan → HasRoomFor g now plan
 room_kept g plan old now pages put room =
-    subst (λ (size : Option ℕ). IfSome size (λ size. space_pages plan.sizes.now ≤ size)) (sym put.others.sizes.size) room
+    subst (λ (size : Option ℕ). IfSome size (λ size. space_pages plan.sizes.now ≤ size)) (sym put.others.sizes.size)
+    room

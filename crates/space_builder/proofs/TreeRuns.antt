@@ -5,7 +5,8 @@ use Rattle.std.proofs.Common.{sym, ap, ◌∙◌, subst, arith, inl, inr}
 use Rattle.std.specs.List.{All, flat_map, range_with_len}
 use Rattle.std.proofs.lemmas.Bool.{ne_eqb, le-leb}
 use Rattle.std.proofs.lemmas.Simd.{map-map}
-use Rattle.std.proofs.lemmas.List.{append-nil, map-append, take_all, take-append-le, length-take, length-map, get_or-map}
+use Rattle.std.proofs.lemmas.List.{append-nil, map-append, take_all, take-append-le, length-take, length-map}
+use Rattle.std.proofs.lemmas.List.{get_or-map}
 use Rattle.std.proofs.lemmas.List.Elements.{All-from_get_or, Contains-append_cases}
 use Rattle.page_source.specs.Pages.{be_bytes}
 use Rattle.page_source.specs.declared.objects.PageStore.{Ghosts as StoreOf}
@@ -119,7 +120,8 @@ upper_firsts keys leaves pointers pages starts firsts long filled into begins sa
       below = λ k inside. subst (λ n. n < length leaves) (sym (first_is k inside)) (low k inside);
       key = λ k inside.
           ap (take keys) (begins.each k inside (filled k inside)).1
-          ∙ ap (take keys) (get_or-map (pointing keys leaves) pointers (slice_index starts k) no_pointer [] (inner k inside))
+          ∙ ap (take keys) (get_or-map (pointing keys leaves) pointers (slice_index starts k) no_pointer []
+          (inner k inside))
           ∙ key_of_pointing keys (entry_at leaves (pointer_at pointers (slice_index starts k)).first)
           (pointer_at pointers (slice_index starts k)).page
           (long (pointer_at pointers (slice_index starts k)).first (low k inside))
@@ -149,7 +151,8 @@ pub record ArePointers (plan : TreePlan) (leaves : List Entry) (l : ℕ) (firsts
       (level_at (tree_levels plan.leaf.now plan.node.now (number_in plan) leaves) l) firsts
   pub same : pointers ≡ map (pointer_in plan l firsts) (range_with_len 0 (length firsts))
 
--- the levels below level l were put, and these are the leaf entries with whose keys the pages of the highest of them begin
+-- the levels below level l were put, and these are the leaf entries with whose keys the pages of the highest of them
+-- begin
 pub record TreeStands {T : Type 0} (g : StoreOf T) (plan : TreePlan) (leaves : List Entry) (old now : T)
     (firsts : List ℕ) (l : ℕ) : Type 0 where
   pub put : ArePut g old now (flat_map (pages_of_level plan.leaf.now plan.node.now (number_in plan)
@@ -268,7 +271,8 @@ module _ (laws : PutLaws) (plan : TreePlan) (leaves : List Entry) (can : CanPutT
     into_leaves =
         let count = are.count in
         subst (PointInto leaves) (sym same)
-        (all_map (λ (pointer : Pointer). pointer.first < length leaves) (pointer_in plan l firsts) (length firsts) no_pointer
+        (all_map (λ (pointer : Pointer). pointer.first < length leaves) (pointer_in plan l firsts) (length firsts)
+        no_pointer
         (λ k within. are.below k (omega arith)))
 
     small_pages : All (λ (pointer : Pointer). pointer.page < 2 ^ 32) pointers
@@ -318,7 +322,8 @@ module _ (laws : PutLaws) (plan : TreePlan) (leaves : List Entry) (can : CanPutT
     pointer_alone : (pointer : Pointer) → pointer.first < length leaves
         → FitsAlone node (pointing node.keys leaves pointer)
     pointer_alone pointer below =
-        let small : HasSmallPointers node (entry_at leaves pointer.first) = can.divide.pointers pointer.first [] below in
+        let small : HasSmallPointers node (entry_at leaves pointer.first) =
+        can.divide.pointers pointer.first [] below in
         let size = small pointer.page in
         le-leb (120 + size_of_record node (pointing node.keys leaves pointer) + 2 * slots_for 1) 16376 (omega arith)
 
@@ -330,7 +335,8 @@ module _ (laws : PutLaws) (plan : TreePlan) (leaves : List Entry) (can : CanPutT
         All-from_get_or P entries []
         (λ i below.
         subst P (sym (get_or-map (pointing node.keys leaves) pointers i no_pointer [] (omega arith)))
-        (each (pointer_at pointers i) (into_leaves i no_pointer (omega arith)) (small_pages i no_pointer (omega arith))))
+        (each (pointer_at pointers i) (into_leaves i no_pointer (omega arith))
+        (small_pages i no_pointer (omega arith))))
 
     -- they may be put as the next level
     pub upper_level : (m : ℕ) → m ≡ l + 1 → CanPutLevel plan m entries
@@ -511,7 +517,8 @@ module _ (laws : PutLaws) (plan : TreePlan) (leaves : List Entry) (can : CanPutT
     }
 
     pub next_stands : (l : ℕ) (firsts : List ℕ) (pointers : List Pointer)
-        (above : ArePointers plan leaves l firsts pointers) (m : ℕ) → m ≡ l + 1 → (now new : T) (starts more : List ℕ) → ArePut g old now (pages_below m)
+        (above : ArePointers plan leaves l firsts pointers) (m : ℕ) → m ≡ l + 1 → (now new : T) (starts more : List ℕ)
+        → ArePut g old now (pages_below m)
         → ArePut g now new
         (laid_pages plan m (divided (fields_in plan m) (map (pointing node.keys leaves) pointers)))
         → BeginAt (map (pointing node.keys leaves) pointers)

@@ -153,7 +153,8 @@ module _ (laws : LowerLaws) (fitted : FittedRowsAreRows) (space : Space) (rows :
         ((fields.each i (omega arith)).went went).long
 
     pub name_pages : (starts pages : List ℕ)
-        → AreFirstPages table_of.format (segment_sizes table_of rows) (leaves_of table_of rows) space.rows.now starts pages
+        → AreFirstPages table_of.format (segment_sizes table_of rows) (leaves_of table_of rows) space.rows.now starts
+        pages
         → NameSamePages stored_of (first_page_in starts pages) (value_number table_of rows)
     unfolding value_number value_counts
     name_pages starts pages first r i below inside went =

@@ -184,7 +184,8 @@ count_at format row i inside =
 
 pub counts_at : (format : Format) (rows : List (List Stored)) (r : ℕ) → r < length rows
     → row_at (page_counts format rows) r ≡ row_counts format (stored_in rows r)
-counts_at format rows r inside = get_or-map (λ (row : List Stored). map (pages_of_stored format) row) rows r [] [] inside
+counts_at format rows r inside =
+    get_or-map (λ (row : List Stored). map (pages_of_stored format) row) rows r [] [] inside
 
 -- the numbers of the pages of a row among those of all rows
 pub row_number_is : (format : Format) (sizes : List ℕ) (leaves : ℕ) (rows : List (List Stored)) (r at : ℕ)
@@ -192,7 +193,8 @@ pub row_number_is : (format : Format) (sizes : List ℕ) (leaves : ℕ) (rows : 
     → row_number sizes at (row_counts format (stored_in rows r)) ≡ number_behind format sizes leaves rows r
 row_number_is format sizes leaves rows r at inside is =
     let counts = counts_at format rows r inside in
-    same_function (row_number sizes at (row_counts format (stored_in rows r))) (number_behind format sizes leaves rows r)
+    same_function (row_number sizes at (row_counts format (stored_in rows r)))
+    (number_behind format sizes leaves rows r)
     (λ i. same_function (row_number sizes at (row_counts format (stored_in rows r)) i)
     (number_behind format sizes leaves rows r i)
     (λ k.

@@ -13,7 +13,8 @@ use Rattle.space_layout.specs.ValuePlaces.{pages_before_row, pages_before_field}
 use Rattle.row_layout.specs.StoredRow.{Stored, stored_at}
 use Rattle.row_layout.specs.HoldsValues.{pages_of_stored, stored_in}
 use Rattle.space_builder.specs.declared.built.PutStop.{PutStop}
-use Rattle.space_builder.specs.layout.ValuePage.{page_counts, pages_of_bytes, pages_of_field, pages_of_row, pages_of_values}
+use Rattle.space_builder.specs.layout.ValuePage.{page_counts, pages_of_bytes, pages_of_field, pages_of_row}
+use Rattle.space_builder.specs.layout.ValuePage.{pages_of_values}
 use Rattle.space_builder.specs.build.Puts.{HaveOnePage, PutsPages}
 use Rattle.space_builder.specs.build.Room.{TakesPages, HasLeafPages, TakesRow, TakesValues, gone_bytes, row_counts}
 use Rattle.space_builder.specs.build.Room.{row_number, row_pages, first_page}
@@ -77,7 +78,8 @@ module _ {T : Type 0} (g : StoreOf T) (format : Format) (sizes : List ℕ) (at :
 
   pub fields_more : (old now new : T) (i next next' : ℕ) (before firsts firsts' : List ℕ)
       → HaveOnePage (row_pages format sizes at row) → i < length row → FieldsPut old now i next before firsts
-      → PutsPages g now new (pages_of_bytes (λ k. segment_page sizes 1 (next + k)) (gone_bytes format (stored_at row i)))
+      → PutsPages g now new (pages_of_bytes (λ k. segment_page sizes 1 (next + k))
+      (gone_bytes format (stored_at row i)))
       (Ok next')
       → next' ≡ next + pages_for (length (gone_bytes format (stored_at row i)))
       → firsts' ≡ firsts ++ first_page (λ k. segment_page sizes 1 (next + k))
@@ -89,7 +91,8 @@ module _ {T : Type 0} (g : StoreOf T) (format : Format) (sizes : List ℕ) (at :
       let count = count_is i inside in
       let here = put.place in record {
         put = next_put g field_list (length row) one old now new i inside put.put
-            (all_put g now new (field_list i) next' (subst (λ (pages : List Numbered). PutsPages g now new pages (Ok next'))
+            (all_put g now new (field_list i) next' (subst (λ (pages : List Numbered). PutsPages g now new pages
+            (Ok next'))
             (pages_are i next here) puts));
         place = omega arith;
         first =
@@ -110,7 +113,8 @@ module _ {T : Type 0} (g : StoreOf T) (format : Format) (sizes : List ℕ) (at :
       → PutsPages {A = B} g old new (row_pages format sizes at row) (Err stop)
   field_failed {A} {B} old now new i next before firsts stop inside put puts =
       next_failed g field_list (length row) {A = A} {B = B} old now new i stop inside put.put
-      (subst (λ (pages : List Numbered). PutsPages {A = A} g now new pages (Err stop)) (pages_are i next put.place) puts)
+      (subst (λ (pages : List Numbered). PutsPages {A = A} g now new pages (Err stop)) (pages_are i next put.place)
+      puts)
 
   pub fields_all : {A : Type 0} (old now : T) (next : ℕ) (before firsts : List ℕ) (a : A)
       → FieldsPut old now (length row) next before firsts → PutsPages g old now (row_pages format sizes at row) (Ok a)
@@ -174,7 +178,8 @@ module _ {T : Type 0} (g : StoreOf T) (format : Format) (sizes : List ℕ) (leav
       let counts = ap (λ (ns : List ℕ). sum ns) (counts_at format rows r inside) in
       let here = put.place in record {
         put = next_put g row_list (length rows) one old now new r inside put.put
-            (all_put g now new (row_list r) next' (subst (λ (pages : List Numbered). PutsPages g now new pages (Ok next'))
+            (all_put g now new (row_list r) next' (subst (λ (pages : List Numbered). PutsPages g now new pages
+            (Ok next'))
             (row_pages_are r next inside here) puts));
         place = omega arith;
       }

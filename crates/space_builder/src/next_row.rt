@@ -1,6 +1,7 @@
 //! The row of a line, behind others.
 
-ghost use Rattle.std.specs.Prelude.{◌≡◌, ℕ, ◌+◌, ◌-◌, ◌<◌, ◌≤◌, ◌^◌, ◌↔◌, ◌∷◌, ◌++◌, [], List, All, OnOk, IsTrue, length, false};
+ghost use Rattle.std.specs.Prelude.{◌≡◌, ℕ, ◌+◌, ◌-◌, ◌<◌, ◌≤◌, ◌^◌, ◌↔◌, ◌∷◌, ◌++◌, [], List, All, OnOk, IsTrue};
+ghost use Rattle.std.specs.Prelude.{length, false};
 ghost use Rattle.std.specs.Prelude.{map, slice_index_or, Some};
 ghost use Rattle.page_source.specs.Pages.{be_bytes};
 ghost use Rattle.column_values.specs.declared.value.Value.{Value};

@@ -1,6 +1,7 @@
 //! The pages of values that go on off the pages of their records.
 
-ghost use Rattle.std.specs.Prelude.{◌≡◌, ℕ, ◌+◌, ◌<◌, ◌≤◌, false, [], ◌∷◌, ◌++◌, IfOk, OnOk, drop, length, map, slice_index, sum};
+ghost use Rattle.std.specs.Prelude.{◌≡◌, ℕ, ◌+◌, ◌<◌, ◌≤◌, false, [], ◌∷◌, ◌++◌, IfOk, OnOk, drop, length, map};
+ghost use Rattle.std.specs.Prelude.{slice_index, sum};
 ghost use Rattle.std.specs.List.{range_with_len};
 ghost use Rattle.space_layout.specs.Numbers.{IsShape, segment_page};
 ghost use Rattle.offpage_chain.specs.ValuePage.{pages_for};

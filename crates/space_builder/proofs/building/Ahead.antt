@@ -17,7 +17,8 @@ use Rattle.space_builder.specs.build.Lines.{GrewBehind, IsFeedPlace, IsNextLine,
 use Rattle.space_builder.proofs.building.Reading.{gives_none, gives_more}
 
 -- bytes that were read
-pub given_by : (E : Type 0) (old new : Option (List ℕ)) (k : ℕ) (buffer : List ℕ) → TakesBytes {E = E} old new (Ok k) buffer
+pub given_by : (E : Type 0) (old new : Option (List ℕ)) (k : ℕ) (buffer : List ℕ)
+    → TakesBytes {E = E} old new (Ok k) buffer
     → GivesBytes old new (take k buffer)
 given_by E None new k buffer takes = takes
 given_by E (Some text) new k buffer takes =
@@ -28,7 +29,8 @@ given_by E (Some text) new k buffer takes =
           ∙ ap (λ (xs : List ℕ). take k buffer ++ xs) (sym t.rest),
     )
 
-pub ends_by : (E : Type 0) (old new : Option (List ℕ)) (k : ℕ) (buffer : List ℕ) → TakesBytes {E = E} old new (Ok k) buffer
+pub ends_by : (E : Type 0) (old new : Option (List ℕ)) (k : ℕ) (buffer : List ℕ)
+    → TakesBytes {E = E} old new (Ok k) buffer
     → k ≡ 0 → IsAtEnd new
 ends_by E None new k buffer takes none = subst IsAtEnd (sym takes) tt
 ends_by E (Some text) new k buffer takes none =

@@ -9,7 +9,8 @@ use Rattle.std.proofs.lemmas.List.Sums.{fold_more, position_or_len_is}
 use Rattle.column_values.specs.Types.{field_at}
 use Rattle.schema_text.specs.TableDef.{TableDef}
 use Rattle.schema_text.specs.IndexFields.{leaf_fields}
-use Rattle.row_layout.specs.StoredRow.{Stored, stored_at, going_length, going_lengths, greatest, longest_off, is_too_long}
+use Rattle.row_layout.specs.StoredRow.{Stored, stored_at, going_length, going_lengths, greatest, longest_off}
+use Rattle.row_layout.specs.StoredRow.{is_too_long}
 use Rattle.row_layout.specs.StoredRow.{with_off, fitted}
 use Rattle.space_builder.specs.build.RowFields.{GoesNext}
 

@@ -1,5 +1,6 @@
 -- A text that is read line by line.
-use Rattle.std.proofs.Common.{◌≡◌, ◌≢◌, ℕ, ◌+◌, ◌*◌, ◌<◌, ◌≤◌, Bool, true, false, List, [], ◌∷◌, ◌++◌, length, take, drop}
+use Rattle.std.proofs.Common.{◌≡◌, ◌≢◌, ℕ, ◌+◌, ◌*◌, ◌<◌, ◌≤◌, Bool, true, false, List, [], ◌∷◌, ◌++◌, length, take}
+use Rattle.std.proofs.Common.{drop}
 use Rattle.std.proofs.Common.{IfSome, Some, None, Option, Ok, Err, refl, sym, ap, ◌∙◌, subst, arith, inl, inr}
 use Rattle.std.proofs.lemmas.List.{append_assoc, append-nil, length-append, length-take-le}
 use Rattle.std.proofs.lemmas.List.Elements.{All-nil, All-cons, All-append}
@@ -17,7 +18,8 @@ use Rattle.space_builder.specs.declared.built.RowStop.TheVariants as rowstops
 use Rattle.space_builder.specs.declared.line_reader.NextLine.{NextLine}
 use Rattle.space_builder.specs.layout.Layout.{Rows, stored_rows}
 use Rattle.space_builder.specs.build.BadLine.{RowsChecks, AreRowsOf}
-use Rattle.space_builder.specs.build.Lines.{with_feed, joined_lines, bytes_in, end_of, end_size, StandsFirst, GivesBytes}
+use Rattle.space_builder.specs.build.Lines.{with_feed, joined_lines, bytes_in, end_of, end_size, StandsFirst}
+use Rattle.space_builder.specs.build.Lines.{GivesBytes}
 use Rattle.space_builder.specs.build.Lines.{IsAtEnd, GrewBehind, IsNextLine}
 use Rattle.space_builder.specs.build.NextRow.{HoldsRows, RefusesNext, AddsRow}
 use Rattle.space_builder.specs.build.ReadRows.{AreReadRows, ChecksLine, ReadsRows}
@@ -118,7 +120,8 @@ stored_none : (table : TableDef) → [] ≡ stored_rows table []
 unfolding stored_rows
 stored_none table = refl
 
-pub reading_none : {R : Type 0} (g : TextOf R) (table : TableDef) (old : R) (ahead : List ℕ) (stored : List (List Stored))
+pub reading_none : {R : Type 0} (g : TextOf R) (table : TableDef) (old : R) (ahead : List ℕ)
+    (stored : List (List Stored))
     → ahead ≡ [] → stored ≡ [] → IsReading g table old old ahead 0 stored
 reading_none g table old ahead stored none no_row = record {
   lines = [];

@@ -4,7 +4,8 @@ use Rattle.std.specs.Bool.{beq}
 use Rattle.std.proofs.Common.{Bool, not, ◌&&◌, nat_eq, length-drop}
 use Rattle.std.proofs.Common.{get_or, true, false, refl, sym, ap, ◌∙◌, arith, add-zero, subst, length-append}
 use Rattle.std.specs.List.{All}
-use Rattle.std.proofs.lemmas.List.{get_or-map, length-map, length-take-le, drop-append-le, drop_at, drop-take, take-take}
+use Rattle.std.proofs.lemmas.List.{get_or-map, length-map, length-take-le, drop-append-le, drop_at, drop-take}
+use Rattle.std.proofs.lemmas.List.{take-take}
 use Rattle.std.proofs.lemmas.List.{map-append, take_all, take-map, drop-map, take_more_same, get_or-drop}
 use Rattle.std.proofs.lemmas.Bool.{and_parts, not-false, eqb-true}
 use Rattle.std.proofs.lemmas.List.Elements.{All-append, All-cons, All-nil, All-head, All-tail}
@@ -134,7 +135,8 @@ part_begins xs ys first width begins within =
     let n : ℕ = length xs - first in
     let size : first + n ≡ length xs = omega arith in
     sym (take-take width n (drop first ys) (omega arith))
-    ∙ ap (take width) (sym (drop-take first n ys) ∙ ap (λ (k : ℕ). drop first (take k ys)) size ∙ ap (drop first) begins)
+    ∙ ap (take width) (sym (drop-take first n ys) ∙ ap (λ (k : ℕ). drop first (take k ys)) size ∙ ap (drop first)
+    begins)
 
 -- a row, whatever stands behind its bytes
 row_left : (spots : List FieldSpot) (bytes more : List ℕ) → AreSpots spots bytes

@@ -4,7 +4,8 @@ use Rattle.std.proofs.Common.{length, map, take, replicate, All, None, refl, sym
 use Rattle.std.proofs.Common.{arith, not}
 use Rattle.std.specs.List.{list_any, range_with_len}
 use Rattle.std.proofs.lemmas.Bool.{ne_eqb}
-use Rattle.std.proofs.lemmas.List.{length-append, length-map, length-take-le, take_at, get_or-map, get_or-take, ext_get_or, map-id, append-nil}
+use Rattle.std.proofs.lemmas.List.{length-append, length-map, length-take-le, take_at, get_or-map, get_or-take}
+use Rattle.std.proofs.lemmas.List.{ext_get_or, map-id, append-nil}
 use Rattle.std.proofs.lemmas.List.Elements.{All-filter, All-from_get_or, filter-append}
 use Rattle.std.proofs.lemmas.List.FromFn.{length-range_with_len, get_or-range_with_len, map-range_with_len_more}
 use Rattle.column_values.specs.declared.value.Value.{Value}
@@ -15,7 +16,8 @@ use Rattle.schema_text.specs.Grammar.{IsTable}
 use Rattle.schema_text.specs.IndexFields.{leaf_fields, clustered_positions, other_positions, columns_at}
 use Rattle.schema_text.specs.IndexFields.{kept_field, leaving_field, row_id_field, key_fields, rest_fields, kept_at}
 use Rattle.schema_text.specs.IndexFields.{leaving_at, positions_without}
-use Rattle.row_layout.specs.StoredRow.{Stored, stored_at, kept, stored_column, stored_key, stored_row, row_id, part_of_field}
+use Rattle.row_layout.specs.StoredRow.{Stored, stored_at, kept, stored_column, stored_key, stored_row, row_id}
+use Rattle.row_layout.specs.StoredRow.{part_of_field}
 use Rattle.row_layout.specs.Fitting.{AreFieldsOf}
 use Rattle.row_layout.specs.RowKeys.{column_key}
 use Rattle.space_builder.specs.build.Stored.{value_of}

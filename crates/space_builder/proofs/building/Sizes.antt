@@ -1,6 +1,8 @@
 -- How long a stored row is in its record.
-use Rattle.std.proofs.Common.{◌≡◌, ℕ, zero, suc, ◌+◌, ◌-◌, ◌/◌, ◌%◌, ◌<◌, ◌≤◌, min, Bool, true, false, cond, not, ◌&&◌, ◌||◌}
-use Rattle.std.proofs.Common.{leb, ◌^◌, ltb, List, [], ◌∷◌, ◌++◌, length, take, map, get_or, zip, flat_map, refl, sym, ap, ◌∙◌}
+use Rattle.std.proofs.Common.{◌≡◌, ℕ, zero, suc, ◌+◌, ◌-◌, ◌/◌, ◌%◌, ◌<◌, ◌≤◌, min, Bool, true, false, cond, not, ◌&&◌}
+use Rattle.std.proofs.Common.{◌||◌}
+use Rattle.std.proofs.Common.{leb, ◌^◌, ltb, List, [], ◌∷◌, ◌++◌, length, take, map, get_or, zip, flat_map, refl, sym}
+use Rattle.std.proofs.Common.{ap, ◌∙◌}
 use Rattle.std.proofs.Common.{arith, inl, inr}
 use Rattle.std.specs.List.{range_with_len, sum_by}
 use Rattle.std.proofs.lemmas.Bool.{cases_lt, le-leb, lt-leb}
@@ -19,7 +21,8 @@ use Rattle.compact_record.specs.Writing.{local_bytes, length_of_part, all_null_b
 use Rattle.compact_record.specs.Writing.{bytes_below, value_bytes, origin_in, size_of_record}
 use Rattle.offpage_chain.specs.declared.reference.Reference.{Reference}
 use Rattle.offpage_chain.specs.Reference.{reference_bytes}
-use Rattle.row_layout.specs.StoredRow.{Stored, stored_at, kept_prefix, reference_to, off_local, part_of_field, parts_of_row}
+use Rattle.row_layout.specs.StoredRow.{Stored, stored_at, kept_prefix, reference_to, off_local, part_of_field}
+use Rattle.row_layout.specs.StoredRow.{parts_of_row}
 use Rattle.row_layout.specs.StoredRow.{size_of_row, is_too_long}
 use Rattle.space_builder.specs.build.RowFields.{local_length, length_length, field_size, field_sizes}
 use Rattle.space_builder.proofs.building.Spots.{no_field}

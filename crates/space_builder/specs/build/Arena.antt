@@ -65,14 +65,17 @@ pub record LiesIn (arena : Arena) (span : Span) : Type 0 where
 abbrev pub AreRowsIn : Arena → Type 0
 AreRowsIn arena = All (LiesIn arena) arena.spans
 
+-- where a row of so many fields lies behind all bytes
+abbrev pub next_span : Arena → ℕ → ℕ → Span
+next_span arena first width = record { start = length arena.bytes; first = first; width = width }
+
 -- one more row, of the fields that lie so among these bytes; they may have the marks of another row
 pub record AddsFields (old new : Arena) (fields : List FieldSpot) (row : List ℕ) : Type 0 where
   pub first : ℕ
   pub begins : take (length old.spots) new.spots ≡ old.spots
   pub marked : AreMarked new.spots fields first
   pub bytes : new.bytes ≡ old.bytes ++ take (spot_start fields (length fields)) row
-  pub spans : new.spans
-      ≡ old.spans ++ (let span : Span = record { start = length old.bytes; first = first; width = length fields } in span) ∷ []
+  pub spans : new.spans ≡ old.spans ++ next_span old first (length fields) ∷ []
 
 -- the lists begin as they were
 pub record Begins (old new : Lists) : Type 0 where

@@ -1,5 +1,6 @@
 -- What a build answers, and what its store then holds.
-use Rattle.std.specs.Prelude.{◌≡◌, ◌≢◌, ℕ, ◌<◌, ◌≤◌, ◌⊎◌, List, length, Some, None, Option, IfSome, IsNone, IsSome, Result}
+use Rattle.std.specs.Prelude.{◌≡◌, ◌≢◌, ℕ, ◌<◌, ◌≤◌, ◌⊎◌, List, length, Some, None, Option, IfSome, IsNone, IsSome}
+use Rattle.std.specs.Prelude.{Result}
 use Rattle.std.specs.Prelude.{Ok, Err, [], ⊤}
 use Rattle.std.specs.FinMap.{get}
 use Rattle.page_source.specs.Faults.{Rose}

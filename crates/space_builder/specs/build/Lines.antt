@@ -1,6 +1,7 @@
 -- The lines of a text, and what is read of a text so far.
 use Rattle.std.specs.Prelude.{◌≡◌, ◌≢◌, ℕ, ◌+◌, ◌<◌, ◌≤◌, ◌⊎◌, Bool, false, if◌then◌else◌, List, [], ◌∷◌, ◌++◌}
-use Rattle.std.specs.Prelude.{flat_map, length, take, drop, sum_by, slice_index, Option, Some, None, IfSome, MatchOption}
+use Rattle.std.specs.Prelude.{flat_map, length, take, drop, sum_by, slice_index, Option, Some, None, IfSome}
+use Rattle.std.specs.Prelude.{MatchOption}
 use Rattle.schema_text.specs.Grammar.{line_feed}
 use Rattle.schema_text.specs.Cuts.{Lacks}
 use Rattle.space_builder.specs.declared.line_reader.NextLine.{NextLine}

@@ -1,5 +1,6 @@
 -- Whether the pages of segments can be put into a store, and where those of long values then stand.
-use Rattle.std.specs.Prelude.{◌≡◌, ℕ, ◌+◌, ◌≤◌, ◌<◌, ◌++◌, true, if◌then◌else◌, List, [], length, map, sum, take, IfSome}
+use Rattle.std.specs.Prelude.{◌≡◌, ℕ, ◌+◌, ◌≤◌, ◌<◌, ◌++◌, true, if◌then◌else◌, List, [], length, map, sum, take}
+use Rattle.std.specs.Prelude.{IfSome}
 use Rattle.std.specs.Prelude.{slice_index}
 use Rattle.std.specs.List.{range_with_len}
 use Rattle.page_source.specs.Objects.{Store}

@@ -80,7 +80,8 @@ layout_tree_page table rows j l k =
 
 abbrev pub level_pages : TableDef → Rows → ℕ → ℕ → List Numbered
 level_pages table rows j l =
-    pages_of_level (leaf_fields table j) (node_fields table j) (page_number table rows j) (index_levels table rows j) j l
+    pages_of_level (leaf_fields table j) (node_fields table j) (page_number table rows j) (index_levels table rows j)
+    j l
 
 abbrev pub index_pages : TableDef → Rows → ℕ → List Numbered
 index_pages table rows j =

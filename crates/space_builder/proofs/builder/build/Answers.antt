@@ -1,7 +1,7 @@
 use Rattle.std.proofs.Common.{◌∙◌, length, ap, sym, subst}
 use Rattle.std.proofs.lemmas.Result.{err_from_is_err_and}
 use Rattle.space_builder.specs.build.Plan.{AreOrders}
-use Rattle.space_builder.proofs.Builds.{fresh_lacks, read_failed, are_stored, can_build, no_plan, not_put, all_put}
+use Rattle.space_builder.proofs.Builds.{fresh_lacks, read_failed, are_stored, is_space, no_plan, not_put, all_put}
 use Rattle.space_builder.proofs.Builds.{put_cause, no_cause, stored_count}
 use Rattle.space_builder.proofs.Outcomes.{put_calls}
 use Rattle.space_builder.proofs.builder.build.Goals as goal
@@ -22,7 +22,8 @@ returns-in_err-orders-clause-built g c =
 pub plan_space-requires-clause-rows : goal.plan_space-requires-clause-rows
 plan_space-requires-clause-rows g c = (
   c.in_ok-stored.ensures.finds.rows,
-  are_stored g.R.ByteSource c.args.schema.now c.args.rows.now c.read_rows.new.text c.in_ok-stored.stored c.in_default.ensures.table c.in_default.ensures.roots
+  are_stored g.R.ByteSource c.args.schema.now c.args.rows.now c.read_rows.new.text c.in_ok-stored.stored
+      c.in_default.ensures.table c.in_default.ensures.roots
       c.in_ok-stored.ensures.finds,
 )
 
@@ -30,52 +31,37 @@ pub returns-in_err-plan-clause-built : goal.returns-in_err-plan-clause-built
 returns-in_err-plan-clause-built g c =
     let r = err_from_is_err_and c.from_residual-in_err-plan.result c.from_residual-in_err-plan.ensures.1 in
     rw (r.1, r.2)
-    (no_plan g.R.ByteSource c.args.schema.now c.args.rows.now c.read_rows.new.text c.in_ok-stored.stored c.in_default.ensures.table c.in_default.ensures.roots
+    (no_plan g.R.ByteSource c.args.schema.now c.args.rows.now c.read_rows.new.text c.in_ok-stored.stored
+    c.in_default.ensures.table c.in_default.ensures.roots
     c.in_ok-stored.ensures.finds
     c.in_err-plan.field-0.0 (g.T.PageStore.told c.args.store.now) c.requires c.in_err-plan.ensures)
 
 pub put-requires-clause-space : goal.put-requires-clause-space
 put-requires-clause-space g c = (
   c.in_ok-stored.ensures.finds.rows,
-  record {
-    can = can_build g.R.ByteSource c.args.schema.now c.args.rows.now c.read_rows.new.text c.in_ok-stored.stored c.in_default.ensures.table c.in_default.ensures.roots
-        c.in_ok-stored.ensures.finds
-        (c.in_ok-plan.ensures c.in_ok-stored.ensures.finds.rows
-        (are_stored g.R.ByteSource c.args.schema.now c.args.rows.now c.read_rows.new.text c.in_ok-stored.stored c.in_default.ensures.table c.in_default.ensures.roots
-        c.in_ok-stored.ensures.finds)).fits;
-    same = c.in_ok-stored.ensures.finds.same;
-    orders = subst (AreOrders c.args.schema.now c.in_ok-stored.stored) (sym c.deref-2.ensures.value)
-        c.in_ok-orders.ensures;
-    plan = c.in_ok-plan.ensures c.in_ok-stored.ensures.finds.rows
-        (are_stored g.R.ByteSource c.args.schema.now c.args.rows.now c.read_rows.new.text c.in_ok-stored.stored c.in_default.ensures.table c.in_default.ensures.roots
-        c.in_ok-stored.ensures.finds);
-  },
+  (is_space g.R.ByteSource _ c.args.rows.now c.read_rows.new.text c.in_default.ensures.table
+      c.in_default.ensures.roots c.in_ok-stored.ensures.finds
+      (subst (AreOrders c.args.schema.now c.in_ok-stored.stored) (sym c.deref-2.ensures.value) c.in_ok-orders.ensures)
+      c.in_ok-plan.ensures),
 )
 
 pub returns-in_err-put-clause-built : goal.returns-in_err-put-clause-built
 returns-in_err-put-clause-built g c =
     let r = err_from_is_err_and c.from_residual-in_err-put.result c.from_residual-in_err-put.ensures.1 in
     rw (r.1, r.2)
-    (not_put g.R.ByteSource c.args.schema.now c.args.rows.now c.read_rows.new.text c.in_ok-stored.stored c.in_default.ensures.table c.in_default.ensures.roots
+    (not_put g.R.ByteSource c.args.schema.now c.args.rows.now c.read_rows.new.text c.in_ok-stored.stored
+    c.in_default.ensures.table c.in_default.ensures.roots
     c.in_ok-stored.ensures.finds
     c.in_err-put.field-0.0 (g.T.PageStore.told c.args.store.now) (g.T.PageStore.told c.put.new.store)
     (c.in_ok-plan.ensures c.in_ok-stored.ensures.finds.rows
-    (are_stored g.R.ByteSource c.args.schema.now c.args.rows.now c.read_rows.new.text c.in_ok-stored.stored c.in_default.ensures.table c.in_default.ensures.roots
+    (are_stored g.R.ByteSource c.args.schema.now c.args.rows.now c.read_rows.new.text c.in_ok-stored.stored
+    c.in_default.ensures.table c.in_default.ensures.roots
     c.in_ok-stored.ensures.finds)).fits
     (c.in_err-put.ensures c.in_ok-stored.ensures.finds.rows
-    record {
-      can = can_build g.R.ByteSource c.args.schema.now c.args.rows.now c.read_rows.new.text c.in_ok-stored.stored c.in_default.ensures.table c.in_default.ensures.roots
-          c.in_ok-stored.ensures.finds
-          (c.in_ok-plan.ensures c.in_ok-stored.ensures.finds.rows
-          (are_stored g.R.ByteSource c.args.schema.now c.args.rows.now c.read_rows.new.text c.in_ok-stored.stored c.in_default.ensures.table c.in_default.ensures.roots
-          c.in_ok-stored.ensures.finds)).fits;
-      same = c.in_ok-stored.ensures.finds.same;
-      orders = subst (AreOrders c.args.schema.now c.in_ok-stored.stored) (sym c.deref-2.ensures.value)
-          c.in_ok-orders.ensures;
-      plan = c.in_ok-plan.ensures c.in_ok-stored.ensures.finds.rows
-          (are_stored g.R.ByteSource c.args.schema.now c.args.rows.now c.read_rows.new.text c.in_ok-stored.stored c.in_default.ensures.table c.in_default.ensures.roots
-          c.in_ok-stored.ensures.finds);
-    }).leaves)
+    (is_space g.R.ByteSource _ c.args.rows.now c.read_rows.new.text c.in_default.ensures.table
+    c.in_default.ensures.roots c.in_ok-stored.ensures.finds
+    (subst (AreOrders c.args.schema.now c.in_ok-stored.stored) (sym c.deref-2.ensures.value) c.in_ok-orders.ensures)
+    c.in_ok-plan.ensures)).leaves)
 
 pub returns-in_err-put-clause-cause : goal.returns-in_err-put-clause-cause
 returns-in_err-put-clause-cause g c =
@@ -85,75 +71,41 @@ returns-in_err-put-clause-cause g c =
     (g.R.ByteSource.faults c.args.rows.now) (g.R.ByteSource.faults c.read_rows.new.text) c.in_err-put.field-0.0
     c.in_ok-stored.ensures.later
     (c.in_err-put.ensures c.in_ok-stored.ensures.finds.rows
-    record {
-      can = can_build g.R.ByteSource c.args.schema.now c.args.rows.now c.read_rows.new.text c.in_ok-stored.stored c.in_default.ensures.table c.in_default.ensures.roots
-          c.in_ok-stored.ensures.finds
-          (c.in_ok-plan.ensures c.in_ok-stored.ensures.finds.rows
-          (are_stored g.R.ByteSource c.args.schema.now c.args.rows.now c.read_rows.new.text c.in_ok-stored.stored c.in_default.ensures.table c.in_default.ensures.roots
-          c.in_ok-stored.ensures.finds)).fits;
-      same = c.in_ok-stored.ensures.finds.same;
-      orders = subst (AreOrders c.args.schema.now c.in_ok-stored.stored) (sym c.deref-2.ensures.value)
-          c.in_ok-orders.ensures;
-      plan = c.in_ok-plan.ensures c.in_ok-stored.ensures.finds.rows
-          (are_stored g.R.ByteSource c.args.schema.now c.args.rows.now c.read_rows.new.text c.in_ok-stored.stored c.in_default.ensures.table c.in_default.ensures.roots
-          c.in_ok-stored.ensures.finds);
-    }))
+    (is_space g.R.ByteSource _ c.args.rows.now c.read_rows.new.text c.in_default.ensures.table
+    c.in_default.ensures.roots c.in_ok-stored.ensures.finds
+    (subst (AreOrders c.args.schema.now c.in_ok-stored.stored) (sym c.deref-2.ensures.value) c.in_ok-orders.ensures)
+    c.in_ok-plan.ensures)))
 
 pub pages-requires : goal.pages-requires
 pages-requires g c = (
   c.in_ok-stored.ensures.finds.rows,
-  record {
-    can = can_build g.R.ByteSource c.args.schema.now c.args.rows.now c.read_rows.new.text c.in_ok-stored.stored c.in_default.ensures.table c.in_default.ensures.roots
-        c.in_ok-stored.ensures.finds
-        (c.in_ok-plan.ensures c.in_ok-stored.ensures.finds.rows
-        (are_stored g.R.ByteSource c.args.schema.now c.args.rows.now c.read_rows.new.text c.in_ok-stored.stored c.in_default.ensures.table c.in_default.ensures.roots
-        c.in_ok-stored.ensures.finds)).fits;
-    same = c.in_ok-stored.ensures.finds.same;
-    orders = subst (AreOrders c.args.schema.now c.in_ok-stored.stored) (sym c.deref-2.ensures.value)
-        c.in_ok-orders.ensures;
-    plan = c.in_ok-plan.ensures c.in_ok-stored.ensures.finds.rows
-        (are_stored g.R.ByteSource c.args.schema.now c.args.rows.now c.read_rows.new.text c.in_ok-stored.stored c.in_default.ensures.table c.in_default.ensures.roots
-        c.in_ok-stored.ensures.finds);
-  },
+  (is_space g.R.ByteSource _ c.args.rows.now c.read_rows.new.text c.in_default.ensures.table
+      c.in_default.ensures.roots c.in_ok-stored.ensures.finds
+      (subst (AreOrders c.args.schema.now c.in_ok-stored.stored) (sym c.deref-2.ensures.value) c.in_ok-orders.ensures)
+      c.in_ok-plan.ensures),
 )
 
 pub returns-clause-built : goal.returns-clause-built
 returns-clause-built g c =
-    all_put g.R.ByteSource c.args.schema.now c.args.rows.now c.read_rows.new.text c.in_ok-stored.stored c.in_default.ensures.table c.in_default.ensures.roots
+    all_put g.R.ByteSource c.args.schema.now c.args.rows.now c.read_rows.new.text c.in_ok-stored.stored
+    c.in_default.ensures.table c.in_default.ensures.roots
     c.in_ok-stored.ensures.finds
     (record { pages = c.pages.result; rows = c.count.result }) (g.T.PageStore.told c.args.store.now)
     (g.T.PageStore.told c.put.new.store)
     (c.in_ok-plan.ensures c.in_ok-stored.ensures.finds.rows
-    (are_stored g.R.ByteSource c.args.schema.now c.args.rows.now c.read_rows.new.text c.in_ok-stored.stored c.in_default.ensures.table c.in_default.ensures.roots
+    (are_stored g.R.ByteSource c.args.schema.now c.args.rows.now c.read_rows.new.text c.in_ok-stored.stored
+    c.in_default.ensures.table c.in_default.ensures.roots
     c.in_ok-stored.ensures.finds)).fits
     (c.in_ok-put.ensures c.in_ok-stored.ensures.finds.rows
-    record {
-      can = can_build g.R.ByteSource c.args.schema.now c.args.rows.now c.read_rows.new.text c.in_ok-stored.stored c.in_default.ensures.table c.in_default.ensures.roots
-          c.in_ok-stored.ensures.finds
-          (c.in_ok-plan.ensures c.in_ok-stored.ensures.finds.rows
-          (are_stored g.R.ByteSource c.args.schema.now c.args.rows.now c.read_rows.new.text c.in_ok-stored.stored c.in_default.ensures.table c.in_default.ensures.roots
-          c.in_ok-stored.ensures.finds)).fits;
-      same = c.in_ok-stored.ensures.finds.same;
-      orders = subst (AreOrders c.args.schema.now c.in_ok-stored.stored) (sym c.deref-2.ensures.value)
-          c.in_ok-orders.ensures;
-      plan = c.in_ok-plan.ensures c.in_ok-stored.ensures.finds.rows
-          (are_stored g.R.ByteSource c.args.schema.now c.args.rows.now c.read_rows.new.text c.in_ok-stored.stored c.in_default.ensures.table c.in_default.ensures.roots
-          c.in_ok-stored.ensures.finds);
-    }).leaves
+    (is_space g.R.ByteSource _ c.args.rows.now c.read_rows.new.text c.in_default.ensures.table
+    c.in_default.ensures.roots c.in_ok-stored.ensures.finds
+    (subst (AreOrders c.args.schema.now c.in_ok-stored.stored) (sym c.deref-2.ensures.value) c.in_ok-orders.ensures)
+    c.in_ok-plan.ensures)).leaves
     (c.pages.ensures c.in_ok-stored.ensures.finds.rows
-    record {
-      can = can_build g.R.ByteSource c.args.schema.now c.args.rows.now c.read_rows.new.text c.in_ok-stored.stored c.in_default.ensures.table c.in_default.ensures.roots
-          c.in_ok-stored.ensures.finds
-          (c.in_ok-plan.ensures c.in_ok-stored.ensures.finds.rows
-          (are_stored g.R.ByteSource c.args.schema.now c.args.rows.now c.read_rows.new.text c.in_ok-stored.stored c.in_default.ensures.table c.in_default.ensures.roots
-          c.in_ok-stored.ensures.finds)).fits;
-      same = c.in_ok-stored.ensures.finds.same;
-      orders = subst (AreOrders c.args.schema.now c.in_ok-stored.stored) (sym c.deref-2.ensures.value)
-          c.in_ok-orders.ensures;
-      plan = c.in_ok-plan.ensures c.in_ok-stored.ensures.finds.rows
-          (are_stored g.R.ByteSource c.args.schema.now c.args.rows.now c.read_rows.new.text c.in_ok-stored.stored c.in_default.ensures.table c.in_default.ensures.roots
-          c.in_ok-stored.ensures.finds);
-    })
+    (is_space g.R.ByteSource _ c.args.rows.now c.read_rows.new.text c.in_default.ensures.table
+    c.in_default.ensures.roots c.in_ok-stored.ensures.finds
+    (subst (AreOrders c.args.schema.now c.in_ok-stored.stored) (sym c.deref-2.ensures.value) c.in_ok-orders.ensures)
+    c.in_ok-plan.ensures))
     (c.count.ensures ∙ ap length c.in_ok-stored.ensures.finds.same
     ∙ stored_count c.args.schema.now c.in_ok-stored.ensures.finds.rows)
 
@@ -163,19 +115,10 @@ returns-clause-cause g c =
     (g.R.ByteSource.faults c.args.rows.now) (g.R.ByteSource.faults c.read_rows.new.text) c.in_ok-put.field-0
     (record { pages = c.pages.result; rows = c.count.result }) c.in_ok-stored.ensures.later
     (c.in_ok-put.ensures c.in_ok-stored.ensures.finds.rows
-    record {
-      can = can_build g.R.ByteSource c.args.schema.now c.args.rows.now c.read_rows.new.text c.in_ok-stored.stored c.in_default.ensures.table c.in_default.ensures.roots
-          c.in_ok-stored.ensures.finds
-          (c.in_ok-plan.ensures c.in_ok-stored.ensures.finds.rows
-          (are_stored g.R.ByteSource c.args.schema.now c.args.rows.now c.read_rows.new.text c.in_ok-stored.stored c.in_default.ensures.table c.in_default.ensures.roots
-          c.in_ok-stored.ensures.finds)).fits;
-      same = c.in_ok-stored.ensures.finds.same;
-      orders = subst (AreOrders c.args.schema.now c.in_ok-stored.stored) (sym c.deref-2.ensures.value)
-          c.in_ok-orders.ensures;
-      plan = c.in_ok-plan.ensures c.in_ok-stored.ensures.finds.rows
-          (are_stored g.R.ByteSource c.args.schema.now c.args.rows.now c.read_rows.new.text c.in_ok-stored.stored c.in_default.ensures.table c.in_default.ensures.roots
-          c.in_ok-stored.ensures.finds);
-    })
+    (is_space g.R.ByteSource _ c.args.rows.now c.read_rows.new.text c.in_default.ensures.table
+    c.in_default.ensures.roots c.in_ok-stored.ensures.finds
+    (subst (AreOrders c.args.schema.now c.in_ok-stored.stored) (sym c.deref-2.ensures.value) c.in_ok-orders.ensures)
+    c.in_ok-plan.ensures))
 
 pub returns-in_err-put-clause-untouched : goal.returns-in_err-put-clause-untouched
 returns-in_err-put-clause-untouched g c =

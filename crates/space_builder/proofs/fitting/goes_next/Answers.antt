@@ -3,7 +3,8 @@ use Rattle.column_values.specs.declared.field.Field.{Field}
 use Rattle.column_values.specs.Types.{Fields, field_at}
 use Rattle.schema_text.specs.declared.table.Format.{Format}
 use Rattle.row_layout.specs.StoredRow.{stored_at, going_length, going_lengths}
-use Rattle.space_builder.proofs.building.Longest.{longest_new, longest_old, length-going, going_at, goes_none, goes_some}
+use Rattle.space_builder.proofs.building.Longest.{longest_new, longest_old, length-going, going_at, goes_none}
+use Rattle.space_builder.proofs.building.Longest.{goes_some}
 use Rattle.space_builder.proofs.fitting.goes_next.Goals as goal
 use Rattle.space_builder.proofs.fitting.goes_next.Goals.{then-length-most, else-length-most}
 

@@ -48,10 +48,12 @@ returns-in_err-put_page g c =
     let spot = spot_is plan level c.from.result c.len.result (length starts) c.spot-spot.result c.spot-spot.ensures
     c.from.ensures len in
     let none : fits_more packing c.args.size ≡ false = sym c.fits.ensures ∙ c.if-fits.false in
-    subst (λ (fits : Bool). MakesRoom g.T.PageStore plan level c.args.k fits c.args.store.now c.put_page.new.store packing
+    subst (λ (fits : Bool). MakesRoom g.T.PageStore plan level c.args.k fits c.args.store.now c.put_page.new.store
+    packing
     c.put_page.new.room.packer starts starts c.from_residual.result) (sym none)
     (turn_failed g.T.PageStore plan level c.args.k c.args.store.now c.put_page.new.store packing
-    c.put_page.new.room.packer starts starts c.from_residual.result c.in_err-put_page.field-0.0 c.from_residual.ensures.1
+    c.put_page.new.room.packer starts starts c.from_residual.result c.in_err-put_page.field-0.0
+    c.from_residual.ensures.1
     (put_at_spot g.T.PageStore plan level c.args.store.now c.put_page.new.store packing starts c.spot-spot.result
     (Err c.in_err-put_page.field-0.0) spot c.in_err-put_page.ensures.puts))
 
@@ -66,7 +68,8 @@ returns-in_err-begin_page g c =
     c.from.ensures len in
     let none : fits_more packing c.args.size ≡ false = sym c.fits.ensures ∙ c.if-fits.false in
     let page = open_page plan level packing starts in
-    subst (λ (fits : Bool). MakesRoom g.T.PageStore plan level c.args.k fits c.args.store.now c.put_page.new.store packing
+    subst (λ (fits : Bool). MakesRoom g.T.PageStore plan level c.args.k fits c.args.store.now c.put_page.new.store
+    packing
     c.begin.new.self starts c.begin_page.new.starts.items c.from_residual-in_err-begin_page.result) (sym none)
     (turn_failed g.T.PageStore plan level c.args.k c.args.store.now c.put_page.new.store packing c.begin.new.self starts
     c.begin_page.new.starts.items c.from_residual-in_err-begin_page.result stops.Memory
@@ -86,7 +89,8 @@ returns g c =
     let spot = spot_is plan level c.from.result c.len.result (length starts) c.spot-spot.result c.spot-spot.ensures
     c.from.ensures len in
     let none : fits_more packing c.args.size ≡ false = sym c.fits.ensures ∙ c.if-fits.false in
-    subst (λ (fits : Bool). MakesRoom g.T.PageStore plan level c.args.k fits c.args.store.now c.put_page.new.store packing
+    subst (λ (fits : Bool). MakesRoom g.T.PageStore plan level c.args.k fits c.args.store.now c.put_page.new.store
+    packing
     c.begin.new.self starts c.begin_page.new.starts.items (Ok tt)) (sym none) record {
       puts = put_at_spot g.T.PageStore plan level c.args.store.now c.put_page.new.store packing starts
           c.spot-spot.result (Ok (tt {0})) spot c.in_ok-put_page.ensures.puts;

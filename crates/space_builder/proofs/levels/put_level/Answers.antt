@@ -107,7 +107,8 @@ loop-k-preserved g c =
     let made = subst (λ n. MakesRoom g.T.PageStore plan level k (fits_more packing n) c.loop-k.store new packing next
     starts more (Ok tt)) size c.in_ok-make_room.ensures in
     subst (λ (p : Packing). Stands g.T.PageStore plan level old new p entries more (k + 1)) (sym pushed)
-    (stands_next c.put_laws.ensures plan level entries c.requires.level g.T.PageStore old c.loop-k.store packing starts k
+    (stands_next c.put_laws.ensures plan level entries c.requires.level g.T.PageStore old c.loop-k.store packing starts
+    k
     c.loop-k.invariant below new next more mark c.is_minimum.ensures made)
 
 pub overflow_cast-len : goal.overflow_cast-len
@@ -156,9 +157,11 @@ returns-in_err-put_page-clause-puts g c =
     let len : c.len.result ≡ length starts = omega (arith, c.len.ensures, c.loop-k.starts.ok.0) in
     failed_as g.T.PageStore c.args.store.now c.put_page.new.store all c.from_residual-in_err-put_page.result stop
     c.from_residual-in_err-put_page.ensures.1
-    (stopped c.put_laws.ensures plan level entries c.requires.level g.T.PageStore c.args.store.now c.loop-k.store packing
+    (stopped c.put_laws.ensures plan level entries c.requires.level g.T.PageStore c.args.store.now c.loop-k.store
+    packing
     starts c.loop-k.k c.loop-k.invariant c.put_page.new.store stop
-    (put_at_spot g.T.PageStore plan level c.loop-k.store c.put_page.new.store packing starts c.spot-spot.result (Err stop)
+    (put_at_spot g.T.PageStore plan level c.loop-k.store c.put_page.new.store packing starts c.spot-spot.result
+    (Err stop)
     (spot_is plan level c.from-2.result c.len.result (length starts) c.spot-spot.result c.spot-spot.ensures
     c.from-2.ensures len) c.in_err-put_page.ensures.puts))
 
@@ -173,7 +176,8 @@ returns-clause-puts g c =
     let new = c.put_page.new.store in
     let len : c.len.result ≡ length starts = omega (arith, c.len.ensures, c.loop-k.starts.ok.0) in
     puts_all g.T.PageStore c.args.store.now new all c.loop-k.starts
-    (level_put c.put_laws.ensures plan level entries c.requires.level g.T.PageStore c.args.store.now c.loop-k.store packing
+    (level_put c.put_laws.ensures plan level entries c.requires.level g.T.PageStore c.args.store.now c.loop-k.store
+    packing
     starts c.loop-k.k c.loop-k.invariant new (omega (arith, c.loop-k-test.false, c.count-k-end.ensures))
     (all_put g.T.PageStore c.loop-k.store new (open_page plan level packing starts ∷ []) (tt {0})
     (put_at_spot g.T.PageStore plan level c.loop-k.store new packing starts c.spot-spot.result (Ok (tt {0}))

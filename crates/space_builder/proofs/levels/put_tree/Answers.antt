@@ -8,7 +8,8 @@ use Rattle.space_builder.specs.build.Puts.{PutsPages}
 use Rattle.space_builder.specs.build.Pointing.{pointing, pointer_at, PointInto}
 use Rattle.space_builder.specs.build.TreePlan.{fields_in, laid_pages, tree_pages, BeginAt, CanPutLevel}
 use Rattle.space_builder.proofs.Puts.{none_put, all_put, failed_as}
-use Rattle.space_builder.proofs.TreeRuns.{pointers_above, entries_above, height_is, some_level, some_levels, firsts_count}
+use Rattle.space_builder.proofs.TreeRuns.{pointers_above, entries_above, height_is, some_level, some_levels}
+use Rattle.space_builder.proofs.TreeRuns.{firsts_count}
 use Rattle.space_builder.proofs.TreeRuns.{into_leaves, upper_level, level_is, starts_point, leaves_are, level_behind}
 use Rattle.space_builder.proofs.TreeRuns.{level_stopped, memory_below, first_stands, next_stands, tree_put}
 use Rattle.space_builder.proofs.levels.put_tree.Goals as goal
@@ -186,7 +187,8 @@ loop-level-preserved g c =
     let entries = entries_above leaves c.keys-keys.result plan.node.now.keys c.deref-in-loop-level.result.now pointers
     c.new-above.result c.new-above.ensures c.keys-keys.ensures c.deref-in-loop-level.ensures.value in
     let pages = divided (fields_in plan level) (map (pointing plan.node.now.keys leaves) pointers) in
-    next_stands c.put_laws.ensures plan leaves c.requires.tree g.T.PageStore c.args.store.now (level - 1) firsts pointers
+    next_stands c.put_laws.ensures plan leaves c.requires.tree g.T.PageStore c.args.store.now (level - 1) firsts
+    pointers
     above level (omega arith) now new starts more c.loop-level.invariant.put
     (all_put g.T.PageStore now new (laid_pages plan level pages) c.in_ok-starts.starts
     (subst (λ (entries : List Entry). PutsPages g.T.PageStore now new

@@ -21,7 +21,8 @@ loop-rows-init g c =
 
 pub stop_behind-requires : goal.stop_behind-requires
 stop_behind-requires g c =
-    let few = reading_few g.R.ByteSource c.args.schema.now c.args.text.now c.loop-rows.text c.loop-rows.lines c.loop-rows.taken
+    let few = reading_few g.R.ByteSource c.args.schema.now c.args.text.now c.loop-rows.text c.loop-rows.lines
+    c.loop-rows.taken
     c.loop-rows.rows c.loop-rows.invariant.reading in
     omega (arith, few, c.count-count.ensures)
 
@@ -45,13 +46,15 @@ returns-in-Err g c =
 
 pub add_row-requires-clause-few : goal.add_row-requires-clause-few
 add_row-requires-clause-few g c =
-    let few = reading_few g.R.ByteSource c.args.schema.now c.args.text.now c.loop-rows.text c.loop-rows.lines c.loop-rows.taken
+    let few = reading_few g.R.ByteSource c.args.schema.now c.args.text.now c.loop-rows.text c.loop-rows.lines
+    c.loop-rows.taken
     c.loop-rows.rows c.loop-rows.invariant.reading in
     omega arith
 
 pub stop_behind-requires-in-Err-add_row : goal.stop_behind-requires-in-Err-add_row
 stop_behind-requires-in-Err-add_row g c =
-    let few = reading_few g.R.ByteSource c.args.schema.now c.args.text.now c.loop-rows.text c.loop-rows.lines c.loop-rows.taken
+    let few = reading_few g.R.ByteSource c.args.schema.now c.args.text.now c.loop-rows.text c.loop-rows.lines
+    c.loop-rows.taken
     c.loop-rows.rows c.loop-rows.invariant.reading in
     omega (arith, few, c.count-count.ensures)
 

@@ -42,7 +42,8 @@ returns-clause-keeps g c =
     let row = stored_in c.args.stored.now c.args.r in
     let pages = c.args.room.now.first_pages.items in
     let same : c.put_row.new.room.starts.items ≡ c.list_start.new.starts.items = c.put_row.ensures.starts in
-    let place : c.len-place.result ≡ length pages = omega (arith, c.len-place.ensures, c.args.room.now.first_pages.ok) in
+    let place : c.len-place.result ≡ length pages =
+    omega (arith, c.len-place.ensures, c.args.room.now.first_pages.ok) in
     ok_still c.put_row.result
     (c.put_row.new.room.first_pages.items
     ≡ pages ++ row_first_pages c.args.format c.args.sizes.now c.args.at row)

@@ -21,4 +21,5 @@ returns c =
     let f : ℕ → Part = clustered_part e.format (first_page_in e.starts.now e.first_pages.now) e.rows.now c.args.r in
     let all : c.loop-i.i ≡ c.args.count = omega (arith, c.loop-i-test.false, c.loop-i.auto.i-end) in
     c.loop-i.invariant ∙ ap (λ (n : ℕ). map f (range_with_len 0 n)) all
-    ∙ first_parts e.format (first_page_in e.starts.now e.first_pages.now) e.rows.now c.args.r c.args.count c.requires.count
+    ∙ first_parts e.format (first_page_in e.starts.now e.first_pages.now) e.rows.now c.args.r c.args.count
+    c.requires.count

@@ -9,7 +9,8 @@ loop-size-preserved g c =
     let found = c.feed_from-size-in-loop-size.ensures in
     record {
       place = place_on (left c.loop-size.text) (left c.read_on.new.text) c.loop-size.self c.read_on.new.self _ _
-          c.loop-size.size _ c.loop-size.invariant.place (c.loop-size-test.true ∙ ap length c.ahead-in-loop-size.ensures)
+          c.loop-size.size _ c.loop-size.invariant.place (c.loop-size-test.true ∙ ap length
+          c.ahead-in-loop-size.ensures)
           come c.ahead-in-loop-size-2.ensures found.within found.lacks found.feed;
       grew = grew_more (left c.args.text.now) (left c.loop-size.text) (left c.read_on.new.text) c.args.self.now
           c.loop-size.self c.read_on.new.self _ c.loop-size.invariant.grew come;

@@ -5,13 +5,15 @@ use Rattle.space_builder.proofs.row_fields.RowFields.send_off.Goals as goal
 
 pub index-requires : goal.index-requires
 index-requires c =
-    let within = within_spots c.self.inside.spots.items c.self.inside.bytes.items c.args.self.now c.args.i c.self.view_is
+    let within = within_spots c.self.inside.spots.items c.self.inside.bytes.items c.args.self.now c.args.i
+    c.self.view_is
     c.requires in
     omega (arith, c.self.inside.spots.ok.0)
 
 pub index_mut-requires : goal.index_mut-requires
 index_mut-requires c =
-    let within = within_spots c.self.inside.spots.items c.self.inside.bytes.items c.args.self.now c.args.i c.self.view_is
+    let within = within_spots c.self.inside.spots.items c.self.inside.bytes.items c.args.self.now c.args.i
+    c.self.view_is
     c.requires in
     omega (arith, c.self.inside.spots.ok.0)
 

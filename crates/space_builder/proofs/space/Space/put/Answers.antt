@@ -60,7 +60,8 @@ returns g c = λ rows is.
     head_ends c.laws_below.ensures c.args.self.now rows is g.T.PageStore c.args.store.now c.requires.fresh
     c.set_size.new.self c.pages.result (c.pages.ensures rows is) c.in_ok-set_size.ensures.cause.later
     c.put_behind_head.new.store c.put_head_page.new.store c.in_ok-put_behind_head.field-0
-    c.put_head_page.result c.in_ok-set_size.ensures.done.0 c.in_ok-set_size.ensures.done.1 (c.in_ok-put_behind_head.ensures rows is)
+    c.put_head_page.result c.in_ok-set_size.ensures.done.0 c.in_ok-set_size.ensures.done.1
+    (c.in_ok-put_behind_head.ensures rows is)
     c.put_head_page.ensures.memory
     (subst (λ (sizes : List ℕ). PutsPages g.T.PageStore c.put_behind_head.new.store c.put_head_page.new.store
     ((0, header_page sizes (flags_of c.args.self.now.schema.now.format)) ∷ []) c.put_head_page.result)
