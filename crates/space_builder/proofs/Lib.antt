@@ -18,4 +18,3 @@ pub mod Builds
 pub mod Outcomes
 pub mod SpaceSteps
 pub mod SpaceEnds
-pub mod BigRows

@@ -1,8 +1,6 @@
 //! Builds a tablespace.
 #![tactic(auto)]
 
-#[cfg(test)]
-mod build_tests;
 mod builder;
 mod built;
 mod clustered;
@@ -12,20 +10,14 @@ mod fitting;
 mod head_pages;
 pub mod laws;
 mod levels;
-#[cfg(test)]
-mod levels_tests;
 mod line_reader;
 mod next_row;
 mod order;
 mod places;
 mod plan;
 mod read_rows;
-#[cfg(test)]
-mod read_tests;
 mod row_fields;
 mod row_shape;
-#[cfg(test)]
-mod rows_tests;
 mod secondary;
 mod space;
 mod stored;

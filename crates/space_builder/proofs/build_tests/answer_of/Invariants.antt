@@ -1,4 +1,0 @@
-use Rattle.space_builder.proofs.build_tests.answer_of.Given as goal
-
-abbrev pub ghosts-build_in : goal.ghosts-build_in
-ghosts-build_in a = record { name = a.blank.name; parts = a.blank.parts }
