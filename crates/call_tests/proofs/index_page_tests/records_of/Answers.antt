@@ -1,7 +1,7 @@
 use Rattle.std.proofs.Common.{◌++◌, ℕ, List, [], ◌∷◌, All, refl}
 use Rattle.std.proofs.lemmas.List.Elements.{All-nil, All-cons, All-head, All-tail}
 use Rattle.compact_record.specs.Reading.{IsSpelled}
-use Rattle.index_page.specs.Header.{records_of, free_of}
+use Rattle.index_page.specs.Header.{records_of}
 use Rattle.call_tests.proofs.index_page_tests.records_of.Goals as goal
 
 -- what holds of two lists together holds of the first
@@ -13,4 +13,4 @@ pub of-requires-clause-spelled : goal.of-requires-clause-spelled
 of-requires-clause-spelled g c =
     let page = c.args.page.now in
     let is = c.in-None.ensures.sound.0 refl in
-    front (λ o. IsSpelled page o c.args.fields.now) (records_of page) (free_of page) is.spelled
+    front (λ o. IsSpelled page o c.args.fields.now) (records_of page) is.free is.spelled
