@@ -25,16 +25,16 @@ use Rattle.space_audit.proofs.Audited.{used_is}
 use Rattle.offpage_chain.specs.declared.reference.Reference.{Reference}
 use Rattle.offpage_chain.specs.Reference.{reference_of}
 use Rattle.offpage_chain.specs.Chain.{chain_pages}
-use Rattle.offpage_chain.specs.ChainChecks.{PartCheck, ChainChecksBy, ChainChecks}
+use Rattle.offpage_chain.specs.ChainChecks.{AuditedPlace, UnauditedPlace, PartCheck, ChainChecksBy, ChainChecks}
 use Rattle.tree_walk.specs.Index.{Index, page_in, fields_on, root_level, index_id, pages_at}
 use Rattle.tree_walk.specs.Place.{NodeAt}
 use Rattle.tree_walk.specs.Descent.{spot_on, Bounded, IsNode, IsTree}
 use Rattle.tree_walk.specs.Laws.{IsOwnPage}
 use Rattle.table_check.specs.Values.{bytes_at, IsTextBehind, ValueChecks, FieldChecks, RecordChecks, pages_of_part}
+use Rattle.table_check.specs.Values.{ValueChecksBy, FieldChecksBy, RecordChecksBy}
 use Rattle.table_check.specs.Valid.{HasWholeTree}
 use Rattle.key_lookup.specs.Path.{way}
-use Rattle.key_lookup.specs.GetFirst.{WayChecksAt, WayChecks, AllWayChecks, FoundPartCheck, FoundChainChecks}
-use Rattle.key_lookup.specs.GetFirst.{FoundValueChecks, FoundFieldChecks, FoundRecordChecks}
+use Rattle.key_lookup.specs.GetFirst.{WayChecksAt, WayChecks, AllWayChecks, FoundRecordChecks}
 use Rattle.key_lookup.proofs.Between.{HasOneKind}
 use Rattle.key_lookup.proofs.Ways.{tree_at, page_at}
 
@@ -117,8 +117,8 @@ unseen_less taken less list n h e = by_flag (taken n) refl e
 module _ (file : List ℕ) (flags segment leaf : ℕ) (sound : IsSoundSpace file flags) where
   -- a page of a chain passes here where it passes there
   part_check : (holder : ℕ) (reference : Reference) (taken less : ℕ → Bool) (before : List ℕ) (n : ℕ)
-      → (taken n ≡ false → less n ≡ false) → PartCheck file segment holder reference taken before n None
-      → FoundPartCheck file holder reference less before n None
+      → (taken n ≡ false → less n ≡ false) → PartCheck file (AuditedPlace file segment) holder reference taken before n None
+      → PartCheck file (UnauditedPlace file) holder reference less before n None
   part_check holder reference taken less before n h c = (
     (
       record { below = c.0.blob.below; new = unseen_less taken less before n h c.0.new },
@@ -131,7 +131,7 @@ module _ (file : List ℕ) (flags segment leaf : ℕ) (sound : IsSoundSpace file
   chain_checks : (reference : Reference) (taken less : ℕ → Bool) (IsText : List ℕ → Type 0)
       → ((n : ℕ) → taken n ≡ false → less n ≡ false)
       → ChainChecks file segment leaf reference taken IsText None
-      → FoundChainChecks file leaf reference less IsText None
+      → ChainChecksBy file (UnauditedPlace file) leaf reference less IsText None
   unfolding ChainChecksBy
   chain_checks reference taken less IsText h c = (
     c.0,
@@ -147,14 +147,14 @@ module _ (file : List ℕ) (flags segment leaf : ℕ) (sound : IsSoundSpace file
 
   value_checks : (kind : ColumnType) (local : List ℕ) (external : Bool) (taken less : ℕ → Bool)
       → ((n : ℕ) → taken n ≡ false → less n ≡ false) → ValueChecks file segment leaf kind local external taken None
-      → FoundValueChecks file leaf kind local external less None
+      → ValueChecksBy file (UnauditedPlace file) leaf kind local external less None
   value_checks kind local false taken less h c = c
   value_checks kind local true taken less h c =
       (c.0, chain_checks (reference_of local) taken less (IsTextBehind kind local) h c.1)
 
   field_checks : (kind : FieldType) (page : List ℕ) (place : Place) (taken less : ℕ → Bool)
       → ((n : ℕ) → taken n ≡ false → less n ≡ false) → FieldChecks file segment leaf kind page place taken None
-      → FoundFieldChecks file leaf kind page place less None
+      → FieldChecksBy file (UnauditedPlace file) leaf kind page place less None
   field_checks (Column kind) page place taken less h c =
       λ e. value_checks kind (bytes_at page place) place.external taken less h (c e)
   field_checks RowId page place taken less h c = tt
@@ -166,7 +166,7 @@ module _ (file : List ℕ) (flags segment leaf : ℕ) (sound : IsSoundSpace file
   pub record_checks : (page : List ℕ) (origin : ℕ) (fields : Fields) (taken : ℕ → Bool)
       → RecordChecks file segment leaf page origin fields taken None
       → FoundRecordChecks file leaf page origin fields (λ n. false) None
-  unfolding RecordChecks FoundRecordChecks
+  unfolding RecordChecksBy
   record_checks page origin fields taken c i m =
       let part = pages_of_part file page origin fields i in
       field_checks (field_at fields i).kind page (place_of page origin fields i) (seen taken part)

@@ -3,12 +3,6 @@ mod Chosen
 mod Found
 mod Kids
 mod OnWay
-mod Alongs
-mod Stages
-mod ValueStages
-mod RecordSteps
-mod RecordMarks
-mod Places
 mod LookUps
 mod Readable
 mod Finds

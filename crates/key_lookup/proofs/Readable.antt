@@ -22,20 +22,20 @@ use Rattle.space_audit.specs.Marks.{seen}
 use Rattle.offpage_chain.specs.declared.reference.Reference.{Reference}
 use Rattle.offpage_chain.specs.Reference.{reference_of}
 use Rattle.offpage_chain.specs.Chain.{part_length, next_part, pages_from, chain_pages, bytes_on, total_on}
-use Rattle.offpage_chain.specs.ChainChecks.{ChainChecksBy, IsChainPart}
+use Rattle.offpage_chain.specs.ChainChecks.{UnauditedPlace, PartCheck, ChainChecksBy, IsChainPart}
 use Rattle.offpage_chain.specs.Reader.{GoesOn}
 use Rattle.row_text.specs.Writer.{is_long}
 use Rattle.schema_text.specs.TableDef.{TableDef, column_at}
 use Rattle.schema_text.specs.Grammar.{IsTable}
 use Rattle.schema_text.specs.IndexFields.{field_of_column, leaf_fields}
 use Rattle.table_check.specs.Values.{bytes_at, front_of, FitsKind, IsTextBehind, pages_of_part, pages_of_record}
+use Rattle.table_check.specs.Values.{ValueChecksBy, FieldChecksBy, RecordChecksBy}
 use Rattle.sql_dump.specs.Long.{chain_bytes, stated_length}
 use Rattle.sql_dump.specs.Cells.{IsWholeLong, ReadsValue, ReadsRow, CanReadRow, row_on, cell_of_column}
 use Rattle.schema_text.proofs.ColumnFields.{holds_column}
 use Rattle.sql_dump.proofs.RowPages.{place_is, columns_within}
 use Rattle.sql_dump.proofs.Soundness.{bytes_due, long_spells, external_is_long, values_up_to}
 use Rattle.key_lookup.specs.Record.{HasFoundValue}
-use Rattle.key_lookup.specs.GetFirst.{FoundPartCheck, FoundChainChecks, FoundValueChecks, FoundFieldChecks}
 use Rattle.key_lookup.specs.GetFirst.{FoundRecordChecks}
 
 total_more : (file before : List ℕ) (n : ℕ)
@@ -51,14 +51,14 @@ unfolding total_on
 no_total file = refl
 
 module _ (file : List ℕ) (size : size_of file ≤ page_count file) (holder : ℕ) (reference : Reference) (taken : ℕ → Bool)
-    (checks : AllBefore (chain_pages file reference) (FoundPartCheck file holder reference taken)
+    (checks : AllBefore (chain_pages file reference) (PartCheck file (UnauditedPlace file) holder reference taken)
     (length (chain_pages file reference))) where
   abbrev pages : List ℕ
   pages = chain_pages file reference
 
   -- the check of the page behind these ones
   check_at : (before rest : List ℕ) (n : ℕ) → pages ≡ before ++ n ∷ rest
-      → FoundPartCheck file holder reference taken before n None
+      → PartCheck file (UnauditedPlace file) holder reference taken before n None
   check_at before rest n split =
       let within : length before < length pages = omega (arith, ap length split, length-append before (n ∷ rest)) in
       let check = checks (length before) 0 within in
@@ -66,9 +66,9 @@ module _ (file : List ℕ) (size : size_of file ≤ page_count file) (holder : �
       ap (take (length before)) split ∙ take-append_seam before (n ∷ rest) in
       let page : get_or pages (length before) 0 ≡ n =
       ap (λ (t : List ℕ). get_or t (length before) 0) split ∙ get_or-append_seam before n rest 0 in
-      let one = subst (λ (b : List ℕ). FoundPartCheck file holder reference taken b (get_or pages (length before) 0)
+      let one = subst (λ (b : List ℕ). PartCheck file (UnauditedPlace file) holder reference taken b (get_or pages (length before) 0)
       None) front check in
-      subst (λ (m : ℕ). FoundPartCheck file holder reference taken before m None) page one
+      subst (λ (m : ℕ). PartCheck file (UnauditedPlace file) holder reference taken before m None) page one
 
   goes_from : (fuel n left : ℕ) (before : List ℕ) → pages ≡ before ++ pages_from file fuel n left
       → total_on file before + left ≡ reference.length → left ≤ fuel → GoesOn file n left (pages_from file fuel n left)
@@ -99,7 +99,7 @@ module _ (file : List ℕ) (size : size_of file ≤ page_count file) (holder : �
 module _ (file : List ℕ) (size : size_of file ≤ page_count file) (leaf : ℕ) (kind : ColumnType) where
   -- a value that goes on elsewhere and whose checks hold
   module _ (local : List ℕ) (taken : ℕ → Bool) (long : is_long kind ≡ true)
-      (checks : FoundValueChecks file leaf kind local true taken None) where
+      (checks : ValueChecksBy file (UnauditedPlace file) leaf kind local true taken None) where
     abbrev reference : Reference
     reference = reference_of local
 
@@ -135,13 +135,13 @@ module _ (file : List ℕ) (size : size_of file ≤ page_count file) (leaf : ℕ
   -- the value of a place whose checks hold
   module _ (page : List ℕ) (place : Place) (taken : ℕ → Bool) (long : place.external ≡ true → is_long kind ≡ true)
       (checks : place.null ≡ false
-      → FoundValueChecks file leaf kind (bytes_at page place) place.external taken None) where
+      → ValueChecksBy file (UnauditedPlace file) leaf kind (bytes_at page place) place.external taken None) where
     away : (e : place.external ≡ true) → place.null ≡ false
-        → FoundValueChecks file leaf kind (bytes_at page place) true taken None
-    away e some = subst (λ (x : Bool). FoundValueChecks file leaf kind (bytes_at page place) x taken None) e (checks some)
+        → ValueChecksBy file (UnauditedPlace file) leaf kind (bytes_at page place) true taken None
+    away e some = subst (λ (x : Bool). ValueChecksBy file (UnauditedPlace file) leaf kind (bytes_at page place) x taken None) e (checks some)
 
     here : (e : place.external ≡ false) → place.null ≡ false → IsSpelling kind (bytes_at page place)
-    here e some = subst (λ (x : Bool). FoundValueChecks file leaf kind (bytes_at page place) x taken None) e (checks some)
+    here e some = subst (λ (x : Bool). ValueChecksBy file (UnauditedPlace file) leaf kind (bytes_at page place) x taken None) e (checks some)
 
     -- what is found there can be read
     pub reads : (value : Value) → HasFoundValue file kind page place value
@@ -206,11 +206,11 @@ module _ (file : List ℕ) (size : size_of file ≤ page_count file) (table : Ta
   before c = seen taken (pages_of_part file page origin fields (field_of_column table c))
 
   column_checks : (c : ℕ) → c < length table.columns
-      → FoundFieldChecks file leaf (Column (column_at table c).kind) page (place c) (before c) None
-  unfolding FoundRecordChecks
+      → FieldChecksBy file (UnauditedPlace file) leaf (Column (column_at table c).kind) page (place c) (before c) None
+  unfolding RecordChecksBy
   column_checks c within =
       let holds = holds_column table c is within in
-      subst (λ (k : FieldType). FoundFieldChecks file leaf k page (place c) (before c) None) holds.kind
+      subst (λ (k : FieldType). FieldChecksBy file (UnauditedPlace file) leaf k page (place c) (before c) None) holds.kind
       (checks (field_of_column table c) holds.inside)
 
   column_long : (c : ℕ) → c < length table.columns → (place c).external ≡ true

@@ -20,7 +20,8 @@ use Rattle.tree_walk.specs.Descent.{spot_on, bounded_root}
 use Rattle.index_page.specs.Header.{level_of, index_id_of}
 use Rattle.key_lookup.specs.declared.way.Due.{Due}
 use Rattle.key_lookup.specs.Path.{way}
-use Rattle.key_lookup.specs.GetFirst.{FramedChecks, way_fault, WayChecks, AllWayChecks}
+use Rattle.offpage_chain.specs.Fetched.{FramedChecks}
+use Rattle.key_lookup.specs.GetFirst.{way_fault, WayChecks, AllWayChecks}
 use Rattle.key_lookup.specs.Way.{spot_due, IsDue, PageInHand}
 
 -- the size that a header states is that of its file

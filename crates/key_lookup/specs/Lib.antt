@@ -7,8 +7,6 @@ pub mod Tree
 pub mod Choice
 pub mod Leaf
 pub mod Way
-pub mod ChainSteps
-pub mod Values
 pub mod KeyOfText
 pub mod Get
 pub mod Stops

@@ -10,20 +10,7 @@ use crate::key::SearchKey;
 use column_values::FieldList;
 use compact_record::{Located, deleted, next_origin};
 use page_source::Page;
-use space_header::SpaceHeader;
 use std::cmp::Ordering;
-
-/// The leaf where a key belongs.
-#[derive(Clone, Copy)]
-pub(crate) struct Leaf<'a> {
-    /// The header of its space.
-    pub header: &'a SpaceHeader,
-    /// The fields of its records.
-    pub fields: &'a FieldList,
-    /// The number of its page.
-    pub number: u32,
-    pub page: &'a Page,
-}
 
 /// Whether the record at an origin, which was read, has the key and no delete mark.
 fn is_sought(key: &SearchKey, page: &Page, fields: &FieldList, located: &Located, at: usize) -> bool

@@ -2,20 +2,16 @@
 #![tactic(auto)]
 
 mod by_key;
-mod chain;
 mod choose;
-mod fetch;
 mod find;
 mod key;
 mod key_text;
 pub mod laws;
 mod leaf;
 mod look_up;
-mod record;
 mod room;
 mod stop;
 mod tree;
-mod value;
 mod way;
 
 pub use by_key::get;

@@ -15,13 +15,14 @@ ghost use Rattle.key_lookup.specs.Tree.{OfIndex, IsReady};
 ghost use Rattle.key_lookup.specs.LookUp.{IsFound, pages_found};
 
 use crate::key::SearchKey;
-use crate::leaf::{Leaf, find_row};
-use crate::record::check_record;
+use crate::leaf::find_row;
 use crate::tree::Tree;
 use crate::way::find_leaf;
+use offpage_chain::ChainPages;
 use page_source::{Halt, Page, PageSource, Steps};
 use space_audit::Marks;
 use std::sync::ledger::Ledger;
+use table_check::{RowLeaf, check_row_values};
 use tree_walk::Walk;
 
 /// The row with a key: the number of its leaf, its origin there, and how many pages its values go on in.
@@ -64,13 +65,15 @@ pub(crate) fn look_up<S: PageSource, L: Ledger>(
         return Ok(None);
     };
     walk.first.again(&walk.child, origin, tree.leaf);
-    let leaf = Leaf {
-        header: tree.header,
+    let leaf = RowLeaf {
+        pages: ChainPages::Unaudited {
+            header: tree.header,
+        },
         fields: tree.leaf,
         number,
         page: &walk.child,
     };
-    let pages = check_record(source, &leaf, &walk.first, marks, page, steps)?;
+    let pages = check_row_values(source, &leaf, &walk.first, marks, page, steps)?;
     Ok(Some(Found {
         number,
         origin,

@@ -21,12 +21,12 @@ ghost use Rattle.key_lookup.specs.Choice.{IsLast};
 ghost use Rattle.key_lookup.specs.Way.{IsDue, PageInHand, IsHeldNode, IsOnWay, spot_due, high_held, high_behind};
 
 use crate::choose::{Chosen, choose};
-use crate::fetch::fetch_framed;
 use crate::key::SearchKey;
 use crate::tree::Tree;
 use column_values::FieldList;
 use compact_record::next_origin;
 use fil_frame::kinds::FIL_PAGE_INDEX;
+use offpage_chain::fetch_framed;
 use page_source::{FIL_NULL, Fault, Halt, PageSource, Rule, Steps, read_be};
 use std::mem;
 use std::sync::ledger::Ledger;

@@ -17,10 +17,10 @@ use Rattle.page_source.specs.Verdict.{AllBefore, EachOf}
 use Rattle.column_values.specs.Utf8Reader.{Reader, IsFed}
 use Rattle.space_audit.specs.Marks.{is_set, seen, Marked}
 use Rattle.offpage_chain.specs.declared.check.Chain.{Chain}
-use Rattle.offpage_chain.specs.declared.check.Due.{Due}
+use Rattle.offpage_chain.specs.declared.pages.Due.{Due}
 use Rattle.offpage_chain.specs.Chain.{part_length, next_part, part_bytes, pages_from, chain_pages, bytes_on, total_on}
-use Rattle.offpage_chain.specs.ChainChecks.{IsChainPart, PageCheck, PartCheck}
-use Rattle.offpage_chain.specs.CheckSteps.{pages_in, first_due, DueCheck}
+use Rattle.offpage_chain.specs.ChainChecks.{PlaceChecks, IsChainPart, PageCheck, PartCheck}
+use Rattle.offpage_chain.specs.CheckSteps.{PlaceIn, pages_in, first_due, DueCheck}
 
 -- the checks of the pages of a chain
 pub record Walk : Type 0 where
@@ -34,8 +34,12 @@ walk_of file chain marks = record { file = file; chain = chain; taken = is_set m
 abbrev pub all_pages : Walk → List ℕ
 all_pages w = pages_in w.file w.chain
 
+-- what is asked of a page
+abbrev pub place : Walk → PlaceChecks
+place w = PlaceIn w.file w.chain.pages
+
 abbrev pub Checks : Walk → List ℕ → ℕ → Option Fault → Type 0
-Checks w = PartCheck w.file w.chain.segment w.chain.holder w.chain.reference.now w.taken
+Checks w = PartCheck w.file (place w) w.chain.holder w.chain.reference.now w.taken
 
 -- some pages held, and then one is due
 pub record IsAlong (w : Walk) (marks : List Bool) (old text : Reader) (due : Due) (count : ℕ) : Type 0 where
@@ -121,10 +125,10 @@ at_place w marks old text due count v a some check d =
     (length a.before) d ≡ due.page = ap (λ (t : List ℕ). get_or t (length a.before) d) split
     ∙ get_or-append_seam a.before due.page rest d in
     let lacks : due.left ≡ w.chain.reference.now.length - total_on w.file a.before = omega (arith, a.total) in
-    let one = subst (λ (h : ℕ). PageCheck w.file w.chain.segment h (is_set marks due.page) due.left due.page v) a.holder_is check in
-    let two = subst (λ (t : Bool). PageCheck w.file w.chain.segment (before_place w.chain.holder a.before
+    let one = subst (λ (h : ℕ). PageCheck w.file (place w) h (is_set marks due.page) due.left due.page v) a.holder_is check in
+    let two = subst (λ (t : Bool). PageCheck w.file (place w) (before_place w.chain.holder a.before
     (length a.before)) t due.left due.page v) (a.marked due.page) one in
-    let three = subst (λ (l : ℕ). PageCheck w.file w.chain.segment (before_place w.chain.holder a.before (length a.before))
+    let three = subst (λ (l : ℕ). PageCheck w.file (place w) (before_place w.chain.holder a.before (length a.before))
     (seen w.taken a.before due.page) l due.page v) lacks two in
     rw (front, page) three
 
@@ -135,6 +139,11 @@ within w marks old text due count a some =
     let rest = pages_from w.file here.0 (next_part (page_of w.file due.page)) (due.left - part_length (page_of w.file due.page)) in
     let split : all_pages w ≡ a.before ++ due.page ∷ rest = a.split ∙ ap (λ (t : List ℕ). a.before ++ t) here.2 in
     omega (arith, ap length split, length-append a.before (due.page ∷ rest))
+
+-- there is one page more than those that held
+pub along_within : (w : Walk) (marks : List Bool) (old text : Reader) (due : Due) (count : ℕ)
+    → IsAlong w marks old text due count → 0 < due.left → count < length (all_pages w)
+along_within w marks old text due count a some = omega (arith, within w marks old text due count a some, a.counted)
 
 -- the page at hand is the first that breaks
 pub along_breaks : (w : Walk) (marks : List Bool) (old text : Reader) (due : Due) (count : ℕ) (fault : Fault)

@@ -3,6 +3,7 @@ mod Rests
 mod Alongs
 pub mod Feeds
 mod Stages
+mod Places
 mod Links
 mod Whole
 mod Writes

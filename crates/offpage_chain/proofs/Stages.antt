@@ -8,49 +8,49 @@ use Rattle.page_source.specs.Verdict.{EachOf}
 use Rattle.column_values.specs.Utf8Reader.{Reader, WasFed, TakesText, IsFed}
 use Rattle.offpage_chain.specs.declared.reference.Reference.{Reference}
 use Rattle.offpage_chain.specs.Chain.{chain_pages, bytes_on, RefersHere}
-use Rattle.offpage_chain.specs.ChainChecks.{ChainChecks, ChainChecksBy, PartCheck}
+use Rattle.offpage_chain.specs.ChainChecks.{PlaceChecks, ChainChecksBy, PartCheck}
 
 -- no byte is stated
-pub chain_empty : (file : List ℕ) (segment holder : ℕ) (reference : Reference) (taken : ℕ → Bool) (IsText : List ℕ
+pub chain_empty : (file : List ℕ) (Ask : PlaceChecks) (holder : ℕ) (reference : Reference) (taken : ℕ → Bool) (IsText : List ℕ
     → Type 0)
     → reference.length ≡ 0
-    → ChainChecks file segment holder reference taken IsText (Some (record { rule = ChainLength; page = holder }))
+    → ChainChecksBy file Ask holder reference taken IsText (Some (record { rule = ChainLength; page = holder }))
 unfolding ChainChecksBy
-chain_empty file segment holder reference taken IsText none = inl ((λ some. omega (arith, none, some)), refl)
+chain_empty file Ask holder reference taken IsText none = inl ((λ some. omega (arith, none, some)), refl)
 
 -- the reference leads elsewhere
-pub chain_elsewhere : (file : List ℕ) (segment holder : ℕ) (reference : Reference) (taken : ℕ
+pub chain_elsewhere : (file : List ℕ) (Ask : PlaceChecks) (holder : ℕ) (reference : Reference) (taken : ℕ
     → Bool) (IsText : List ℕ → Type 0)
     → 1 ≤ reference.length → ¬ (RefersHere file reference)
-    → ChainChecks file segment holder reference taken IsText (Some (record { rule = ChainPlace; page = holder }))
+    → ChainChecksBy file Ask holder reference taken IsText (Some (record { rule = ChainPlace; page = holder }))
 unfolding ChainChecksBy
-chain_elsewhere file segment holder reference taken IsText some elsewhere = inr (some, inl (elsewhere, refl))
+chain_elsewhere file Ask holder reference taken IsText some elsewhere = inr (some, inl (elsewhere, refl))
 
 -- a page breaks
-pub chain_halts : (file : List ℕ) (segment holder : ℕ) (reference : Reference) (taken : ℕ → Bool) (IsText : List ℕ
+pub chain_halts : (file : List ℕ) (Ask : PlaceChecks) (holder : ℕ) (reference : Reference) (taken : ℕ → Bool) (IsText : List ℕ
     → Type 0) (halt : Halt)
     → 1 ≤ reference.length → RefersHere file reference
-    → HaltsAt halt (EachOf (chain_pages file reference) (PartCheck file segment holder reference taken))
-    → HaltsAt halt (ChainChecks file segment holder reference taken IsText)
+    → HaltsAt halt (EachOf (chain_pages file reference) (PartCheck file Ask holder reference taken))
+    → HaltsAt halt (ChainChecksBy file Ask holder reference taken IsText)
 unfolding ChainChecksBy
-chain_halts file segment holder reference taken IsText (Broken fault) some here breaks = inr (
+chain_halts file Ask holder reference taken IsText (Broken fault) some here breaks = inr (
   some,
   inr (
     here,
     inl breaks,
   ),
 )
-chain_halts file segment holder reference taken IsText Source some here breaks = tt
+chain_halts file Ask holder reference taken IsText Source some here breaks = tt
 
 -- no page breaks, and then the text decides
-pub chain_untold : (file : List ℕ) (segment holder : ℕ) (reference : Reference) (taken : ℕ → Bool) (IsText : List ℕ
+pub chain_untold : (file : List ℕ) (Ask : PlaceChecks) (holder : ℕ) (reference : Reference) (taken : ℕ → Bool) (IsText : List ℕ
     → Type 0)
     → 1 ≤ reference.length → RefersHere file reference
-    → EachOf (chain_pages file reference) (PartCheck file segment holder reference taken) None
+    → EachOf (chain_pages file reference) (PartCheck file Ask holder reference taken) None
     → ¬ (IsText (bytes_on file (chain_pages file reference)))
-    → ChainChecks file segment holder reference taken IsText (Some (record { rule = TextSpelling; page = holder }))
+    → ChainChecksBy file Ask holder reference taken IsText (Some (record { rule = TextSpelling; page = holder }))
 unfolding ChainChecksBy
-chain_untold file segment holder reference taken IsText some here holds bad = inr (
+chain_untold file Ask holder reference taken IsText some here holds bad = inr (
   some,
   inr (
     here,
@@ -64,14 +64,14 @@ chain_untold file segment holder reference taken IsText some here holds bad = in
   ),
 )
 
-pub chain_holds : (file : List ℕ) (segment holder : ℕ) (reference : Reference) (taken : ℕ → Bool) (IsText : List ℕ
+pub chain_holds : (file : List ℕ) (Ask : PlaceChecks) (holder : ℕ) (reference : Reference) (taken : ℕ → Bool) (IsText : List ℕ
     → Type 0)
     → 1 ≤ reference.length → RefersHere file reference
-    → EachOf (chain_pages file reference) (PartCheck file segment holder reference taken) None
+    → EachOf (chain_pages file reference) (PartCheck file Ask holder reference taken) None
     → IsText (bytes_on file (chain_pages file reference))
-    → ChainChecks file segment holder reference taken IsText None
+    → ChainChecksBy file Ask holder reference taken IsText None
 unfolding ChainChecksBy
-chain_holds file segment holder reference taken IsText some here holds good = (some, (here, (holds, good)))
+chain_holds file Ask holder reference taken IsText some here holds good = (some, (here, (holds, good)))
 
 -- what the text says of the bytes that it was fed
 pub text_says : (old new : Reader) (fed bytes : List ℕ) (result : Bool) → IsFed old new bytes → WasFed old fed

@@ -10,7 +10,7 @@ use Rattle.space_header.specs.Header.{size_of}
 use Rattle.space_audit.specs.Marks.{is_in, seen}
 use Rattle.offpage_chain.specs.declared.reference.Reference.{Reference}
 use Rattle.offpage_chain.specs.Chain.{pages_from, chain_pages, bytes_on, total_on, IsBlobPage, IsChain}
-use Rattle.offpage_chain.specs.ChainChecks.{IsChainPart, PartCheck, ChainChecks, ChainChecksBy, IsWhole}
+use Rattle.offpage_chain.specs.ChainChecks.{AuditedPlace, IsChainPart, PartCheck, ChainChecks, ChainChecksBy, IsWhole}
 use Rattle.offpage_chain.specs.Reader.{GoesOn}
 use Rattle.offpage_chain.proofs.Links.{Links, met, links_pages, links_met, links_part, links_parts, links_total}
 use Rattle.offpage_chain.proofs.Links.{links_next, chain_links, links_go_on}
@@ -88,7 +88,7 @@ links_all file reference parts =
     (omega arith) parts
 
 pub holds_all : (file : List ℕ) (segment holder : ℕ) (reference : Reference) (taken : ℕ → Bool)
-    → EachOf (chain_pages file reference) (PartCheck file segment holder reference taken) None
+    → EachOf (chain_pages file reference) (PartCheck file (AuditedPlace file segment) holder reference taken) None
     → HoldsAll file segment holder reference taken
 holds_all file segment holder reference taken checks =
     let pages = chain_pages file reference in
@@ -106,7 +106,7 @@ holds_all file segment holder reference taken checks =
 
 pub all_hold : (file : List ℕ) (segment holder : ℕ) (reference : Reference) (taken : ℕ → Bool)
     → HoldsAll file segment holder reference taken
-    → EachOf (chain_pages file reference) (PartCheck file segment holder reference taken) None
+    → EachOf (chain_pages file reference) (PartCheck file (AuditedPlace file segment) holder reference taken) None
 all_hold file segment holder reference taken h j d l =
     let pages = chain_pages file reference in (
       record {

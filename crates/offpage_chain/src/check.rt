@@ -1,35 +1,29 @@
 //! The checks of a chain.
 
-ghost use Rattle.std.specs.Prelude.{◌≡◌, ◌+◌, ◌-◌, ◌*◌, ◌≤◌, ◌<◌, ◌++◌, ◌↔◌, ℕ, List, IsTrue, true, false, length};
-ghost use Rattle.std.specs.Prelude.{IfOk, OnOk};
-ghost use Rattle.page_source.specs.Pages.{page_of, page_count};
+ghost use Rattle.std.specs.Prelude.{◌≡◌, ◌+◌, ◌-◌, ◌*◌, ◌≤◌, ◌<◌, ◌++◌, ℕ, List, false, length, IfOk, OnOk};
+ghost use Rattle.page_source.specs.Pages.{page_of};
 ghost use Rattle.page_source.specs.Lists.{unmarked};
 ghost use Rattle.page_source.specs.Checks.{Halts};
 ghost use Rattle.page_source.specs.Calls.{OfFile, HaltsOver};
 ghost use Rattle.column_values.specs.Utf8Reader.{CountsUpTo, WasFed, TakesText, IsFed};
 ghost use Rattle.space_audit.specs.Space.{IsAuditOf};
 ghost use Rattle.space_audit.specs.Marks.{is_set, Marked};
-ghost use Rattle.offpage_chain.specs.Chain.{chain_pages, part_length, bytes_on, RefersHere};
-ghost use Rattle.offpage_chain.specs.ChainChecks.{ChainChecks, IsChainPlace, IsChainPart};
-ghost use Rattle.offpage_chain.specs.CheckSteps.{IsReady, pages_in, first_due, DueCheck, PagesCheck};
+ghost use Rattle.offpage_chain.specs.Chain.{chain_pages, part_length, bytes_on};
+ghost use Rattle.offpage_chain.specs.ChainChecks.{ChainChecks, ChainChecksBy, IsChainPart};
+ghost use Rattle.offpage_chain.specs.CheckSteps.{CanCheck, PlaceIn, pages_in, first_due, DueCheck, PagesCheck};
 
+use crate::pages::{ChainPages, Due};
 use crate::part::{is_part, next_part, part_bytes, part_length};
 use crate::reference::Reference;
 use column_values::Utf8;
-use fil_frame::kinds::FIL_PAGE_TYPE_BLOB;
 use page_source::{Halt, Page, PageSource, Rule, Steps};
 use space_audit::{Marks, Space};
 use std::sync::ledger::Ledger;
 
-/// The first byte of a part's header on its page, which a reference names.
-const PART_HEADER: u32 = 38;
-
-/// The chain that is checked: its checked space, the segment of the clustered leaves, the leaf with the record, and
-/// the reference.
+/// The chain that is checked: the pages that it may go on at, the leaf with the record, and the reference.
 #[derive(Clone, Copy)]
 struct Chain<'a> {
-    space: &'a Space,
-    segment: u32,
+    pages: ChainPages<'a>,
     holder: u32,
     reference: &'a Reference,
 }
@@ -47,34 +41,6 @@ impl Chain<'_> {
     }
 }
 
-/// The page that is due: the one that leads to it, and how many bytes are left from it on.
-#[derive(Clone, Copy)]
-struct Due {
-    page: u32,
-    holder: u32,
-    left: u32,
-}
-
-/// Whether a chain may go on at a page: a new one of this type that the segment uses.
-fn is_place(space: &Space, segment: u32, marks: &Marks, n: u32) -> bool
-    requires { length marks.now ≡ space.now.size }
-    ensures place { (file : List ℕ) → IsAuditOf file space.now
-        → IsTrue result ↔ IsChainPlace file segment (is_set marks.now n) n }
-    ensures pages { (file : List ℕ) → IsAuditOf file space.now → result ≡ true → n < page_count file }
-    ensures within { result ≡ true → n < length marks.now }
-    ensures new { result ≡ true → is_set marks.now n ≡ false }
-{
-    let _size = space.size();
-    space.has_page(segment, FIL_PAGE_TYPE_BLOB, n) && !marks.has(n)
-}
-
-/// Whether a reference is to a page of the space.
-fn refers_here(space: &Space, reference: &Reference) -> bool
-    ensures { (file : List ℕ) → IsAuditOf file space.now → IsTrue result ↔ RefersHere file reference.now }
-{
-    reference.space == space.space_id() && reference.offset == PART_HEADER
-}
-
 /// Checks the page that is due, and gives the number of its bytes.
 fn check_page<S: PageSource, L: Ledger>(
     source: &mut S,
@@ -84,7 +50,7 @@ fn check_page<S: PageSource, L: Ledger>(
     page: &mut Page,
     steps: &mut Steps<L>,
 ) -> Result<u32, Halt>
-    requires ready { IsReady S.PageSource source.old chain.now marks.now }
+    requires ready { CanCheck S.PageSource source.old chain.now.pages marks.now }
     ensures exact { OfFile S.PageSource source.old (λ file.
         Halts result (DueCheck file chain.now (is_set marks.now) due)) }
     ensures page { OnOk result (OfFile S.PageSource source.old (λ file. page.new ≡ page_of file due.page)) }
@@ -94,10 +60,7 @@ fn check_page<S: PageSource, L: Ledger>(
     ensures cost { steps.new ≤ steps.old + 1 }
     ensures over { HaltsOver S.PageSource source.old source.new steps.old steps.new result }
 {
-    if !is_place(chain.space, chain.segment, marks, due.page) {
-        return Err(Halt::Broken(Rule::ChainPlace.at(due.holder)));
-    }
-    source.fetch(due.page, page, steps)?;
+    chain.pages.fetch(source, due, marks, page, steps)?;
     if !is_part(page, due.left) {
         return Err(Halt::Broken(Rule::ChainLength.at(due.page)));
     }
@@ -114,7 +77,7 @@ fn check_pages<S: PageSource, L: Ledger>(
     page: &mut Page,
     steps: &mut Steps<L>,
 ) -> Result<u32, Halt>
-    requires ready { IsReady S.PageSource source.old chain.now marks.old }
+    requires ready { CanCheck S.PageSource source.old chain.now.pages marks.old }
     requires count { CountsUpTo 16384 text.old }
     ensures exact { OfFile S.PageSource source.old (λ file.
         Halts result (PagesCheck file chain.now (is_set marks.old))) }
@@ -127,10 +90,11 @@ fn check_pages<S: PageSource, L: Ledger>(
     ensures members { length marks.new ≡ length marks.old }
     ensures cost { steps.new + unmarked marks.new ≤ steps.old + unmarked marks.old + 1 }
     ensures fewer { IfOk result (λ count. count + unmarked marks.new ≤ unmarked marks.old) }
+    ensures told { OfFile S.PageSource source.old (λ file.
+        steps.new ≤ steps.old + length (pages_in file chain.now)) }
     ensures spent { OnOk result (steps.new + unmarked marks.new ≤ steps.old + unmarked marks.old) }
     ensures over { HaltsOver S.PageSource source.old source.new steps.old steps.new result }
 {
-    let _size = chain.space.size();
     let mut due = chain.first();
     let mut count = 0;
     while due.left > 0 {
@@ -147,10 +111,57 @@ fn check_pages<S: PageSource, L: Ledger>(
     Ok(count)
 }
 
-/// Checks the chain of an externally stored field (btr0cur), marks its pages, and answers how many there are. `segment`
-/// is the one of the clustered leaves, `holder` the leaf with the record. `text` was fed the local bytes before the
-/// reference, and is fed those of the chain. `Broken` names the first broken one of the rules 48, 49 and 51, and the leaf
+/// Checks the chain of an externally stored field (btr0cur), marks its pages, and answers how many there are. `holder`
+/// is the leaf with the record. `text` was fed the local bytes before the reference, and is fed those of the chain.
+/// `Broken` names the first broken one of the rules 48, 49 and 51, in a space that wasn't audited also 25, and the leaf
 /// or the page of the chain that breaks it; `Source` comes where the file's count of faults rose.
+pub fn check_chain_in<S: PageSource, L: Ledger>(
+    source: &mut S,
+    pages: &ChainPages,
+    holder: u32,
+    reference: &Reference,
+    text: &mut Utf8,
+    marks: &mut Marks,
+    page: &mut Page,
+    steps: &mut Steps<L>,
+) -> Result<u32, Halt>
+    requires ready { CanCheck S.PageSource source.old pages.now marks.old }
+    requires count { CountsUpTo 16384 text.old }
+    ensures exact { OfFile S.PageSource source.old (λ file. (fed : List ℕ) → WasFed text.old fed
+        → Halts result (ChainChecksBy file (PlaceIn file pages.now) holder reference.now (is_set marks.old)
+        (λ bytes. TakesText text.old (fed ++ bytes)))) }
+    ensures count { IfOk result (λ count. OfFile S.PageSource source.old (λ file.
+        count ≡ length (chain_pages file reference.now))) }
+    ensures grew { OnOk result (OfFile S.PageSource source.old (λ file.
+        Marked (is_set marks.old) marks.new (chain_pages file reference.now))) }
+    ensures members { length marks.new ≡ length marks.old }
+    ensures cost { steps.new + unmarked marks.new ≤ steps.old + unmarked marks.old + 1 }
+    ensures fewer { IfOk result (λ count. count + unmarked marks.new ≤ unmarked marks.old) }
+    ensures told { OfFile S.PageSource source.old (λ file.
+        steps.new ≤ steps.old + length (chain_pages file reference.now)) }
+    ensures spent { OnOk result (steps.new + unmarked marks.new ≤ steps.old + unmarked marks.old) }
+    ensures over { HaltsOver S.PageSource source.old source.new steps.old steps.new result }
+{
+    if reference.length == 0 {
+        return Err(Halt::Broken(Rule::ChainLength.at(holder)));
+    }
+    if !pages.refers_here(reference) {
+        return Err(Halt::Broken(Rule::ChainPlace.at(holder)));
+    }
+    let chain = Chain {
+        pages: *pages,
+        holder,
+        reference,
+    };
+    let count = check_pages(source, &chain, text, marks, page, steps)?;
+    if !text.is_text() {
+        return Err(Halt::Broken(Rule::TextSpelling.at(holder)));
+    }
+    Ok(count)
+}
+
+/// Checks the chain of an externally stored field in an audited space, as `check_chain_in` does. `segment` is the one of
+/// the clustered leaves.
 pub fn check_chain<S: PageSource, L: Ledger>(
     source: &mut S,
     space: &Space,
@@ -178,21 +189,6 @@ pub fn check_chain<S: PageSource, L: Ledger>(
     ensures spent { OnOk result (steps.new + unmarked marks.new ≤ steps.old + unmarked marks.old) }
     ensures over { HaltsOver S.PageSource source.old source.new steps.old steps.new result }
 {
-    if reference.length == 0 {
-        return Err(Halt::Broken(Rule::ChainLength.at(holder)));
-    }
-    if !refers_here(space, reference) {
-        return Err(Halt::Broken(Rule::ChainPlace.at(holder)));
-    }
-    let chain = Chain {
-        space,
-        segment,
-        holder,
-        reference,
-    };
-    let count = check_pages(source, &chain, text, marks, page, steps)?;
-    if !text.is_text() {
-        return Err(Halt::Broken(Rule::TextSpelling.at(holder)));
-    }
-    Ok(count)
+    let pages = ChainPages::Audited { space, segment };
+    check_chain_in(source, &pages, holder, reference, text, marks, page, steps)
 }

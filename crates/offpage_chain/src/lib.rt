@@ -2,13 +2,17 @@
 #![tactic(auto)]
 
 mod check;
+mod fetch;
 pub mod laws;
+mod pages;
 pub mod part;
 mod reader;
 mod reference;
 mod write;
 
-pub use check::check_chain;
+pub use check::{check_chain, check_chain_in};
+pub use fetch::fetch_framed;
+pub use pages::ChainPages;
 pub use reader::ChainReader;
 pub use reference::{Reference, read_reference, write_reference};
 pub use write::write_chain;

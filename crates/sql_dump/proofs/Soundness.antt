@@ -34,7 +34,7 @@ use Rattle.tree_walk.specs.Leaf.{IsWalked}
 use Rattle.tree_walk.specs.Records.{IsRecord}
 use Rattle.tree_walk.specs.Laws.{RowsCanBeRead}
 use Rattle.table_check.specs.Trees.{clustered_tree, index_in}
-use Rattle.table_check.specs.Values.{bytes_at, front_of, ValueChecks, FieldChecks, RecordChecks, live_rows}
+use Rattle.table_check.specs.Values.{bytes_at, front_of, ValueChecks, FieldChecks, RecordChecks, RecordChecksBy, live_rows}
 use Rattle.table_check.specs.Values.{pages_of_part, pages_of_rows, RowChecks}
 use Rattle.table_check.specs.Rows.{IsWholeValue, HasValue, place_of_column, IsRow, AreRows}
 use Rattle.sql_dump.specs.Long.{chain_bytes, stated_length}
@@ -270,7 +270,7 @@ column_holds : (file : List ℕ) (table : TableDef) (row : Row) (taken : ℕ →
     row.page)
     row.origin (leaf_fields table 0) taken None
     → c < length table.columns → (value : Value) × ColumnHolds file table row c value
-unfolding RecordChecks index_in
+unfolding RecordChecksBy index_in
 column_holds file table row taken c is laws checks within =
     let fields = leaf_fields table 0 in
     let page = page_in (clustered_tree file table) row.page in

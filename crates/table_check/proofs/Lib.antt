@@ -9,7 +9,7 @@ mod RowMarks
 mod TreeSteps
 mod UnreachedSteps
 mod WholeSteps
-mod OneAnswer
+pub mod OneAnswer
 mod Validity
 mod NewPages
 mod TreesLaw

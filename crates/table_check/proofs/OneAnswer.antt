@@ -29,23 +29,24 @@ use Rattle.space_audit.specs.Audit.{HasFragmentCount, SlotCheck, SlotsCheck, Cou
 use Rattle.space_audit.specs.Audit.{UseChecks, FrameCheck, FrameChecks, OwnerChecks, AuditChecks}
 use Rattle.offpage_chain.specs.declared.reference.Reference.{Reference}
 use Rattle.offpage_chain.specs.Chain.{chain_pages}
-use Rattle.offpage_chain.specs.ChainChecks.{PartCheck, ChainChecksBy, ChainChecks}
+use Rattle.offpage_chain.specs.ChainChecks.{PlaceChecks, AuditedPlace, PartCheck, ChainChecksBy}
 use Rattle.tree_walk.specs.Index.{Index, Row}
+use Rattle.tree_walk.specs.Segments.{leaf_segment}
 use Rattle.tree_walk.specs.Place.{Spot, NodeAt, SpotAt}
 use Rattle.tree_walk.specs.TreeChecks.{TreeChecks}
 use Rattle.schema_text.specs.Formats.{flags_of}
 use Rattle.schema_text.specs.TableDef.{TableDef}
 use Rattle.table_check.specs.Trees.{index_in, index_count, pages_of_trees, segments_of_trees}
 use Rattle.table_check.specs.Trees.{IndexCheck, AllTreeChecks, NamedCheck, IsNamedIn, NamedChecks}
-use Rattle.table_check.specs.Values.{ValueChecks, FieldChecks, RecordChecks, RowCheck, RowChecks, live_rows}
+use Rattle.table_check.specs.Values.{ValueChecksBy, FieldChecksBy, RecordChecksBy, RowCheck, RowChecks, live_rows}
 use Rattle.table_check.specs.First.{TableTreeChecks, ValueChecksOf, UnreachedCheck, UnreachedChecks}
 use Rattle.table_check.specs.First.{TableValueChecks, TableChecks, First}
 
 -- one check, and one before others
-holds : (rule : Rule) (page : ℕ) (condition : Type 0) → IsUnique (Holds rule page condition)
+pub holds : (rule : Rule) (page : ℕ) (condition : Type 0) → IsUnique (Holds rule page condition)
 holds rule page condition = Check-unique _ condition
 
-before : {F : Type 0} (fault : F) (condition : Type 0) (rest : Option F → Type 0) → IsUnique rest
+pub before : {F : Type 0} (fault : F) (condition : Type 0) (rest : Option F → Type 0) → IsUnique rest
     → IsUnique (Then (Check fault condition) rest)
 before fault condition rest u = Then-unique _ rest (Check-unique fault condition) u
 
@@ -64,7 +65,7 @@ at_page n checks u (Some f) (Some g) p q =
     ap Some (fault_is f g (rule_of_some f.rule g.rule (u (Some f.rule) (Some g.rule) p.1 q.1)) (p.0 ∙ sym q.0))
 
 -- the space: its head, its descriptors and its inodes
-head_unique : (file : List ℕ) (flags : ℕ) → IsUnique (HeadChecks file flags)
+pub head_unique : (file : List ℕ) (flags : ℕ) → IsUnique (HeadChecks file flags)
 unfolding HeaderChecks
 head_unique file flags =
     before _ _ _ (before _ _ _ (before _ _ _ (before _ _ _ (before _ _ _ (before _ _ _ (holds _ _ _))))))
@@ -170,7 +171,7 @@ page_unique page fields leaf root leftmost =
     before _ _ _ (before _ _ _ (before _ _ _ (before _ _ _ (before _ _ _
     (before _ _ _ (before _ _ _ (before _ _ _ (before _ _ _ (before _ _ _ (Check-unique _ _))))))))))
 
-node_unique : (page : List ℕ) (fields : Fields) (spot : Spot) → IsUnique (NodeAt page fields spot)
+pub node_unique : (page : List ℕ) (fields : Fields) (spot : Spot) → IsUnique (NodeAt page fields spot)
 node_unique page fields spot =
     before _ _ _
     (Then-unique _ _ (at_page spot.page _ (page_unique page fields _ _ _)) (before _ _ _ (holds _ _ _)))
@@ -184,48 +185,50 @@ tree_unique index taken named =
     Then-unique _ _ (before _ _ _ (before _ _ _ (spot_unique _ _ _ _ _ _)))
     (Each-unique _ _ (λ depth. Each-unique _ _ (λ j. before _ _ _ (spot_unique _ _ _ _ _ _))))
 
+-- the values of a row, where the checks of each page that they may go on at have one answer
+module _ (file : List ℕ) (Ask : PlaceChecks)
+    (ask_unique : (holder : ℕ) (taken : Bool) (n : ℕ) → IsUnique (Ask holder taken n)) where
+  part_unique : (holder : ℕ) (reference : Reference) (taken : ℕ → Bool) (earlier : List ℕ) (n : ℕ)
+      → IsUnique (PartCheck file Ask holder reference taken earlier n)
+  part_unique holder reference taken earlier n = Then-unique _ _ (ask_unique _ _ n) (holds _ _ _)
+
+  chain_unique : (holder : ℕ) (reference : Reference) (taken : ℕ → Bool) (IsText : List ℕ → Type 0)
+      → IsUnique (ChainChecksBy file Ask holder reference taken IsText)
+  unfolding ChainChecksBy
+  chain_unique holder reference taken IsText =
+      Then-unique _ _ (holds _ _ _) (Then-unique _ _ (holds _ _ _)
+      (Then-unique _ _
+      (EachOf-unique (chain_pages file reference) (PartCheck file Ask holder reference taken)
+      (part_unique holder reference taken)) (holds _ _ _)))
+
+  value_unique : (leaf : ℕ) (kind : ColumnType) (local : List ℕ) (external : Bool) (taken : ℕ → Bool)
+      → IsUnique (ValueChecksBy file Ask leaf kind local external taken)
+  value_unique leaf kind local false taken = holds _ _ _
+  value_unique leaf kind local true taken = before _ _ _ (chain_unique leaf _ taken _)
+
+  field_unique : (leaf : ℕ) (kind : FieldType) (page : List ℕ) (place : Place) (taken : ℕ → Bool)
+      → IsUnique (FieldChecksBy file Ask leaf kind page place taken)
+  field_unique leaf (kinds.Column kind) page place taken =
+      Where-unique _ _ (value_unique leaf kind _ place.external taken)
+  field_unique leaf kinds.RowId page place taken = Clear-unique
+  field_unique leaf kinds.TrxId page place taken = Clear-unique
+  field_unique leaf kinds.RollPointer page place taken = Clear-unique
+  field_unique leaf kinds.Child page place taken = Clear-unique
+
+  pub record_unique : (leaf : ℕ) (page : List ℕ) (origin : ℕ) (fields : Fields) (taken : ℕ → Bool)
+      → IsUnique (RecordChecksBy file Ask leaf page origin fields taken)
+  unfolding RecordChecksBy
+  record_unique leaf page origin fields taken = Each-unique _ _ (λ i. field_unique leaf _ page _ _)
+
 -- the values of all rows
-part_unique : (file : List ℕ) (segment holder : ℕ) (reference : Reference) (taken : ℕ → Bool)
-    → (earlier : List ℕ) (n : ℕ) → IsUnique (PartCheck file segment holder reference taken earlier n)
-part_unique file segment holder reference taken earlier n = before _ _ _ (holds _ _ _)
-
-chain_by : (file : List ℕ) (holder : ℕ) (reference : Reference) (EachPage : List ℕ → ℕ → Option Fault → Type 0)
-    (IsText : List ℕ → Type 0) → ((earlier : List ℕ) (n : ℕ) → IsUnique (EachPage earlier n))
-    → IsUnique (ChainChecksBy file holder reference EachPage IsText)
-unfolding ChainChecksBy
-chain_by file holder reference EachPage IsText u =
-    Then-unique _ _ (holds _ _ _) (Then-unique _ _ (holds _ _ _)
-    (Then-unique _ _ (EachOf-unique (chain_pages file reference) EachPage u) (holds _ _ _)))
-
-chain_unique : (file : List ℕ) (segment holder : ℕ) (reference : Reference) (taken : ℕ → Bool)
-    (IsText : List ℕ → Type 0) → IsUnique (ChainChecks file segment holder reference taken IsText)
-chain_unique file segment holder reference taken IsText =
-    chain_by file holder reference (PartCheck file segment holder reference taken) IsText
-    (part_unique file segment holder reference taken)
-
-value_unique : (file : List ℕ) (segment leaf : ℕ) (kind : ColumnType) (local : List ℕ) (external : Bool)
-    (taken : ℕ → Bool) → IsUnique (ValueChecks file segment leaf kind local external taken)
-value_unique file segment leaf kind local false taken = holds _ _ _
-value_unique file segment leaf kind local true taken = before _ _ _ (chain_unique file segment leaf _ taken _)
-
-field_unique : (file : List ℕ) (segment leaf : ℕ) (kind : FieldType) (page : List ℕ) (place : Place) (taken : ℕ → Bool)
-    → IsUnique (FieldChecks file segment leaf kind page place taken)
-field_unique file segment leaf (kinds.Column kind) page place taken =
-    Where-unique _ _ (value_unique file segment leaf kind _ place.external taken)
-field_unique file segment leaf kinds.RowId page place taken = Clear-unique
-field_unique file segment leaf kinds.TrxId page place taken = Clear-unique
-field_unique file segment leaf kinds.RollPointer page place taken = Clear-unique
-field_unique file segment leaf kinds.Child page place taken = Clear-unique
-
-record_unique : (file : List ℕ) (segment leaf : ℕ) (page : List ℕ) (origin : ℕ) (fields : Fields) (taken : ℕ → Bool)
-    → IsUnique (RecordChecks file segment leaf page origin fields taken)
-unfolding RecordChecks
-record_unique file segment leaf page origin fields taken =
-    Each-unique _ _ (λ i. field_unique file segment leaf _ page _ _)
+audited_unique : (file : List ℕ) (segment holder : ℕ) (taken : Bool) (n : ℕ)
+    → IsUnique (AuditedPlace file segment holder taken n)
+audited_unique file segment holder taken n = holds _ _ _
 
 row_unique : (index : Index) (taken : ℕ → Bool) (earlier : List Row) (row : Row)
     → IsUnique (RowCheck index taken earlier row)
-row_unique index taken earlier row = record_unique _ _ _ _ _ _ _
+row_unique index taken earlier row =
+    record_unique index.file (AuditedPlace index.file (leaf_segment index)) (audited_unique _ _) _ _ _ _ _
 
 rows_unique : (index : Index) (taken : ℕ → Bool) → IsUnique (RowChecks index taken)
 rows_unique index taken = EachOf-unique (live_rows index) (RowCheck index taken) (row_unique index taken)

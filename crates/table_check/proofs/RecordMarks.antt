@@ -1,6 +1,6 @@
 -- A record's fields are checked one after another.
-use Rattle.std.proofs.Common.{◌≡◌, ℕ, ◌+◌, ◌<◌, Bool, List, length, get_or, Option, Some, None}
-use Rattle.std.proofs.Common.{IfSome, Result, Ok, Err, refl, sym, ap, ◌∙◌, subst, arith}
+use Rattle.std.proofs.Common.{◌≡◌, ℕ, ◌+◌, ◌<◌, ◌≤◌, Bool, false, List, length, get_or, Option, Some, None}
+use Rattle.std.proofs.Common.{IfSome, Result, Ok, Err, refl, sym, ap, ◌∙◌, subst, arith, length-append}
 use Rattle.std.proofs.lemmas.List.FromFn.{get_or-map-range_with_len, length-map-range_with_len}
 use Rattle.std.proofs.lemmas.List.{get_or_default}
 use Rattle.std.proofs.Math.Path.{fun_ext}
@@ -11,18 +11,18 @@ use Rattle.page_source.specs.declared.checks.Halt.TheVariants.{Broken, Source}
 use Rattle.page_source.specs.Verdict.{AllBelow}
 use Rattle.page_source.specs.Checks.{HaltsAt}
 use Rattle.page_source.specs.Calls.{OfFile}
-use Rattle.page_source.proofs.Told.{told0, told1, told3}
+use Rattle.page_source.proofs.Told.{told0, told1, told2, told3}
 use Rattle.column_values.specs.declared.field.Field.{Field}
 use Rattle.column_values.specs.Types.{Fields, field_at}
 use Rattle.compact_record.specs.declared.places.Place.{Place}
 use Rattle.compact_record.specs.Reading.{place_of, places_of, field_count}
 use Rattle.space_audit.specs.Marks.{is_set, Marked}
 use Rattle.table_check.specs.Marking.{ChecksPages}
-use Rattle.table_check.specs.declared.leaf.Leaf.{Leaf}
-use Rattle.table_check.specs.Values.{FieldCheck, pages_of_part}
-use Rattle.table_check.specs.Leaf.{FieldChecksOn, RecordChecksOn, pages_of_field_on, pages_of_record_on}
+use Rattle.table_check.specs.declared.leaf.RowLeaf.{RowLeaf}
+use Rattle.table_check.specs.Values.{FieldCheckBy, pages_of_part}
+use Rattle.table_check.specs.Leaf.{place_on, FieldChecksOn, RowChecksOn, pages_of_field_on, pages_of_row_on}
 use Rattle.table_check.proofs.Progress.{HasMarked, none_marked, more_marked, all_marked, breaks_off}
-use Rattle.table_check.proofs.RecordSteps.{part_more, record_breaks, whole_record, record_holds, below_more}
+use Rattle.table_check.proofs.RecordSteps.{part_more, part_most, record_breaks, whole_record, record_holds, below_more}
 
 -- the field and the place that were read
 pub count_of_places : (page : List ℕ) (origin : ℕ) (fields : Fields) → length (places_of page origin fields)
@@ -49,14 +49,14 @@ halts_as Source A B gives at = tt
 
 -- the fields before field i hold, and their pages were marked
 pub record FieldsHeld {S : Type 0} (g : FileOf S) (first now : S) (start marks : List Bool) (steps spent count : ℕ)
-    (leaf : Leaf) (origin i : ℕ) : Type 0 where
+    (leaf : RowLeaf) (origin i : ℕ) : Type 0 where
   pub has : HasMarked g first now start marks steps spent count
-      (λ file. pages_of_part file leaf.page.now origin leaf.leaves.fields.now i)
-  pub held : OfFile g first (λ file. AllBelow (FieldCheck file leaf.leaves.segment leaf.number leaf.page.now origin
-      leaf.leaves.fields.now (is_set start)) i)
+      (λ file. pages_of_part file leaf.page.now origin leaf.fields.now i)
+  pub held : OfFile g first (λ file. AllBelow (FieldCheckBy file (place_on file leaf) leaf.number leaf.page.now origin
+      leaf.fields.now (is_set start)) i)
 
 -- none was checked yet
-pub none_held : {S : Type 0} {g : FileOf S} {first : S} {leaf : Leaf} {origin : ℕ} (start : List Bool) (steps : ℕ)
+pub none_held : {S : Type 0} {g : FileOf S} {first : S} {leaf : RowLeaf} {origin : ℕ} (start : List Bool) (steps : ℕ)
     → FieldsHeld g first first start start steps steps 0 leaf origin 0
 none_held {g = g} {first = first} start steps = record {
   has = none_marked g first start steps _ (λ file. refl);
@@ -65,39 +65,50 @@ none_held {g = g} {first = first} start steps = record {
 
 -- all were checked
 pub all_held : {S : Type 0} {g : FileOf S} {first now : S} {start marks : List Bool} {steps spent count i : ℕ}
-    {leaf : Leaf} {origin : ℕ} → FieldsHeld g first now start marks steps spent count leaf origin i
-    → i ≡ field_count leaf.leaves.fields.now
+    {leaf : RowLeaf} {origin : ℕ} → FieldsHeld g first now start marks steps spent count leaf origin i
+    → i ≡ field_count leaf.fields.now
     → ChecksPages g first now start marks steps spent (Ok count)
-    (λ file. RecordChecksOn file leaf origin (is_set start)) (λ file. pages_of_record_on file leaf origin)
+    (λ file. RowChecksOn file leaf origin (is_set start)) (λ file. pages_of_row_on file leaf origin)
 all_held {g = g} {first = first} {now = now} {start = start} {marks = marks} {steps = steps} {spent = spent}
     {count = count} {i = i} {leaf = leaf} {origin = origin} have all =
     let page = leaf.page.now in
-    let fields = leaf.leaves.fields.now in
+    let fields = leaf.fields.now in
     all_marked g first now start marks steps spent count (λ file. pages_of_part file page origin fields i)
-    (λ file. pages_of_record_on file leaf origin) (λ file. RecordChecksOn file leaf origin (is_set start))
+    (λ file. pages_of_row_on file leaf origin) (λ file. RowChecksOn file leaf origin (is_set start))
     (told0 (g.content first)
-    (λ file. whole_record file leaf.leaves.segment leaf.number page origin fields (is_set start)
+    (λ file. whole_record file page origin fields
     ∙ ap (pages_of_part file page origin fields) (sym all)))
     (told1 (g.content first)
-    (λ file below. record_holds file leaf.leaves.segment leaf.number page origin fields (is_set start)
-    (subst (AllBelow (FieldCheck file leaf.leaves.segment leaf.number page origin fields (is_set start))) all below))
+    (λ file below. record_holds file (place_on file leaf) leaf.number page origin fields (is_set start)
+    (subst (AllBelow (FieldCheckBy file (place_on file leaf) leaf.number page origin fields (is_set start))) all below))
     have.held)
     have.has
 
-module _ {S : Type 0} {g : FileOf S} {first old : S} {start before : List Bool} {steps mid count i : ℕ} {leaf : Leaf}
-    {origin : ℕ} (have : FieldsHeld g first old start before steps mid count leaf origin i)
-    (within : i < field_count leaf.leaves.fields.now) (field : Field) (place : Place)
-    (is_field : field ≡ field_at leaf.leaves.fields.now i)
-    (is_place : place ≡ place_of leaf.page.now origin leaf.leaves.fields.now i) where
-  -- the leaf's segment, page and fields
-  abbrev segment : ℕ
-  segment = leaf.leaves.segment
+pub steps_held : {S : Type 0} (g : FileOf S) (first : S) (steps spent i : ℕ) (leaf : RowLeaf) (origin : ℕ)
+    → OfFile g first (λ file. spent ≤ steps + length (pages_of_part file leaf.page.now origin leaf.fields.now i))
+    → i ≡ field_count leaf.fields.now
+    → OfFile g first (λ file. spent ≤ steps + length (pages_of_row_on file leaf origin))
+steps_held g first steps spent i leaf origin few all =
+    told1 (g.content first)
+    (λ file few. omega (
+      arith,
+      few,
+      ap (λ (k : ℕ). length (pages_of_part file leaf.page.now origin leaf.fields.now k)) all,
+      ap length (whole_record file leaf.page.now origin leaf.fields.now),
+    ))
+    few
 
+module _ {S : Type 0} {g : FileOf S} {first old : S} {start before : List Bool} {steps mid count i : ℕ} {leaf : RowLeaf}
+    {origin : ℕ} (have : FieldsHeld g first old start before steps mid count leaf origin i)
+    (within : i < field_count leaf.fields.now) (field : Field) (place : Place)
+    (is_field : field ≡ field_at leaf.fields.now i)
+    (is_place : place ≡ place_of leaf.page.now origin leaf.fields.now i) where
+  -- the leaf's page and fields
   abbrev page : List ℕ
   page = leaf.page.now
 
   abbrev fields : Fields
-  fields = leaf.leaves.fields.now
+  fields = leaf.fields.now
 
   -- the checks of this field, and its pages
   abbrev Here : List ℕ → Option Fault → Type 0
@@ -107,7 +118,7 @@ module _ {S : Type 0} {g : FileOf S} {first old : S} {start before : List Bool} 
   pages_here file = pages_of_field_on file leaf (field_at fields i).kind (place_of page origin fields i)
 
   here_as : (file : List ℕ) (v : Option Fault) → Marked (is_set start) before (pages_of_part file page origin fields i)
-      → Here file v → FieldCheck file segment leaf.number page origin fields (is_set start) i v
+      → Here file v → FieldCheckBy file (place_on file leaf) leaf.number page origin fields (is_set start) i v
   here_as file v marked check =
       subst (λ (taken : ℕ → Bool). FieldChecksOn file leaf (field_at fields i).kind (place_of page origin fields i)
       taken v) (fun_ext marked) check
@@ -123,21 +134,55 @@ module _ {S : Type 0} {g : FileOf S} {first old : S} {start before : List Bool} 
         subst (λ (p : Place). Checked result (field_at fields i) p) is_place
         (subst (λ (f : Field). Checked result f place) is_field call)
 
+    -- so many steps were taken up to here
+    pub field_steps : OfFile g first (λ file. mid ≤ steps + length (pages_of_part file page origin fields i))
+        → OfFile g old (λ file. spent ≤ mid + length (pages_of_field_on file leaf field.kind place))
+        → OfFile g first (λ file. spent ≤ steps + length (pages_of_part file page origin fields (i + 1)))
+    field_steps before here =
+        let one = subst (λ (p : Place). OfFile g old
+        (λ file. spent ≤ mid + length (pages_of_field_on file leaf field.kind p))) is_place here in
+        let two = subst (λ (f : Field). OfFile g old
+        (λ file. spent ≤ mid + length (pages_of_field_on file leaf f.kind (place_of page origin fields i)))) is_field one
+        in
+        let three = subst (λ (o : Option (List ℕ)). IfSome o (λ file. spent ≤ mid + length (pages_here file)))
+        have.has.same two in
+        told2 (g.content first)
+        (λ file few last. omega (
+          arith,
+          few,
+          last,
+          ap length (part_more file page origin fields i),
+          length-append (pages_of_part file page origin fields i) (pages_here file),
+        ))
+        before three
+
+    pub all_steps : OfFile g first (λ file. mid ≤ steps + length (pages_of_part file page origin fields i))
+        → OfFile g old (λ file. spent ≤ mid + length (pages_of_field_on file leaf field.kind place))
+        → OfFile g first (λ file. spent ≤ steps + length (pages_of_row_on file leaf origin))
+    all_steps before here =
+        told1 (g.content first)
+        (λ file few. omega (
+          arith,
+          few,
+          part_most file page origin fields (i + 1) (omega arith),
+        ))
+        (field_steps before here)
+
     -- they break off
     pub field_breaks : (halt : Halt) → Checked (Err halt) field place
         → ChecksPages g first new start after steps spent (Err halt)
-        (λ file. RecordChecksOn file leaf origin (is_set start)) (λ file. pages_of_record_on file leaf origin)
+        (λ file. RowChecksOn file leaf origin (is_set start)) (λ file. pages_of_row_on file leaf origin)
     field_breaks halt call =
         let here = read_here (Err halt) call in
         let exact = subst (λ (o : Option (List ℕ)). IfSome o (λ file. HaltsAt halt (Here file))) have.has.same
         here.exact in
         breaks_off g first old new start before after steps mid spent count
         (λ file. pages_of_part file page origin fields i) pages_here Here have.has halt
-        (λ file. RecordChecksOn file leaf origin (is_set start)) (λ file. pages_of_record_on file leaf origin)
+        (λ file. RowChecksOn file leaf origin (is_set start)) (λ file. pages_of_row_on file leaf origin)
         (told3 (g.content first)
-        (λ file marked below at. record_breaks file segment leaf.number page origin fields (is_set start) i halt within
+        (λ file marked below at. record_breaks file (place_on file leaf) leaf.number page origin fields (is_set start) i halt within
         below
-        (halts_as halt (Here file) (FieldCheck file segment leaf.number page origin fields (is_set start) i)
+        (halts_as halt (Here file) (FieldCheckBy file (place_on file leaf) leaf.number page origin fields (is_set start) i)
         (λ v check. here_as file v marked check) at))
         have.has.grew have.held exact) here
 
@@ -152,11 +197,11 @@ module _ {S : Type 0} {g : FileOf S} {first old : S} {start before : List Bool} 
               (λ file. pages_of_part file page origin fields i)
               pages_here Here have.has n (λ file. pages_of_part file page origin fields (i + 1))
               (told0 (g.content first)
-              (λ file. part_more file segment leaf.number page origin fields (is_set start) i)) here;
+              (λ file. part_more file page origin fields i)) here;
           held =
               told3 (g.content first)
               (λ file marked below check. below_more
-              (FieldCheck file segment leaf.number page origin fields (is_set start)) i below
+              (FieldCheckBy file (place_on file leaf) leaf.number page origin fields (is_set start)) i below
               (here_as file None marked check))
               have.has.grew have.held exact;
         }

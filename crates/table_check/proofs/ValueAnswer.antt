@@ -17,12 +17,12 @@ use Rattle.space_audit.specs.Owners.{owner_of, IsUsedBy}
 use Rattle.offpage_chain.specs.declared.reference.Reference.{Reference}
 use Rattle.offpage_chain.specs.Reference.{reference_of}
 use Rattle.offpage_chain.specs.Chain.{chain_pages, part_length, next_part, bytes_on, total_on, RefersHere}
-use Rattle.offpage_chain.specs.ChainChecks.{IsChainPlace, IsChainPart, PartCheck, ChainChecksBy, ChainChecks}
+use Rattle.offpage_chain.specs.ChainChecks.{AuditedPlace, IsChainPlace, IsChainPart, PartCheck, ChainChecksBy, ChainChecks}
 use Rattle.tree_walk.specs.Index.{Index, Row}
 use Rattle.schema_text.specs.Formats.{flags_of}
 use Rattle.schema_text.specs.TableDef.{TableDef}
 use Rattle.table_check.specs.Trees.{leaf_segments}
-use Rattle.table_check.specs.Values.{front_of, FitsKind, IsTextBehind, ValueChecks, FieldChecks, RecordChecks, RowCheck}
+use Rattle.table_check.specs.Values.{front_of, FitsKind, IsTextBehind, ValueChecks, FieldChecks, RecordChecks, RecordChecksBy, RowCheck}
 use Rattle.table_check.specs.Values.{RowChecks, live_rows}
 use Rattle.table_check.specs.First.{is_unreached, IsLeftOver, TableTreeChecks, ValueChecksOf, UnreachedCheck}
 use Rattle.table_check.specs.First.{UnreachedChecks, TableValueChecks, TableChecks, First}
@@ -46,7 +46,7 @@ chain_part page left =
     (most_decided (part_length page) left) (both_decided (given_decided end all) (given_decided all end)))
 
 part_answered : (file : List ℕ) (segment holder : ℕ) (reference : Reference) (taken : ℕ → Bool)
-    → (earlier : List ℕ) (n : ℕ) → HasAnswer (PartCheck file segment holder reference taken earlier n)
+    → (earlier : List ℕ) (n : ℕ) → HasAnswer (PartCheck file (AuditedPlace file segment) holder reference taken earlier n)
 part_answered file segment holder reference taken earlier n =
     before _ _ _ (chain_place file segment _ n)
     (holds _ _ _ (chain_part (page_of file n) (reference.length - total_on file earlier)))
@@ -60,7 +60,7 @@ chain_answered file segment holder reference taken IsText text =
     (before _ _ _
     (both_decided (number_decided reference.space (space_of (page_of file 0))) (number_decided reference.offset 38))
     (both _ _
-    (EachOf-answered (chain_pages file reference) (PartCheck file segment holder reference taken)
+    (EachOf-answered (chain_pages file reference) (PartCheck file (AuditedPlace file segment) holder reference taken)
     (part_answered file segment holder reference taken))
     (holds _ _ _ text)))
 
@@ -85,7 +85,7 @@ field_answered file segment leaf kinds.Child page place taken = Clear-answered
 
 record_answered : (file : List ℕ) (segment leaf : ℕ) (page : List ℕ) (origin : ℕ) (fields : Fields) (taken : ℕ → Bool)
     → HasAnswer (RecordChecks file segment leaf page origin fields taken)
-unfolding RecordChecks
+unfolding RecordChecksBy
 record_answered file segment leaf page origin fields taken =
     All-answered _ _ (λ i. field_answered file segment leaf _ page _ _)
 

@@ -11,8 +11,8 @@ use Rattle.column_values.specs.Utf8Reader.{Reader, TakesText, CountsUpTo, Any, L
 use Rattle.offpage_chain.specs.declared.reference.Reference.{Reference}
 use Rattle.offpage_chain.specs.Reference.{reference_of}
 use Rattle.offpage_chain.specs.Chain.{chain_pages, bytes_on}
-use Rattle.offpage_chain.specs.ChainChecks.{ChainChecks, ChainChecksBy}
-use Rattle.table_check.specs.Values.{FitsKind, IsTextBehind, ValueChecks, front_of}
+use Rattle.offpage_chain.specs.ChainChecks.{PlaceChecks, ChainChecksBy}
+use Rattle.table_check.specs.Values.{FitsKind, IsTextBehind, ValueChecksBy, front_of}
 
 -- a bound on what was counted
 pub counts_most : (text : Reader) (few most : ℕ) → few ≤ most → CountsUpTo few text → CountsUpTo most text
@@ -21,37 +21,37 @@ counts_most (Limited limit Bad) few most h counts = tt
 counts_most (Limited limit (Good count pending)) few most h counts = omega (arith, h, counts)
 
 -- the checks of a chain speak of its text alone
-chain_text : (file : List ℕ) (segment leaf : ℕ) (reference : Reference) (taken : ℕ → Bool) (A B : List ℕ → Type 0)
+chain_text : (file : List ℕ) (Ask : PlaceChecks) (leaf : ℕ) (reference : Reference) (taken : ℕ → Bool) (A B : List ℕ → Type 0)
     → ((bytes : List ℕ) → A bytes ↔ B bytes) → (v : Option Fault)
-    → ChainChecks file segment leaf reference taken A v → ChainChecks file segment leaf reference taken B v
+    → ChainChecksBy file Ask leaf reference taken A v → ChainChecksBy file Ask leaf reference taken B v
 unfolding ChainChecksBy
-chain_text file segment leaf reference taken A B same None checks =
+chain_text file Ask leaf reference taken A B same None checks =
     (checks.0, (checks.1.0, (checks.1.1.0, (same (bytes_on file (chain_pages file reference))).0 checks.1.1.1)))
-chain_text file segment leaf reference taken A B same (Some fault) (inl none) = inl none
-chain_text file segment leaf reference taken A B same (Some fault) (inr (some, inl there)) = inr (some, inl there)
-chain_text file segment leaf reference taken A B same (Some fault) (inr (some, inr (here, inl page))) = inr (
+chain_text file Ask leaf reference taken A B same (Some fault) (inl none) = inl none
+chain_text file Ask leaf reference taken A B same (Some fault) (inr (some, inl there)) = inr (some, inl there)
+chain_text file Ask leaf reference taken A B same (Some fault) (inr (some, inr (here, inl page))) = inr (
   some,
   inr
       (here, inl page),
 )
-chain_text file segment leaf reference taken A B same (Some fault) (inr (some, inr (here, inr (pages, bad)))) =
+chain_text file Ask leaf reference taken A B same (Some fault) (inr (some, inr (here, inr (pages, bad)))) =
     inr (some, inr (here, inr (pages, ((λ t. bad.0 ((same (bytes_on file (chain_pages file reference))).1 t)), bad.1))))
 
 -- behind a length that fits, the chain decides
-pub value_goes_on : (file : List ℕ) (segment leaf : ℕ) (kind : ColumnType) (local : List ℕ) (taken : ℕ → Bool)
+pub value_goes_on : (file : List ℕ) (Ask : PlaceChecks) (leaf : ℕ) (kind : ColumnType) (local : List ℕ) (taken : ℕ → Bool)
     (A : List ℕ → Type 0)
     → FitsKind kind local → ((bytes : List ℕ) → A bytes ↔ IsTextBehind kind local bytes) → (result : Result ℕ Halt)
-    → Halts result (ChainChecks file segment leaf (reference_of local) taken A)
-    → Halts result (ValueChecks file segment leaf kind local true taken)
-value_goes_on file segment leaf kind local taken A fits same (Ok count) checks =
-    (fits, chain_text file segment leaf (reference_of local) taken A (IsTextBehind kind local) same None checks)
-value_goes_on file segment leaf kind local taken A fits same (Err (Broken fault)) checks =
+    → Halts result (ChainChecksBy file Ask leaf (reference_of local) taken A)
+    → Halts result (ValueChecksBy file Ask leaf kind local true taken)
+value_goes_on file Ask leaf kind local taken A fits same (Ok count) checks =
+    (fits, chain_text file Ask leaf (reference_of local) taken A (IsTextBehind kind local) same None checks)
+value_goes_on file Ask leaf kind local taken A fits same (Err (Broken fault)) checks =
     inr (
       fits,
-      chain_text file segment leaf (reference_of local) taken A (IsTextBehind kind local) same
+      chain_text file Ask leaf (reference_of local) taken A (IsTextBehind kind local) same
           (Some fault) checks,
     )
-value_goes_on file segment leaf kind local taken A fits same (Err Source) checks = tt
+value_goes_on file Ask leaf kind local taken A fits same (Err Source) checks = tt
 
 -- the text that was fed the local bytes
 pub text_behind : (kind : ColumnType) (local : List ℕ) (old new : Reader) → ((text : List ℕ) → TakesText old text

@@ -25,7 +25,7 @@ use Rattle.offpage_chain.specs.Laws.{HasOneChain, ChecksAreWhole}
 use Rattle.tree_walk.specs.Index.{Index, Row, no_row, page_in}
 use Rattle.tree_walk.specs.Segments.{leaf_segment}
 use Rattle.tree_walk.specs.Laws.{ComeOnce}
-use Rattle.table_check.specs.Values.{FitsKind, ValueChecks, FieldChecks, RecordChecks, RowChecks, front_of}
+use Rattle.table_check.specs.Values.{FitsKind, ValueChecks, FieldChecks, RecordChecks, RecordChecksBy, RowChecks, front_of}
 use Rattle.table_check.specs.Values.{bytes_at, pages_of_value, pages_of_field, pages_of_part, pages_of_record}
 use Rattle.table_check.specs.Values.{pages_of_row, pages_of_rows, live_rows}
 use Rattle.table_check.specs.Valid.{IsSoundLongValue, IsSoundField, IsSoundRow}
@@ -187,18 +187,18 @@ module _ (laws : HasChainLaws) (file : List ℕ) (size : size_of file ≤ 419430
 
     -- the pages of one field more
     more : (k : ℕ) → k < field_count fields → part (k + 1) ≡ part k ++ piece k
-    more k h = part_more file segment leaf page origin fields taken k
+    more k h = part_more file page origin fields k
 
     -- where the checks of a record hold, each field is sound
     pub record_sound : RecordChecks file segment leaf page origin fields taken None → SoundFields
-    unfolding RecordChecks
+    unfolding RecordChecksBy
     record_sound c i h =
         field_sound page (place_of page origin fields i) (seen taken (part i)) (field_at fields i).kind (c i h)
 
     -- and its pages are new
     pub record_new : RecordChecks file segment leaf page origin fields taken None
         → AreNew taken (pages_of_record file page origin fields)
-    unfolding RecordChecks pages_of_record
+    unfolding RecordChecksBy pages_of_record
     record_new c =
         all_new taken part piece (field_count fields) refl more
         (λ i h. field_new page (place_of page origin fields i) (seen taken (part i)) (field_at fields i).kind (c i h))
@@ -206,7 +206,7 @@ module _ (laws : HasChainLaws) (file : List ℕ) (size : size_of file ≤ 419430
     -- and back
     pub record_checks : SoundFields → AreNew taken (pages_of_record file page origin fields)
         → RecordChecks file segment leaf page origin fields taken None
-    unfolding RecordChecks pages_of_record
+    unfolding RecordChecksBy pages_of_record
     record_checks sound new i h =
         field_checks page (place_of page origin fields i) (seen taken (part i)) (field_at fields i).kind (sound i h)
         (each_new taken part piece (field_count fields) refl more new i h)

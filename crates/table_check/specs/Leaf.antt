@@ -4,26 +4,41 @@ use Rattle.page_source.specs.declared.rule.Fault.{Fault}
 use Rattle.column_values.specs.declared.kind.ColumnType.{ColumnType}
 use Rattle.column_values.specs.declared.field.FieldType.{FieldType}
 use Rattle.compact_record.specs.declared.places.Place.{Place}
+use Rattle.offpage_chain.specs.ChainChecks.{PlaceChecks}
+use Rattle.offpage_chain.specs.CheckSteps.{PlaceIn}
 use Rattle.table_check.specs.declared.leaf.Leaf.{Leaf}
-use Rattle.table_check.specs.Values.{bytes_at, ValueChecks, FieldChecks, RecordChecks}
+use Rattle.table_check.specs.declared.leaf.RowLeaf.{RowLeaf}
+use Rattle.table_check.specs.Values.{bytes_at, ValueChecksBy, FieldChecksBy, RecordChecksBy, RecordChecks}
 use Rattle.table_check.specs.Values.{pages_of_value, pages_of_field, pages_of_record}
 
--- the checks of the value at this place, of a column that isn't null
-abbrev pub ValueChecksOn : List ℕ → Leaf → ColumnType → Place → (ℕ → Bool) → Option Fault → Type 0
-ValueChecksOn file leaf kind place =
-    ValueChecks file leaf.leaves.segment leaf.number kind (bytes_at leaf.page.now place) place.external
+-- what is asked of a page for a value on the leaf to go on there
+abbrev pub place_on : List ℕ → RowLeaf → PlaceChecks
+place_on file leaf = PlaceIn file leaf.pages
 
-abbrev pub pages_of_value_on : List ℕ → Leaf → Place → List ℕ
+-- the checks of the value at this place, of a column that isn't null
+abbrev pub ValueChecksOn : List ℕ → RowLeaf → ColumnType → Place → (ℕ → Bool) → Option Fault → Type 0
+ValueChecksOn file leaf kind place =
+    ValueChecksBy file (place_on file leaf) leaf.number kind (bytes_at leaf.page.now place) place.external
+
+abbrev pub pages_of_value_on : List ℕ → RowLeaf → Place → List ℕ
 pages_of_value_on file leaf place = pages_of_value file (bytes_at leaf.page.now place) place.external
 
 -- those of the field at this place
-abbrev pub FieldChecksOn : List ℕ → Leaf → FieldType → Place → (ℕ → Bool) → Option Fault → Type 0
-FieldChecksOn file leaf kind place = FieldChecks file leaf.leaves.segment leaf.number kind leaf.page.now place
+abbrev pub FieldChecksOn : List ℕ → RowLeaf → FieldType → Place → (ℕ → Bool) → Option Fault → Type 0
+FieldChecksOn file leaf kind place = FieldChecksBy file (place_on file leaf) leaf.number kind leaf.page.now place
 
-abbrev pub pages_of_field_on : List ℕ → Leaf → FieldType → Place → List ℕ
+abbrev pub pages_of_field_on : List ℕ → RowLeaf → FieldType → Place → List ℕ
 pages_of_field_on file leaf kind place = pages_of_field file kind leaf.page.now place
 
--- and those of the record at this origin
+-- those of the row at this origin
+abbrev pub RowChecksOn : List ℕ → RowLeaf → ℕ → (ℕ → Bool) → Option Fault → Type 0
+RowChecksOn file leaf origin =
+    RecordChecksBy file (place_on file leaf) leaf.number leaf.page.now origin leaf.fields.now
+
+abbrev pub pages_of_row_on : List ℕ → RowLeaf → ℕ → List ℕ
+pages_of_row_on file leaf origin = pages_of_record file leaf.page.now origin leaf.fields.now
+
+-- and those of the record at this origin of a leaf in an audited space
 abbrev pub RecordChecksOn : List ℕ → Leaf → ℕ → (ℕ → Bool) → Option Fault → Type 0
 RecordChecksOn file leaf origin =
     RecordChecks file leaf.leaves.segment leaf.number leaf.page.now origin leaf.leaves.fields.now

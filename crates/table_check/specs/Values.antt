@@ -1,4 +1,4 @@
--- The values of a record's columns, and the pages that they go on in.
+-- The values of a record's columns, and the pages that they go on in. `Ask` is what is asked of such a page.
 use Rattle.std.specs.Prelude.{◌≡◌, ℕ, ◌+◌, ◌-◌, ◌≤◌, Bool, true, false, ◌&&◌, not, if◌then◌else◌}
 use Rattle.std.specs.Prelude.{List, [], ◌++◌, length, take, filter, flat_map, slice_range, Option}
 use Rattle.std.specs.List.{range_with_len}
@@ -17,7 +17,7 @@ use Rattle.compact_record.specs.Reading.{place_of, field_count}
 use Rattle.space_audit.specs.Marks.{seen}
 use Rattle.offpage_chain.specs.Reference.{reference_of}
 use Rattle.offpage_chain.specs.Chain.{chain_pages}
-use Rattle.offpage_chain.specs.ChainChecks.{ChainChecks}
+use Rattle.offpage_chain.specs.ChainChecks.{PlaceChecks, AuditedPlace, ChainChecksBy}
 use Rattle.tree_walk.specs.Index.{Index, Row, page_in, is_live_row, is_deleted_row, leaf_rows}
 use Rattle.tree_walk.specs.Segments.{leaf_segment}
 
@@ -38,21 +38,21 @@ abbrev pub IsTextBehind : ColumnType → List ℕ → List ℕ → Type 0
 IsTextBehind kind local bytes = IsTextOfKind kind (front_of local ++ bytes)
 
 -- the checks of a value that isn't null: of one that is whole on its leaf, and of one that goes on elsewhere
-abbrev pub ValueChecks : List ℕ → ℕ → ℕ → ColumnType → List ℕ → Bool → (ℕ → Bool) → Option Fault → Type 0
-ValueChecks file segment leaf kind local false taken = Holds Value leaf (IsSpelling kind local)
-ValueChecks file segment leaf kind local true taken =
+abbrev pub ValueChecksBy : List ℕ → PlaceChecks → ℕ → ColumnType → List ℕ → Bool → (ℕ → Bool) → Option Fault → Type 0
+ValueChecksBy file Ask leaf kind local false taken = Holds Value leaf (IsSpelling kind local)
+ValueChecksBy file Ask leaf kind local true taken =
     Then (Holds Value leaf (FitsKind kind local))
-    (ChainChecks file segment leaf (reference_of local) taken (IsTextBehind kind local))
+    (ChainChecksBy file Ask leaf (reference_of local) taken (IsTextBehind kind local))
 
 -- the pages of a value
 abbrev pub pages_of_value : List ℕ → List ℕ → Bool → List ℕ
 pages_of_value file local external = if external then chain_pages file (reference_of local) else []
 
 -- the same of a field by its place: one that is no column, or null, has no check and no pages
-abbrev pub FieldChecks : List ℕ → ℕ → ℕ → FieldType → List ℕ → Place → (ℕ → Bool) → Option Fault → Type 0
-FieldChecks file segment leaf (Column kind) page place taken =
-    Where (place.null ≡ false) (ValueChecks file segment leaf kind (bytes_at page place) place.external taken)
-FieldChecks file segment leaf _ page place taken = Clear
+abbrev pub FieldChecksBy : List ℕ → PlaceChecks → ℕ → FieldType → List ℕ → Place → (ℕ → Bool) → Option Fault → Type 0
+FieldChecksBy file Ask leaf (Column kind) page place taken =
+    Where (place.null ≡ false) (ValueChecksBy file Ask leaf kind (bytes_at page place) place.external taken)
+FieldChecksBy file Ask leaf _ page place taken = Clear
 
 abbrev pub pages_of_field : List ℕ → FieldType → List ℕ → Place → List ℕ
 pages_of_field file (Column kind) page place = pages_of_value file (bytes_at page place)
@@ -69,15 +69,25 @@ unfoldable pub pages_of_record : List ℕ → List ℕ → ℕ → Fields → Li
 pages_of_record file page origin fields = pages_of_part file page origin fields (field_count fields)
 
 -- the check of field i of a record, behind the fields before it
-abbrev pub FieldCheck : List ℕ → ℕ → ℕ → List ℕ → ℕ → Fields → (ℕ → Bool) → ℕ → Option Fault → Type 0
-FieldCheck file segment leaf page origin fields taken i =
-    FieldChecks file segment leaf (field_at fields i).kind page (place_of page origin fields i)
+abbrev pub FieldCheckBy : List ℕ → PlaceChecks → ℕ → List ℕ → ℕ → Fields → (ℕ → Bool) → ℕ → Option Fault → Type 0
+FieldCheckBy file Ask leaf page origin fields taken i =
+    FieldChecksBy file Ask leaf (field_at fields i).kind page (place_of page origin fields i)
     (seen taken (pages_of_part file page origin fields i))
 
 -- of all its fields
-unfoldable pub RecordChecks : List ℕ → ℕ → ℕ → List ℕ → ℕ → Fields → (ℕ → Bool) → Option Fault → Type 0
-RecordChecks file segment leaf page origin fields taken =
-    Each (field_count fields) (FieldCheck file segment leaf page origin fields taken)
+unfoldable pub RecordChecksBy : List ℕ → PlaceChecks → ℕ → List ℕ → ℕ → Fields → (ℕ → Bool) → Option Fault → Type 0
+RecordChecksBy file Ask leaf page origin fields taken =
+    Each (field_count fields) (FieldCheckBy file Ask leaf page origin fields taken)
+
+-- those of a value, of a field and of a record in an audited space, where this segment has the leaves
+abbrev pub ValueChecks : List ℕ → ℕ → ℕ → ColumnType → List ℕ → Bool → (ℕ → Bool) → Option Fault → Type 0
+ValueChecks file segment = ValueChecksBy file (AuditedPlace file segment)
+
+abbrev pub FieldChecks : List ℕ → ℕ → ℕ → FieldType → List ℕ → Place → (ℕ → Bool) → Option Fault → Type 0
+FieldChecks file segment = FieldChecksBy file (AuditedPlace file segment)
+
+abbrev pub RecordChecks : List ℕ → ℕ → ℕ → List ℕ → ℕ → Fields → (ℕ → Bool) → Option Fault → Type 0
+RecordChecks file segment = RecordChecksBy file (AuditedPlace file segment)
 
 -- the rows without the delete mark, and those with it
 unfoldable pub live_rows : Index → List Row

@@ -1,6 +1,7 @@
 //! The leaves of the clustered tree, whose records are the rows.
 
 use column_values::FieldList;
+use offpage_chain::ChainPages;
 use page_source::Page;
 use space_audit::Space;
 
@@ -22,4 +23,16 @@ pub(crate) struct Leaf<'a> {
     /// The number of its page.
     pub(crate) number: u32,
     pub(crate) page: &'a Page,
+}
+
+/// A leaf of the clustered tree, in an audited space or in another.
+#[derive(Clone, Copy)]
+pub struct RowLeaf<'a> {
+    /// The pages that the values of its rows may go on in.
+    pub pages: ChainPages<'a>,
+    /// The fields of its records.
+    pub fields: &'a FieldList,
+    /// The number of its page.
+    pub number: u32,
+    pub page: &'a Page,
 }

@@ -9,11 +9,13 @@ mod rows;
 mod table;
 mod trees;
 mod unreached;
-pub mod value;
+mod value;
 mod values;
 mod whole;
 
 pub use ends::EndsList;
+pub use leaf::RowLeaf;
+pub use record::check_row_values;
 pub use rows::LiveRows;
 pub use table::{Checked, Table, Whole};
 pub use whole::{check, check_table, check_whole};

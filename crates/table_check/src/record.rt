@@ -1,17 +1,20 @@
 //! The values of a record, field by field.
 
-ghost use Rattle.std.specs.Prelude.{◌≡◌, length, All};
-ghost use Rattle.page_source.specs.Calls.{AsksNoMore};
+ghost use Rattle.std.specs.Prelude.{◌≡◌, ◌+◌, ◌≤◌, length, All};
+ghost use Rattle.page_source.specs.Calls.{OfFile, AsksNoMore};
 ghost use Rattle.column_values.specs.Types.{AreFields, IsFieldKind};
 ghost use Rattle.compact_record.specs.Keys.{LiesBelow, IsWholeReading};
 ghost use Rattle.space_audit.specs.Marks.{is_set};
+ghost use Rattle.offpage_chain.specs.CheckSteps.{CanCheck};
 ghost use Rattle.table_check.specs.Marking.{CanMark, ChecksPages};
-ghost use Rattle.table_check.specs.Leaf.{FieldChecksOn, RecordChecksOn, pages_of_field_on, pages_of_record_on};
+ghost use Rattle.table_check.specs.Leaf.{FieldChecksOn, RowChecksOn, RecordChecksOn};
+ghost use Rattle.table_check.specs.Leaf.{pages_of_field_on, pages_of_row_on, pages_of_record_on};
 
-use crate::leaf::Leaf;
+use crate::leaf::{Leaf, RowLeaf};
 use crate::value::check_value;
 use column_values::FieldType;
 use compact_record::{Located, Place};
+use offpage_chain::ChainPages;
 use page_source::{Halt, Page, PageSource, Steps};
 use space_audit::Marks;
 use std::sync::ledger::Ledger;
@@ -20,7 +23,7 @@ use std::sync::ledger::Ledger;
 /// that it goes on in, and answers how many there are.
 fn check_field<S: PageSource, L: Ledger>(
     source: &mut S,
-    leaf: &Leaf,
+    leaf: &RowLeaf,
     kind: FieldType,
     place: Place,
     marks: &mut Marks,
@@ -29,11 +32,13 @@ fn check_field<S: PageSource, L: Ledger>(
 ) -> Result<u32, Halt>
     requires known { IsFieldKind kind }
     requires lies { LiesBelow 16384 place }
-    requires ready { CanMark S.PageSource source.old leaf.now.leaves.space.now marks.old }
+    requires ready { CanCheck S.PageSource source.old leaf.now.pages marks.old }
     ensures checks { ChecksPages S.PageSource source.old source.new marks.old marks.new steps.old steps.new result
         (λ file. FieldChecksOn file leaf.now kind place (is_set marks.old))
         (λ file. pages_of_field_on file leaf.now kind place) }
     ensures asked { AsksNoMore S.PageSource source.old source.new steps.old steps.new }
+    ensures told { OfFile S.PageSource source.old (λ file.
+        steps.new ≤ steps.old + length (pages_of_field_on file leaf.now kind place)) }
 {
     let FieldType::Column(kind) = kind else {
         return Ok(0);
@@ -44,8 +49,44 @@ fn check_field<S: PageSource, L: Ledger>(
     check_value(source, leaf, &kind, place, marks, page, steps)
 }
 
-/// Checks the values of the record that was read from the leaf. Marks the pages that they go on in, and answers how
-/// many there are.
+/// Checks the values of the row that was read from the leaf, by the rules 47, 48, 49 and 51, in a space that wasn't
+/// audited also 25. Marks the pages that they go on in, and answers how many there are.
+pub fn check_row_values<S: PageSource, L: Ledger>(
+    source: &mut S,
+    leaf: &RowLeaf,
+    located: &Located,
+    marks: &mut Marks,
+    page: &mut Page,
+    steps: &mut Steps<L>,
+) -> Result<u32, Halt>
+    requires fields { AreFields leaf.now.fields.now }
+    requires whole { IsWholeReading leaf.now.page.now leaf.now.fields.now located.now }
+    requires lies { All (LiesBelow 16384) located.now.places }
+    requires ready { CanCheck S.PageSource source.old leaf.now.pages marks.old }
+    ensures checks { ChecksPages S.PageSource source.old source.new marks.old marks.new steps.old steps.new result
+        (λ file. RowChecksOn file leaf.now located.now.origin (is_set marks.old))
+        (λ file. pages_of_row_on file leaf.now located.now.origin) }
+    ensures asked { AsksNoMore S.PageSource source.old source.new steps.old steps.new }
+    ensures told { OfFile S.PageSource source.old (λ file.
+        steps.new ≤ steps.old + length (pages_of_row_on file leaf.now located.now.origin)) }
+{
+    let _size = leaf.pages.size();
+    let mut count = 0;
+    for (i, field) in leaf.fields.fields().iter().enumerate() {
+        count += check_field(
+            source,
+            leaf,
+            field.kind,
+            located.places()[i],
+            marks,
+            page,
+            steps,
+        )?;
+    }
+    Ok(count)
+}
+
+/// The same of a record of a leaf in an audited space.
 pub(crate) fn check_record<S: PageSource, L: Ledger>(
     source: &mut S,
     leaf: &Leaf,
@@ -63,18 +104,14 @@ pub(crate) fn check_record<S: PageSource, L: Ledger>(
         (λ file. pages_of_record_on file leaf.now located.now.origin) }
     ensures asked { AsksNoMore S.PageSource source.old source.new steps.old steps.new }
 {
-    let _size = leaf.leaves.space.size();
-    let mut count = 0;
-    for (i, field) in leaf.leaves.fields.fields().iter().enumerate() {
-        count += check_field(
-            source,
-            leaf,
-            field.kind,
-            located.places()[i],
-            marks,
-            page,
-            steps,
-        )?;
-    }
-    Ok(count)
+    let row_leaf = RowLeaf {
+        pages: ChainPages::Audited {
+            space: leaf.leaves.space,
+            segment: leaf.leaves.segment,
+        },
+        fields: leaf.leaves.fields,
+        number: leaf.number,
+        page: leaf.page,
+    };
+    check_row_values(source, &row_leaf, located, marks, page, steps)
 }

@@ -9,15 +9,16 @@ ghost use Rattle.column_values.specs.Characters.{IsTextOfKind};
 ghost use Rattle.column_values.specs.Utf8Reader.{CountsUpTo, WasFed, TakesText};
 ghost use Rattle.compact_record.specs.Keys.{LiesBelow};
 ghost use Rattle.space_audit.specs.Marks.{is_set, Marked};
-ghost use Rattle.table_check.specs.Marking.{CanMark, ChecksPages};
-ghost use Rattle.table_check.specs.Values.{ValueChecks, pages_of_value, front_of};
-ghost use Rattle.table_check.specs.Leaf.{ValueChecksOn, pages_of_value_on};
+ghost use Rattle.table_check.specs.Marking.{ChecksPages};
+ghost use Rattle.table_check.specs.Values.{ValueChecksBy, pages_of_value, front_of};
+ghost use Rattle.table_check.specs.Leaf.{place_on, ValueChecksOn, pages_of_value_on};
 ghost use Rattle.offpage_chain.specs.Reference.{reference_of};
+ghost use Rattle.offpage_chain.specs.CheckSteps.{CanCheck};
 
-use crate::leaf::Leaf;
+use crate::leaf::RowLeaf;
 use column_values::{ColumnType, Utf8, greatest_length, is_value};
 use compact_record::Place;
-use offpage_chain::{Reference, check_chain, read_reference};
+use offpage_chain::{Reference, check_chain_in, read_reference};
 use page_source::{Halt, Page, PageSource, Rule, Steps};
 use space_audit::Marks;
 use std::sync::ledger::Ledger;
@@ -26,7 +27,7 @@ use std::sync::ledger::Ledger;
 const REFERENCE: usize = 20;
 
 /// A reader of the texts of a type; any bytes are one, where it isn't of utf8mb4.
-pub fn text_of(kind: &ColumnType) -> Utf8
+fn text_of(kind: &ColumnType) -> Utf8
     ensures fresh { WasFed result [] }
     ensures takes { (text : List ℕ) → TakesText result text ↔ IsTextOfKind kind.now text }
     ensures count { CountsUpTo 0 result }
@@ -39,7 +40,7 @@ pub fn text_of(kind: &ColumnType) -> Utf8
 }
 
 /// The local bytes before the reference, and the reference.
-pub fn cut(local: &[u8]) -> (&[u8], Reference)
+fn cut(local: &[u8]) -> (&[u8], Reference)
     requires { 20 ≤ length local.now }
     ensures front { result.0.now ≡ front_of local.now }
     ensures size { length result.0.now ≡ length local.now - 20 }
@@ -49,11 +50,11 @@ pub fn cut(local: &[u8]) -> (&[u8], Reference)
     (front, read_reference(reference))
 }
 
-/// Checks a value that goes on in pages of its own, by the rules 47, 48, 49 and 51: these are its local
-/// bytes on the leaf. Its pages are marked. Answers how many there are.
+/// Checks a value that goes on in pages of its own, by the rules 47, 48, 49 and 51, in a space that
+/// wasn't audited also 25: these are its local bytes on the leaf. Its pages are marked. Answers how many there are.
 fn check_external<S: PageSource, L: Ledger>(
     source: &mut S,
-    leaf: &Leaf,
+    leaf: &RowLeaf,
     kind: &ColumnType,
     local: &[u8],
     marks: &mut Marks,
@@ -62,11 +63,13 @@ fn check_external<S: PageSource, L: Ledger>(
 ) -> Result<u32, Halt>
     requires least { 20 ≤ length local.now }
     requires most { length local.now ≤ 16384 }
-    requires ready { CanMark S.PageSource source.old leaf.now.leaves.space.now marks.old }
+    requires ready { CanCheck S.PageSource source.old leaf.now.pages marks.old }
     ensures checks { ChecksPages S.PageSource source.old source.new marks.old marks.new steps.old steps.new result
-        (λ file. ValueChecks file leaf.now.leaves.segment leaf.now.number kind.now local.now true (is_set marks.old))
+        (λ file. ValueChecksBy file (place_on file leaf.now) leaf.now.number kind.now local.now true (is_set marks.old))
         (λ file. pages_of_value file local.now true) }
     ensures asked { AsksNoMore S.PageSource source.old source.new steps.old steps.new }
+    ensures told { OfFile S.PageSource source.old (λ file.
+        steps.new ≤ steps.old + length (pages_of_value file local.now true)) }
 {
     let (front, reference) = cut(local);
     if front.len() + reference.length as usize > greatest_length(*kind) {
@@ -74,10 +77,9 @@ fn check_external<S: PageSource, L: Ledger>(
     }
     let mut text = text_of(kind);
     text.feed(front);
-    check_chain(
+    check_chain_in(
         source,
-        leaf.leaves.space,
-        leaf.leaves.segment,
+        &leaf.pages,
         leaf.number,
         &reference,
         &mut text,
@@ -87,11 +89,11 @@ fn check_external<S: PageSource, L: Ledger>(
     )
 }
 
-/// Checks the value of a column that isn't null, by the rules 47, 48, 49 and 51. Its local bytes lie here on the leaf.
-/// Marks the pages that it goes on in, and answers how many there are.
+/// Checks the value of a column that isn't null, by the rules 47, 48, 49 and 51, in a space that wasn't audited
+/// also 25. Its local bytes lie here on the leaf. Marks the pages that it goes on in, and answers how many there are.
 pub(crate) fn check_value<S: PageSource, L: Ledger>(
     source: &mut S,
-    leaf: &Leaf,
+    leaf: &RowLeaf,
     kind: &ColumnType,
     place: Place,
     marks: &mut Marks,
@@ -100,11 +102,13 @@ pub(crate) fn check_value<S: PageSource, L: Ledger>(
 ) -> Result<u32, Halt>
     requires known { IsColumnType kind.now }
     requires lies { LiesBelow 16384 place }
-    requires ready { CanMark S.PageSource source.old leaf.now.leaves.space.now marks.old }
+    requires ready { CanCheck S.PageSource source.old leaf.now.pages marks.old }
     ensures checks { ChecksPages S.PageSource source.old source.new marks.old marks.new steps.old steps.new result
         (λ file. ValueChecksOn file leaf.now kind.now place (is_set marks.old))
         (λ file. pages_of_value_on file leaf.now place) }
     ensures asked { AsksNoMore S.PageSource source.old source.new steps.old steps.new }
+    ensures told { OfFile S.PageSource source.old (λ file.
+        steps.new ≤ steps.old + length (pages_of_value_on file leaf.now place)) }
 {
     let local = &leaf.page.bytes()[place.from..place.until];
     if place.external {

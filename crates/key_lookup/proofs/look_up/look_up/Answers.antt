@@ -34,7 +34,7 @@ returns-in_err-pages-clause-told g c =
     let way = c.in_ok-number.ensures in
     let held = held_by c.find_leaf.new.walk.child c.args.tree.now.leaf.now c.in-Some.origin c.again.new.self
     c.again.result c.in-Some.ensures.record c.again.ensures.exact.1 c.again.ensures.read in
-    let few = rw way.over.same at c.check_record.ensures.told in
+    let few = rw way.over.same at c.check_row_values.ensures.told in
     told5 (g.S.PageSource.content c.args.source.now)
     (λ file all leaf page most few.
     let index = index_in file c.args.tree.now in
@@ -49,7 +49,7 @@ returns-clause-told g c =
     let way = c.in_ok-number.ensures in
     let held = held_by c.find_leaf.new.walk.child c.args.tree.now.leaf.now c.in-Some.origin c.again.new.self
     c.again.result c.in-Some.ensures.record c.again.ensures.exact.1 c.again.ensures.read in
-    let few = rw way.over.same at c.check_record.ensures.told in
+    let few = rw way.over.same at c.check_row_values.ensures.told in
     told5 (g.S.PageSource.content c.args.source.now)
     (λ file all leaf page most few.
     let index = index_in file c.args.tree.now in

@@ -5,7 +5,7 @@ use Rattle.column_values.specs.Utf8Reader.{CountsUpTo, IsFed}
 use Rattle.space_audit.specs.Marks.{is_set}
 use Rattle.offpage_chain.proofs.Feeds.{fed_none, fed_more, counts_more}
 use Rattle.offpage_chain.proofs.Alongs.{IsAlong, walk_of, marked_none, along_start, along_halts, along_more}
-use Rattle.offpage_chain.proofs.Alongs.{along_holds, along_count, along_marked, along_fed}
+use Rattle.offpage_chain.proofs.Alongs.{along_holds, along_count, along_within, along_marked, along_fed}
 use Rattle.offpage_chain.proofs.check.check_pages.Goals as goal
 
 pub loop-due-init : goal.loop-due-init
@@ -17,6 +17,7 @@ loop-due-init g c =
       asked = omega arith;
       members = refl;
       spent = omega arith;
+      taken = omega arith;
       few = omega arith;
       marked = omega arith;
       counts = subst (λ (most : ℕ). CountsUpTo most c.args.text.now) (omega arith) c.requires.count;
@@ -34,6 +35,15 @@ returns-in_err-length-clause-exact g c =
     c.loop-due.marks c.args.text.now c.loop-due.text c.loop-due.due c.loop-due.count c.in_err-length.field-0.0 along c.loop-due-test.true check)
     c.loop-due.invariant.told check)
 
+pub returns-in_err-length-clause-told : goal.returns-in_err-length-clause-told
+returns-in_err-length-clause-told g c =
+    told1 (g.S.PageSource.content c.args.source.now)
+    (λ file along.
+    let within = along_within (walk_of file c.args.chain.now c.args.marks.now)
+    c.loop-due.marks c.args.text.now c.loop-due.text c.loop-due.due c.loop-due.count along c.loop-due-test.true in
+    omega (arith, within, c.loop-due.invariant.taken, c.check_page.ensures.cost))
+    c.loop-due.invariant.told
+
 pub loop-due-preserved : goal.loop-due-preserved
 loop-due-preserved g c =
     let inv = c.loop-due.invariant in
@@ -47,6 +57,7 @@ loop-due-preserved g c =
       asked = omega (arith, inv.asked, c.check_page.ensures.over.asked);
       members = c.mark.ensures.members ∙ inv.members;
       spent = omega (arith, inv.spent, c.check_page.ensures.cost, c.mark.ensures.fewer c.in_ok-length.ensures.new);
+      taken = omega (arith, inv.taken, c.check_page.ensures.cost);
       few = omega (arith, inv.few, few, part.1.part.0, part.0);
       marked = omega (arith, inv.marked, c.mark.ensures.fewer c.in_ok-length.ensures.new);
       counts =
@@ -86,6 +97,16 @@ returns-clause-count g c =
     (λ file along. along_count (walk_of file c.args.chain.now c.args.marks.now)
     c.loop-due.marks c.args.text.now c.loop-due.text c.loop-due.due c.loop-due.count
     (omega (arith, c.loop-due-test.false)) along)
+    c.loop-due.invariant.told
+
+pub returns-clause-told : goal.returns-clause-told
+returns-clause-told g c =
+    told1 (g.S.PageSource.content c.args.source.now)
+    (λ file along.
+    let count = along_count (walk_of file c.args.chain.now c.args.marks.now)
+    c.loop-due.marks c.args.text.now c.loop-due.text c.loop-due.due c.loop-due.count
+    (omega (arith, c.loop-due-test.false)) along in
+    omega (arith, count, c.loop-due.invariant.taken))
     c.loop-due.invariant.told
 
 pub returns-clause-grew : goal.returns-clause-grew

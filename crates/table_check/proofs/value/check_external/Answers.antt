@@ -1,22 +1,33 @@
-use Rattle.std.proofs.Common.{◌≡◌, ◌+◌, ◌-◌, List, ℕ, [], ◌++◌, length, ap, sym, ◌∙◌, subst, arith}
+use Rattle.std.proofs.Common.{◌≡◌, ◌≤◌, ◌+◌, ◌-◌, List, ℕ, [], ◌++◌, length, ap, sym, ◌∙◌, subst, arith}
 use Rattle.std.specs.Prelude.{IfOk, OnOk}
 use Rattle.page_source.specs.Checks.{Halts}
 use Rattle.page_source.specs.Calls.{OfFile}
-use Rattle.page_source.proofs.Told.{told1}
+use Rattle.page_source.proofs.Told.{told0, told1}
 use Rattle.column_values.specs.Utf8Reader.{TakesText, WasFed, IsFed}
 use Rattle.space_audit.specs.Marks.{is_set, Marked}
 use Rattle.offpage_chain.specs.declared.reference.Reference.{Reference}
 use Rattle.offpage_chain.specs.Chain.{chain_pages}
-use Rattle.offpage_chain.specs.ChainChecks.{ChainChecks}
+use Rattle.offpage_chain.specs.ChainChecks.{ChainChecksBy}
+use Rattle.table_check.specs.Leaf.{place_on}
 use Rattle.table_check.specs.Values.{FitsKind, front_of}
 use Rattle.table_check.proofs.ValueStages.{counts_most, text_behind, value_goes_on}
 use Rattle.table_check.proofs.value.check_external.Goals as goal
 
-pub check_chain-requires-clause-count : goal.check_chain-requires-clause-count
-check_chain-requires-clause-count g c =
+pub check_chain_in-requires-clause-count : goal.check_chain_in-requires-clause-count
+check_chain_in-requires-clause-count g c =
     counts_most c.feed.new.self (0 + length c.cut.result.0.now) 16384 (omega
     (arith, c.cut.ensures.size, c.requires.most))
     (c.feed.ensures.counts 0 c.text_of-text.ensures.count)
+
+pub returns-then-front-reference-clause-told : goal.returns-then-front-reference-clause-told
+returns-then-front-reference-clause-told g c =
+    told0 (g.S.PageSource.content c.args.source.now) (λ file. omega arith)
+
+pub returns-clause-told : goal.returns-clause-told
+returns-clause-told g c =
+    told1 (g.S.PageSource.content c.args.source.now)
+    (λ file few. subst (λ (r : Reference). c.check_chain_in.new.steps ≤ c.args.steps.now + length (chain_pages file r))
+    c.cut.ensures.reference few) c.check_chain_in.ensures.told
 
 pub returns-clause-checks : goal.returns-clause-checks
 returns-clause-checks g c =
@@ -34,23 +45,23 @@ returns-clause-checks g c =
     record {
       exact =
           told1 (g.S.PageSource.content c.args.source.now)
-          (λ file chain. value_goes_on file leaf.leaves.segment leaf.number kind local (is_set c.args.marks.now)
+          (λ file chain. value_goes_on file (place_on file leaf) leaf.number kind local (is_set c.args.marks.now)
           (λ bytes. TakesText c.feed.new.self (front_of local ++ bytes)) fits
           (text_behind kind local c.text_of-text.result c.feed.new.self c.text_of-text.ensures.takes feeds)
-          c.check_chain.result
-          (subst (λ (r : Reference). Halts c.check_chain.result (ChainChecks file leaf.leaves.segment leaf.number r
+          c.check_chain_in.result
+          (subst (λ (r : Reference). Halts c.check_chain_in.result (ChainChecksBy file (place_on file leaf) leaf.number r
           (is_set c.args.marks.now) (λ bytes. TakesText c.feed.new.self (front_of local ++ bytes))))
           c.cut.ensures.reference (chain (front_of local) was)))
-          c.check_chain.ensures.exact;
-      count = subst (λ (r : Reference). IfOk c.check_chain.result (λ count. OfFile g.S.PageSource c.args.source.now
-          (λ file. count ≡ length (chain_pages file r)))) c.cut.ensures.reference c.check_chain.ensures.count;
-      grew = subst (λ (r : Reference). OnOk c.check_chain.result (OfFile g.S.PageSource c.args.source.now
-          (λ file. Marked (is_set c.args.marks.now) c.check_chain.new.marks
-          (chain_pages file r)))) c.cut.ensures.reference c.check_chain.ensures.grew;
-      members = c.check_chain.ensures.members;
-      fewer = c.check_chain.ensures.fewer;
-      cost = c.check_chain.ensures.cost;
-      at_ok = c.check_chain.ensures.spent;
-      same = c.check_chain.ensures.over.same;
-      cause = c.check_chain.ensures.over.cause;
+          c.check_chain_in.ensures.exact;
+      count = subst (λ (r : Reference). IfOk c.check_chain_in.result (λ count. OfFile g.S.PageSource c.args.source.now
+          (λ file. count ≡ length (chain_pages file r)))) c.cut.ensures.reference c.check_chain_in.ensures.count;
+      grew = subst (λ (r : Reference). OnOk c.check_chain_in.result (OfFile g.S.PageSource c.args.source.now
+          (λ file. Marked (is_set c.args.marks.now) c.check_chain_in.new.marks
+          (chain_pages file r)))) c.cut.ensures.reference c.check_chain_in.ensures.grew;
+      members = c.check_chain_in.ensures.members;
+      fewer = c.check_chain_in.ensures.fewer;
+      cost = c.check_chain_in.ensures.cost;
+      at_ok = c.check_chain_in.ensures.spent;
+      same = c.check_chain_in.ensures.over.same;
+      cause = c.check_chain_in.ensures.over.cause;
     }

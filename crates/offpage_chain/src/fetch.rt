@@ -5,7 +5,7 @@ ghost use Rattle.page_source.specs.Pages.{page_of};
 ghost use Rattle.page_source.specs.Checks.{Halts};
 ghost use Rattle.page_source.specs.Calls.{OfFile, HaltsOver};
 ghost use Rattle.extent_map.specs.Head.{HasHeader};
-ghost use Rattle.key_lookup.specs.GetFirst.{FramedChecks};
+ghost use Rattle.offpage_chain.specs.Fetched.{FramedChecks};
 
 use fil_frame::{frame_fault, kind};
 use page_source::{Fault, Halt, Page, PageSource, Rule, Steps};
@@ -13,7 +13,7 @@ use space_header::SpaceHeader;
 use std::sync::ledger::Ledger;
 
 /// Fetches a page below the size of the space, and checks its frame and its type. Another type is this fault.
-pub(crate) fn fetch_framed<S: PageSource, L: Ledger>(
+pub fn fetch_framed<S: PageSource, L: Ledger>(
     source: &mut S,
     header: &SpaceHeader,
     n: u32,

@@ -1,8 +1,8 @@
 use Rattle.std.proofs.Common.{◌≤◌, ◌+◌, length}
 use Rattle.page_source.specs.Calls.{OfFile, AsksNoMore}
 use Rattle.table_check.specs.Values.{pages_of_part}
-use Rattle.key_lookup.proofs.RecordMarks.{FieldsHeld}
-use Rattle.key_lookup.proofs.record.check_record.Given as goal
+use Rattle.table_check.proofs.RecordMarks.{FieldsHeld}
+use Rattle.table_check.proofs.record.check_row_values.Given as goal
 
 -- the fields before this one hold
 abbrev pub invariant-loop-i : goal.invariant-loop-i

@@ -1,6 +1,6 @@
 use Rattle.space_audit.specs.Marks.{is_set}
-use Rattle.key_lookup.proofs.Places.{place_below, place_beyond}
-use Rattle.key_lookup.proofs.chain.is_place.Goals as goal
+use Rattle.offpage_chain.proofs.Places.{place_below, place_beyond}
+use Rattle.offpage_chain.proofs.pages.is_new_place.Goals as goal
 
 pub returns-then-n-header-clause-place : goal.returns-then-n-header-clause-place
 returns-then-n-header-clause-place c = λ file has.

@@ -2,10 +2,13 @@
 use Rattle.std.proofs.Common.{◌≡◌, ◌↔◌, ℕ, ◌<◌, ◌≤◌, Bool, IsTrue, true, false, not, nat_lt, List, refl, sym, ap, ◌∙◌, arith}
 use Rattle.std.proofs.lemmas.Bool.{false≢true, true≢false, ltb-true}
 use Rattle.space_header.specs.declared.header.SpaceHeader.{SpaceHeader}
-use Rattle.space_header.specs.Header.{size_of}
+use Rattle.space_header.specs.Header.{size_of, header_of}
 use Rattle.extent_map.specs.Head.{HasHeader}
-use Rattle.key_lookup.specs.GetFirst.{IsNewPlace}
-use Rattle.key_lookup.proofs.WaySteps.{size_is}
+use Rattle.offpage_chain.specs.ChainChecks.{IsNewPlace}
+
+size_is : (file : List ℕ) (header : SpaceHeader) → HasHeader file header → header.size ≡ size_of file
+unfolding header_of
+size_is file header has = ap (λ (h : SpaceHeader). h.size) has.same
 
 module _ (file : List ℕ) (header : SpaceHeader) (has : HasHeader file header) (taken : Bool) (n : ℕ) where
   pub place_below : (b : Bool) → b ≡ taken → n < header.size → IsTrue (not b) ↔ IsNewPlace file taken n

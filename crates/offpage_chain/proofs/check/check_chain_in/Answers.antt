@@ -4,13 +4,14 @@ use Rattle.std.proofs.lemmas.Result.{err_from_is_err_and}
 use Rattle.page_source.proofs.Told.{told0, told1, told2, told3}
 use Rattle.column_values.specs.Utf8Reader.{TakesText}
 use Rattle.space_audit.specs.Marks.{is_set}
-use Rattle.key_lookup.proofs.Stages.{chain_empty, chain_elsewhere, chain_halts, chain_untold, chain_holds, text_says}
-use Rattle.key_lookup.proofs.chain.check_chain.Goals as goal
+use Rattle.offpage_chain.proofs.Stages.{chain_empty, chain_elsewhere, chain_halts, chain_untold, chain_holds, text_says}
+use Rattle.offpage_chain.specs.CheckSteps.{PlaceIn}
+use Rattle.offpage_chain.proofs.check.check_chain_in.Goals as goal
 
 pub returns-then-reference-eq0-clause-exact : goal.returns-then-reference-eq0-clause-exact
 returns-then-reference-eq0-clause-exact g c =
     told0 (g.S.PageSource.content c.args.source.now)
-    (λ file fed was. rw c.at.ensures (chain_empty file c.args.holder c.args.reference.now
+    (λ file fed was. rw c.at.ensures (chain_empty file (PlaceIn file c.args.pages.now) c.args.holder c.args.reference.now
     (is_set c.args.marks.now)
     (λ bytes. TakesText c.args.text.now (fed ++ bytes)) c.if-reference-eq0.true))
 
@@ -18,10 +19,10 @@ pub returns-then-not-refers_here-clause-exact : goal.returns-then-not-refers_her
 returns-then-not-refers_here-clause-exact g c =
     told1 (g.S.PageSource.content c.args.source.now)
     (λ file header fed was. rw c.at-then-not-refers_here.ensures
-    (chain_elsewhere file c.args.holder c.args.reference.now (is_set c.args.marks.now)
+    (chain_elsewhere file (PlaceIn file c.args.pages.now) c.args.holder c.args.reference.now (is_set c.args.marks.now)
     (λ bytes. TakesText c.args.text.now (fed ++ bytes)) (omega (arith, c.if-reference-eq0.false))
     (iff_false (c.refers_here.ensures file header) c.if-not-refers_here.true)))
-    c.requires.header
+    c.requires.ready.told
 
 pub returns-then-reference-eq0-clause-told : goal.returns-then-reference-eq0-clause-told
 returns-then-reference-eq0-clause-told g c =
@@ -35,33 +36,33 @@ pub returns-in_err-count-clause-exact : goal.returns-in_err-count-clause-exact
 returns-in_err-count-clause-exact g c =
     let r = err_from_is_err_and c.from_residual.result c.from_residual.ensures.1 in
     rw (r.1, r.2) (told2 (g.S.PageSource.content c.args.source.now)
-    (λ file header halts fed was. chain_halts file c.args.holder c.args.reference.now
+    (λ file header halts fed was. chain_halts file (PlaceIn file c.args.pages.now) c.args.holder c.args.reference.now
     (is_set c.args.marks.now)
     (λ bytes. TakesText c.args.text.now (fed ++ bytes)) c.in_err-count.field-0.0 (omega (
       arith,
       c.if-reference-eq0.false,
     ))
     ((c.refers_here.ensures file header).0 c.if-not-refers_here.false) halts)
-    c.requires.header c.in_err-count.ensures.exact)
+    c.requires.ready.told c.in_err-count.ensures.exact)
 
 pub returns-then-not-is_text-clause-exact : goal.returns-then-not-is_text-clause-exact
 returns-then-not-is_text-clause-exact g c =
     told3 (g.S.PageSource.content c.args.source.now)
     (λ file header holds fills fed was. rw c.at-then-not-is_text.ensures
-    (chain_untold file c.args.holder c.args.reference.now (is_set c.args.marks.now)
+    (chain_untold file (PlaceIn file c.args.pages.now) c.args.holder c.args.reference.now (is_set c.args.marks.now)
     (λ bytes. TakesText c.args.text.now (fed ++ bytes)) (omega (arith, c.if-reference-eq0.false))
     ((c.refers_here.ensures file header).0 c.if-not-refers_here.false) holds
-    (iff_false (text_says c.args.text.now c.check_links.new.text fed _ c.is_text.result fills was
+    (iff_false (text_says c.args.text.now c.check_pages.new.text fed _ c.is_text.result fills was
     c.is_text.ensures.text) c.if-not-is_text.true)))
-    c.requires.header c.in_ok-count.ensures.exact c.in_ok-count.ensures.fed
+    c.requires.ready.told c.in_ok-count.ensures.exact c.in_ok-count.ensures.fed
 
 pub returns-clause-exact : goal.returns-clause-exact
 returns-clause-exact g c =
     told3 (g.S.PageSource.content c.args.source.now)
-    (λ file header holds fills fed was. chain_holds file c.args.holder c.args.reference.now
+    (λ file header holds fills fed was. chain_holds file (PlaceIn file c.args.pages.now) c.args.holder c.args.reference.now
     (is_set c.args.marks.now)
     (λ bytes. TakesText c.args.text.now (fed ++ bytes)) (omega (arith, c.if-reference-eq0.false))
     ((c.refers_here.ensures file header).0 c.if-not-refers_here.false) holds
-    ((text_says c.args.text.now c.check_links.new.text fed _ c.is_text.result fills was c.is_text.ensures.text).0
+    ((text_says c.args.text.now c.check_pages.new.text fed _ c.is_text.result fills was c.is_text.ensures.text).0
     c.if-not-is_text.false))
-    c.requires.header c.in_ok-count.ensures.exact c.in_ok-count.ensures.fed
+    c.requires.ready.told c.in_ok-count.ensures.exact c.in_ok-count.ensures.fed
