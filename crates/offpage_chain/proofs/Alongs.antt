@@ -20,7 +20,8 @@ use Rattle.offpage_chain.specs.declared.check.Chain.{Chain}
 use Rattle.offpage_chain.specs.declared.pages.Due.{Due}
 use Rattle.offpage_chain.specs.Chain.{part_length, next_part, part_bytes, pages_from, chain_pages, bytes_on, total_on}
 use Rattle.offpage_chain.specs.ChainChecks.{PlaceChecks, IsChainPart, PageCheck, PartCheck}
-use Rattle.offpage_chain.specs.CheckSteps.{PlaceIn, pages_in, first_due, DueCheck}
+use Rattle.offpage_chain.specs.Places.{PlaceIn}
+use Rattle.offpage_chain.specs.CheckSteps.{pages_in, first_due, DueCheck}
 
 -- the checks of the pages of a chain
 pub record Walk : Type 0 where

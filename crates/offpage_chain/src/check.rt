@@ -10,7 +10,8 @@ ghost use Rattle.space_audit.specs.Space.{IsAuditOf};
 ghost use Rattle.space_audit.specs.Marks.{is_set, Marked};
 ghost use Rattle.offpage_chain.specs.Chain.{chain_pages, part_length, bytes_on};
 ghost use Rattle.offpage_chain.specs.ChainChecks.{ChainChecks, ChainChecksBy, IsChainPart};
-ghost use Rattle.offpage_chain.specs.CheckSteps.{CanCheck, PlaceIn, pages_in, first_due, DueCheck, PagesCheck};
+ghost use Rattle.offpage_chain.specs.Places.{CanCheck, PlaceIn};
+ghost use Rattle.offpage_chain.specs.CheckSteps.{pages_in, first_due, DueCheck, PagesCheck};
 
 use crate::pages::{ChainPages, Due};
 use crate::part::{is_part, next_part, part_bytes, part_length};

@@ -9,8 +9,8 @@ ghost use Rattle.extent_map.specs.Head.{HasHeader};
 ghost use Rattle.space_audit.specs.Space.{IsAuditOf};
 ghost use Rattle.space_audit.specs.Marks.{is_set};
 ghost use Rattle.offpage_chain.specs.Chain.{RefersHere};
-ghost use Rattle.offpage_chain.specs.ChainChecks.{IsChainPlace, IsNewPlace, AuditedPlace, UnauditedPlace};
-ghost use Rattle.offpage_chain.specs.CheckSteps.{page_total, AreOf, PlaceIn, CanCheck};
+ghost use Rattle.offpage_chain.specs.ChainChecks.{IsChainPlace, IsNewPlace};
+ghost use Rattle.offpage_chain.specs.Places.{page_total, AreOf, PlaceIn, CanCheck};
 
 use crate::fetch::fetch_framed;
 use crate::reference::Reference;
@@ -64,67 +64,6 @@ fn is_new_place(header: &SpaceHeader, marks: &Marks, n: u32) -> bool
     n < header.size && !marks.has(n)
 }
 
-/// Fetches the page that is due in an audited space, where a chain may go on there.
-fn fetch_audited<S: PageSource, L: Ledger>(
-    source: &mut S,
-    space: &Space,
-    segment: u32,
-    due: Due,
-    marks: &Marks,
-    page: &mut Page,
-    steps: &mut Steps<L>,
-) -> Result<(), Halt>
-    requires told { OfFile S.PageSource source.old (λ file. IsAuditOf file space.now) }
-    requires members { length marks.now ≡ space.now.size }
-    ensures exact { OfFile S.PageSource source.old (λ file.
-        Halts result (AuditedPlace file segment due.holder (is_set marks.now due.page) due.page)) }
-    ensures page { OnOk result (OfFile S.PageSource source.old (λ file. page.new ≡ page_of file due.page)) }
-    ensures within { OnOk result (due.page < length marks.now) }
-    ensures new { OnOk result (is_set marks.now due.page ≡ false) }
-    ensures cost { steps.new ≤ steps.old + 1 }
-    ensures over { HaltsOver S.PageSource source.old source.new steps.old steps.new result }
-{
-    if !is_place(space, segment, marks, due.page) {
-        return Err(Halt::Broken(Rule::ChainPlace.at(due.holder)));
-    }
-    source.fetch(due.page, page, steps)?;
-    Ok(())
-}
-
-/// Fetches the page that is due in a space that wasn't audited, and checks its frame and its type.
-fn fetch_unaudited<S: PageSource, L: Ledger>(
-    source: &mut S,
-    header: &SpaceHeader,
-    due: Due,
-    marks: &Marks,
-    page: &mut Page,
-    steps: &mut Steps<L>,
-) -> Result<(), Halt>
-    requires told { OfFile S.PageSource source.old (λ file. HasHeader file header.now) }
-    requires members { length marks.now ≡ header.now.size }
-    ensures exact { OfFile S.PageSource source.old (λ file.
-        Halts result (UnauditedPlace file due.holder (is_set marks.now due.page) due.page)) }
-    ensures page { OnOk result (OfFile S.PageSource source.old (λ file. page.new ≡ page_of file due.page)) }
-    ensures within { OnOk result (due.page < length marks.now) }
-    ensures new { OnOk result (is_set marks.now due.page ≡ false) }
-    ensures cost { steps.new ≤ steps.old + 1 }
-    ensures over { HaltsOver S.PageSource source.old source.new steps.old steps.new result }
-{
-    let fault = Rule::ChainPlace.at(due.holder);
-    if !is_new_place(header, marks, due.page) {
-        return Err(Halt::Broken(fault));
-    }
-    fetch_framed(
-        source,
-        header,
-        due.page,
-        fault,
-        FIL_PAGE_TYPE_BLOB,
-        page,
-        steps,
-    )
-}
-
 impl ChainPages<'_> {
     /// How many pages their space has.
     pub fn size(&self) -> u32
@@ -171,12 +110,28 @@ impl ChainPages<'_> {
         ensures cost { steps.new ≤ steps.old + 1 }
         ensures over { HaltsOver S.PageSource source.old source.new steps.old steps.new result }
     {
+        let fault = Rule::ChainPlace.at(due.holder);
         match *self {
             ChainPages::Audited { space, segment } => {
-                fetch_audited(source, space, segment, due, marks, page, steps)
+                if !is_place(space, segment, marks, due.page) {
+                    return Err(Halt::Broken(fault));
+                }
+                source.fetch(due.page, page, steps)?;
+                Ok(())
             }
             ChainPages::Unaudited { header } => {
-                fetch_unaudited(source, header, due, marks, page, steps)
+                if !is_new_place(header, marks, due.page) {
+                    return Err(Halt::Broken(fault));
+                }
+                fetch_framed(
+                    source,
+                    header,
+                    due.page,
+                    fault,
+                    FIL_PAGE_TYPE_BLOB,
+                    page,
+                    steps,
+                )
             }
         }
     }

@@ -5,7 +5,7 @@ use Rattle.column_values.specs.declared.kind.ColumnType.{ColumnType}
 use Rattle.column_values.specs.declared.field.FieldType.{FieldType}
 use Rattle.compact_record.specs.declared.places.Place.{Place}
 use Rattle.offpage_chain.specs.ChainChecks.{PlaceChecks}
-use Rattle.offpage_chain.specs.CheckSteps.{PlaceIn}
+use Rattle.offpage_chain.specs.Places.{PlaceIn}
 use Rattle.table_check.specs.declared.leaf.Leaf.{Leaf}
 use Rattle.table_check.specs.declared.leaf.RowLeaf.{RowLeaf}
 use Rattle.table_check.specs.Values.{bytes_at, ValueChecksBy, FieldChecksBy, RecordChecksBy, RecordChecks}

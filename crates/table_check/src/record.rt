@@ -5,7 +5,7 @@ ghost use Rattle.page_source.specs.Calls.{OfFile, AsksNoMore};
 ghost use Rattle.column_values.specs.Types.{AreFields, IsFieldKind};
 ghost use Rattle.compact_record.specs.Keys.{LiesBelow, IsWholeReading};
 ghost use Rattle.space_audit.specs.Marks.{is_set};
-ghost use Rattle.offpage_chain.specs.CheckSteps.{CanCheck};
+ghost use Rattle.offpage_chain.specs.Places.{CanCheck};
 ghost use Rattle.table_check.specs.Marking.{CanMark, ChecksPages};
 ghost use Rattle.table_check.specs.Leaf.{FieldChecksOn, RowChecksOn, RecordChecksOn};
 ghost use Rattle.table_check.specs.Leaf.{pages_of_field_on, pages_of_row_on, pages_of_record_on};

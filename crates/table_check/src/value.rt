@@ -13,7 +13,7 @@ ghost use Rattle.table_check.specs.Marking.{ChecksPages};
 ghost use Rattle.table_check.specs.Values.{ValueChecksBy, pages_of_value, front_of};
 ghost use Rattle.table_check.specs.Leaf.{place_on, ValueChecksOn, pages_of_value_on};
 ghost use Rattle.offpage_chain.specs.Reference.{reference_of};
-ghost use Rattle.offpage_chain.specs.CheckSteps.{CanCheck};
+ghost use Rattle.offpage_chain.specs.Places.{CanCheck};
 
 use crate::leaf::RowLeaf;
 use column_values::{ColumnType, Utf8, greatest_length, is_value};

@@ -5,7 +5,7 @@ use Rattle.page_source.proofs.Told.{told0, told1, told2, told3}
 use Rattle.column_values.specs.Utf8Reader.{TakesText}
 use Rattle.space_audit.specs.Marks.{is_set}
 use Rattle.offpage_chain.proofs.Stages.{chain_empty, chain_elsewhere, chain_halts, chain_untold, chain_holds, text_says}
-use Rattle.offpage_chain.specs.CheckSteps.{PlaceIn}
+use Rattle.offpage_chain.specs.Places.{PlaceIn}
 use Rattle.offpage_chain.proofs.check.check_chain_in.Goals as goal
 
 pub returns-then-reference-eq0-clause-exact : goal.returns-then-reference-eq0-clause-exact
