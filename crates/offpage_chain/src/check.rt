@@ -161,8 +161,8 @@ pub fn check_chain_in<S: PageSource, L: Ledger>(
     Ok(count)
 }
 
-/// Checks the chain of an externally stored field in an audited space, as `check_chain_in` does. `segment` is the one of
-/// the clustered leaves.
+/// Checks the chain of an externally stored field in an audited space, as `check_chain_in` does. `segment` is the one
+/// of the clustered leaves.
 pub fn check_chain<S: PageSource, L: Ledger>(
     source: &mut S,
     space: &Space,

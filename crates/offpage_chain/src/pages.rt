@@ -28,7 +28,7 @@ const PART_HEADER: u32 = 38;
 pub enum ChainPages<'a> {
     /// Those that this segment of an audited space uses.
     Audited { space: &'a Space, segment: u32 },
-    /// Those of a space of which the header alone was checked. The frame and the type of each are checked here.
+    /// Those of a space of which the header alone was checked. The frame and type of each are checked with the chain.
     Unaudited { header: &'a SpaceHeader },
 }
 
@@ -40,7 +40,7 @@ pub(crate) struct Due {
     pub(crate) left: u32,
 }
 
-/// Whether a chain may go on at a page: a new one of this type that the segment uses.
+/// Whether a chain may go on at a page of an audited space: a new one of its type that the segment uses.
 fn is_place(space: &Space, segment: u32, marks: &Marks, n: u32) -> bool
     requires { length marks.now ≡ space.now.size }
     ensures place { (file : List ℕ) → IsAuditOf file space.now
@@ -85,7 +85,7 @@ impl ChainPages<'_> {
         }
     }
 
-    /// Whether a reference is to one of them.
+    /// Whether a reference is to a page of their space.
     pub(crate) fn refers_here(&self, reference: &Reference) -> bool
         ensures { (file : List ℕ) → AreOf file self.now → IsTrue result ↔ RefersHere file reference.now }
     {
