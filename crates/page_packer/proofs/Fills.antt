@@ -1,10 +1,12 @@
 -- A page that is filled: what one more record changes.
-use Rattle.std.proofs.Common.{◌≡◌, ℕ, ◌+◌, ◌-◌, ◌*◌, ◌<◌, ◌≤◌, Bool, true, false, if◌then◌else◌, lit<, List, [], ◌∷◌}
-use Rattle.std.proofs.Common.{◌++◌, length, take, map, set}
+use Rattle.std.proofs.Common.{◌≡◌, ℕ, zero, suc, ◌+◌, ◌-◌, ◌*◌, ◌<◌, ◌≤◌, Bool, true, false, if◌then◌else◌, lit<, List, [], ◌∷◌}
+use Rattle.std.proofs.Common.{◌++◌, length, take, drop, map, set, append-nil, append_assoc}
 use Rattle.std.proofs.Common.{slice_index, slice_range, refl, sym, ap, ◌∙◌, subst, arith, inl, inr, lit≤, length-set}
 use Rattle.std.proofs.lemmas.Bool.{cases_eq}
 use Rattle.std.proofs.lemmas.List.{same_lists, length-map, get_or-map, get_or-take, length-take-le, take_more_set}
-use Rattle.std.proofs.lemmas.List.{map_push}
+use Rattle.std.proofs.lemmas.List.{map_push, take_all, take_more, append_cancel_right}
+use Rattle.std.proofs.lemmas.List.Concat.{flat_map-append}
+use Rattle.std.proofs.lemmas.List.Folds.{drop_split}
 use Rattle.std.proofs.lemmas.List.{take-append-le, take_at, get_or-set_same, get_or-set_other, get_or_default}
 use Rattle.std.proofs.lemmas.List.Edits.{get_or-between, length-between}
 use Rattle.std.proofs.lemmas.List.Sums.{sum_by_push}
@@ -17,8 +19,9 @@ use Rattle.compact_record.proofs.Placed.{length-record_bytes, record_header, siz
 use Rattle.page_packer.specs.declared.packer.Spot.{Spot}
 use Rattle.page_packer.specs.Packing.{pushed_record, with_record, status_on}
 use Rattle.page_packer.specs.Packing.{Pushed, AreWhole, slots_for, total_size, pushed_at, start_of}
-use Rattle.page_packer.specs.Filling.{pushed_from, pushed_in, spot_at, IsSpot, IsFilled, HasSpot}
-use Rattle.page_packer.proofs.Sizes.{start_is, none_pushed, origin_in_page, slots_least}
+use Rattle.page_packer.specs.Filling.{pushed_from, pushed_in, unlinked_bytes, spot_at, IsSpot, IsFilled, HasSpot}
+use Rattle.page_packer.proofs.Sizes.{start_is, start_none, start_more, start_all, none_pushed, origin_in_page}
+use Rattle.page_packer.proofs.Sizes.{slots_least}
 
 -- the bytes before a write stay
 slice_before : (page : List ℕ) (at : ℕ) (bytes : List ℕ) (s e : ℕ) → e ≤ at → at + length bytes ≤ length page
@@ -265,21 +268,67 @@ whole_filled page spots count top long filled =
     let size : length (pushed_in page (take count spots)) ≡ count = pushed_count page spots count (omega arith) in
     record { each = λ k below. (has_spot page spots count top k long filled (omega (arith, size))).whole }
 
--- its bytes
-pub bytes_at : (page : List ℕ) (spots : List Spot) (count top k : ℕ) (spot : Spot) → length page ≡ 16384
-    → IsFilled page spots count top → k < count → HasSpot (pushed_in page (take count spots)) k spot
-    → slice_range page spot.start spot.end ≡ (pushed_at (pushed_in page (take count spots)) k).bytes
-bytes_at page spots count top k spot long filled below has =
+-- the bytes of one more record
+pub unlinked_more : (records : List Pushed) (k : ℕ) → k < length records
+    → unlinked_bytes (take (k + 1) records) ≡ unlinked_bytes (take k records) ++ (pushed_at records k).bytes
+unlinked_more records k below =
+    let r : Pushed = pushed_at records k in
+    ap (λ (rs : List Pushed). unlinked_bytes rs) (take_more records k none_pushed below)
+    ∙ flat_map-append (λ (p : Pushed). p.bytes) (take k records) (r ∷ [])
+    ∙ ap (λ (xs : List ℕ). unlinked_bytes (take k records) ++ xs) (append-nil r.bytes)
+
+-- the bytes from the start of the heap on are those of the first k records, and what stands behind them
+heap_pieces : (page : List ℕ) (spots : List Spot) (count top : ℕ) → length page ≡ 16384
+    → IsFilled page spots count top → (k : ℕ) → k ≤ count
+    → drop 120 page
+    ≡ unlinked_bytes (take k (pushed_in page (take count spots)))
+    ++ drop (start_of (pushed_in page (take count spots)) k) page
+heap_pieces page spots count top long filled zero most =
+    ap (λ (n : ℕ). drop n page) (sym (start_none (pushed_in page (take count spots))))
+heap_pieces page spots count top long filled (suc k) most =
     let few = filled.few in
     let room = filled.room in
     let fits = filled.fits in
-    let most : count ≤ length spots = omega arith in
-    let here : Spot = spot_at spots k in
-    let known = has_spot page spots count top k long filled below in
-    let start : spot.start ≡ here.start = has.start_is ∙ sym known.start_is in
-    let end : spot.end ≡ here.end = has.end_is ∙ sym known.end_is in
-    ap (λ (n : ℕ). slice_range page n spot.end) start ∙ ap (λ (n : ℕ). slice_range page here.start n) end
-    ∙ sym (ap (λ (r : Pushed). r.bytes) (pushed_is page spots count k most below))
+    let records : List Pushed = pushed_in page (take count spots) in
+    let r : Pushed = pushed_at records k in
+    let start : ℕ = start_of records k in
+    let end : ℕ = start_of records (k + 1) in
+    let size : length records ≡ count = pushed_count page spots count (omega arith) in
+    let has = has_spot page spots count top k long filled (omega arith) in
+    let more : end ≡ start + length r.bytes = start_more records k (omega (arith, size)) in
+    let bytes : slice_range page start end ≡ r.bytes =
+    ap (λ (n : ℕ). slice_range page n end) (sym has.start_is)
+    ∙ ap (λ (n : ℕ). slice_range page (spot_at spots k).start n) (more ∙ sym has.end_is)
+    ∙ sym (ap (λ (p : Pushed). p.bytes) (pushed_is page spots count k (omega arith) (omega arith))) in
+    let cut : drop start page ≡ r.bytes ++ drop end page =
+    drop_split page start end (omega (arith, more)) ∙ ap (λ (xs : List ℕ). xs ++ drop end page) bytes in
+    let front : unlinked_bytes (take (k + 1) records) ≡ unlinked_bytes (take k records) ++ r.bytes =
+    unlinked_more records k (omega (arith, size)) in
+    let step : drop 120 page ≡ unlinked_bytes (take (k + 1) records) ++ drop end page =
+    heap_pieces page spots count top long filled k (omega arith)
+    ∙ ap (λ (xs : List ℕ). unlinked_bytes (take k records) ++ xs) cut
+    ∙ sym (append_assoc (unlinked_bytes (take k records)) r.bytes (drop end page))
+    ∙ ap (λ (xs : List ℕ). xs ++ drop end page) (sym front) in
+    let next : k + 1 ≡ suc k = omega arith in
+    subst (λ (n : ℕ). drop 120 page ≡ unlinked_bytes (take n records) ++ drop (start_of records n) page) next step
+
+-- so the heap has the bytes of all records
+pub heap_is : (page : List ℕ) (spots : List Spot) (count top : ℕ) → length page ≡ 16384
+    → IsFilled page spots count top
+    → slice_range page 120 top ≡ unlinked_bytes (pushed_in page (take count spots))
+heap_is page spots count top long filled =
+    let few = filled.few in
+    let room = filled.room in
+    let fits = filled.fits in
+    let records : List Pushed = pushed_in page (take count spots) in
+    let size : length records ≡ count = pushed_count page spots count (omega arith) in
+    let all : take count records ≡ records = take_all count records (omega (arith, size)) in
+    let end : start_of records count ≡ top =
+    ap (λ (n : ℕ). start_of records n) (sym size) ∙ start_all records ∙ sym filled.top_is in
+    append_cancel_right (slice_range page 120 top) (unlinked_bytes records) (drop top page)
+    (sym (drop_split page 120 top (omega arith)) ∙ heap_pieces page spots count top long filled count (omega arith)
+    ∙ ap (λ (rs : List Pushed). unlinked_bytes rs ++ drop (start_of records count) page) all
+    ∙ ap (λ (n : ℕ). unlinked_bytes records ++ drop n page) end)
 
 mark_low : (minimum : Bool) → (if minimum then 16 else 0) ≤ 16
 mark_low true = lit≤ tt

@@ -2,9 +2,9 @@
 
 ghost use Rattle.std.specs.Prelude.{◌≡◌, ◌+◌, ◌*◌, ◌<◌, ◌≤◌, true, IfOk, length};
 ghost use Rattle.compact_record.specs.Writing.{FitFields, size_of_record};
-ghost use Rattle.page_packer.specs.Packing.{AreWhole, slots_for, total_size, fits_more, pushed_at, none_packed};
+ghost use Rattle.page_packer.specs.Packing.{AreWhole, slots_for, total_size, fits_more, none_packed};
 ghost use Rattle.page_packer.specs.Packing.{with_record};
-ghost use Rattle.page_packer.specs.Filling.{HasSpot};
+ghost use Rattle.page_packer.specs.Filling.{unlinked_bytes, HasSpot};
 
 use crate::parts::{FILL_START, slots_for, status_on};
 use column_values::FieldList;
@@ -159,12 +159,11 @@ impl Packer {
         self.spots[k]
     }
 
-    /// The bytes of record `k`.
-    pub(crate) fn bytes_of(&self, k: usize) -> &[u8]
-        requires { k < length self.now.records }
-        ensures { result.now ≡ (pushed_at self.now.records k).bytes }
+    /// The bytes of all records, one after another.
+    pub(crate) fn heap(&self) -> &[u8]
+        ensures value { result.now ≡ unlinked_bytes self.now.records }
+        ensures size { length result.now ≡ total_size self.now.records }
     {
-        let spot = self.spot(k);
-        &self.page.bytes()[spot.start..spot.end]
+        &self.page.bytes()[FILL_START..self.top]
     }
 }
