@@ -18,10 +18,10 @@ use Rattle.compact_record.specs.Writing.{record_bytes, origin_in, size_of_record
 use Rattle.compact_record.proofs.Placed.{length-record_bytes, record_header, size_is, origin_is}
 use Rattle.page_packer.specs.declared.packer.Spot.{Spot}
 use Rattle.page_packer.specs.Packing.{pushed_record, with_record, status_on}
-use Rattle.page_packer.specs.Packing.{Pushed, AreWhole, slots_for, total_size, pushed_at, start_of}
+use Rattle.page_packer.specs.Packing.{Pushed, Packing, AreWhole, slots_for, total_size, fits_more, pushed_at, start_of}
 use Rattle.page_packer.specs.Filling.{pushed_from, pushed_in, unlinked_bytes, spot_at, IsSpot, IsFilled, HasSpot}
 use Rattle.page_packer.proofs.Sizes.{start_is, start_none, start_more, start_all, none_pushed, origin_in_page}
-use Rattle.page_packer.proofs.Sizes.{slots_least}
+use Rattle.page_packer.proofs.Sizes.{slots_least, fits_of}
 
 -- the bytes before a write stay
 slice_before : (page : List ℕ) (at : ℕ) (bytes : List ℕ) (s e : ℕ) → e ≤ at → at + length bytes ≤ length page
@@ -342,34 +342,52 @@ info_low fields parts heap kind minimum =
     let place : origin_in fields parts - 5 ≡ b + 0 = omega (arith, origin_is fields parts) in
     rw (place, record_header fields parts heap kind minimum 0 (lit< tt)) (mark_low minimum)
 
+-- one more record that fits ends before the directory
+pub room_more : (packing : Packing) (page : List ℕ) (spots : List Spot) (count top size : ℕ)
+    → IsFilled page spots count top → packing.records ≡ pushed_in page (take count spots)
+    → fits_more packing size ≡ true → top + size + 2 * slots_for (count + 1) ≤ 16376
+room_more packing page spots count top size filled same more =
+    let few = filled.few in
+    let room = filled.room in
+    let fits = filled.fits in
+    let top_is = filled.top_is in
+    let counted : length packing.records ≡ count =
+    ap (λ (rs : List Pushed). length rs) same ∙ pushed_count page spots count (omega arith) in
+    let sum = fits_of (length packing.records + 1) (total_size packing.records + size) more in
+    let slots : slots_for (length packing.records + 1) ≡ slots_for (count + 1) =
+    ap (λ (n : ℕ). slots_for (n + 1)) counted in
+    omega (arith, sum, slots, ap (λ (rs : List Pushed). total_size rs) same)
+
 pub push_filled : (page now : List ℕ) (spots : List Spot) (count top : ℕ) (fields : Fields) (parts : List Part)
-    (heap kind : ℕ) (minimum : Bool) (origin size : ℕ)
+    (heap kind : ℕ) (minimum : Bool) (origin end : ℕ)
     → IsFilled page spots count top → length page ≡ 16384
     → now ≡ with_bytes page top (record_bytes fields parts heap kind minimum)
-    → origin ≡ top + origin_in fields parts → size ≡ size_of_record fields parts
-    → top + size + 2 * slots_for (count + 1) ≤ 16376
-    → IsFilled now (set spots count (record { start = top; origin = origin; end = top + size })) (count + 1) (top + size)
-push_filled page now spots count top fields parts heap kind minimum origin size filled long is place sized fits =
+    → origin ≡ top + origin_in fields parts → end ≡ top + size_of_record fields parts
+    → end + 2 * slots_for (count + 1) ≤ 16376
+    → IsFilled now (set spots count (record { start = top; origin = origin; end = end })) (count + 1) end
+push_filled page now spots count top fields parts heap kind minimum origin end filled long is place ends fits =
     let bytes : List ℕ = record_bytes fields parts heap kind minimum in
-    let all : size ≡ length bytes = sized ∙ sym (length-record_bytes fields parts heap kind minimum) in
+    let size = length-record_bytes fields parts heap kind minimum in
+    let all : end ≡ top + length bytes = omega (arith, ends, size) in
     let sizes = size_is fields parts in
     let offset = origin_is fields parts in
     let fits' : top + length bytes + 2 * slots_for (count + 1) ≤ 16376 = rw all at fits in
     rw (is, place, all) (filled_more page spots count top (origin_in fields parts) bytes filled long (omega arith)
-    (omega (arith, all, sized)) (info_low fields parts heap kind minimum) fits')
+    (omega (arith, size, sizes, offset)) (info_low fields parts heap kind minimum) fits')
 
 pub push_records : (page now : List ℕ) (spots : List Spot) (count top : ℕ) (fields : Fields) (parts : List Part)
-    (heap kind : ℕ) (minimum : Bool) (origin size : ℕ)
+    (heap kind : ℕ) (minimum : Bool) (origin end : ℕ)
     → IsFilled page spots count top → length page ≡ 16384
     → now ≡ with_bytes page top (record_bytes fields parts heap kind minimum)
-    → origin ≡ top + origin_in fields parts → size ≡ size_of_record fields parts
-    → top + size + 2 * slots_for (count + 1) ≤ 16376
-    → pushed_in now (take (count + 1) (set spots count (record { start = top; origin = origin; end = top + size })))
+    → origin ≡ top + origin_in fields parts → end ≡ top + size_of_record fields parts
+    → end + 2 * slots_for (count + 1) ≤ 16376
+    → pushed_in now (take (count + 1) (set spots count (record { start = top; origin = origin; end = end })))
     ≡ pushed_in page (take count spots)
     ++ record { bytes = record_bytes fields parts heap kind minimum; origin = origin_in fields parts } ∷ []
-push_records page now spots count top fields parts heap kind minimum origin size filled long is place sized fits =
+push_records page now spots count top fields parts heap kind minimum origin end filled long is place ends fits =
     let bytes : List ℕ = record_bytes fields parts heap kind minimum in
-    let all : size ≡ length bytes = sized ∙ sym (length-record_bytes fields parts heap kind minimum) in
+    let size = length-record_bytes fields parts heap kind minimum in
+    let all : end ≡ top + length bytes = omega (arith, ends, size) in
     let few = filled.few in
     let room = filled.room in
     let least = slots_least (count + 1) in

@@ -26,7 +26,7 @@ impl Packer {
         ensures within { result ≤ 16384 }
     {
         if k < self.count() {
-            self.spot(k).origin
+            self.spot(k).origin as usize
         } else {
             SUPREMUM
         }
@@ -68,10 +68,11 @@ impl Packer {
     {
         prove!(page.bytes().len() == PAGE_SIZE);
         let spot = self.spot(k);
-        let info = page.bytes()[spot.origin - 5] + owned_at(self.count(), k);
+        let origin = spot.origin as usize;
+        let info = page.bytes()[origin - 5] + owned_at(self.count(), k);
         let next = self.next_at(k);
-        page.put_bytes(spot.origin - 5, &[info]);
-        write_be::<2>(page, spot.origin - 2, next);
+        page.put_bytes(origin - 5, &[info]);
+        write_be::<2>(page, origin - 2, next);
     }
 
     /// Writes all records, one after another.
