@@ -7,7 +7,7 @@ work=$(mktemp -d)
 trap 'rm -rf "$work"' EXIT
 mkdir -p "$work/crates/packing/src"
 below='page_source column_values fil_frame compact_record index_page page_packer'
-for name in $below; do cp -r "crates/$name" "$work/crates/"; done
+for name in $below; do cp -al "crates/$name" "$work/crates/" || cp -r "crates/$name" "$work/crates/"; done
 cp bench/packing.rattle "$work/crates/packing/src/main.rt"
 {
     for name in $below; do grep -E "^$name:" crates.txt; done

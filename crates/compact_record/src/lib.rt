@@ -16,4 +16,4 @@ pub use header::{deleted, heap_number, minimum, next_field, next_origin, owned, 
 pub use located::{Located, locate};
 pub use parts::{Part, Parts};
 pub use places::Place;
-pub use writing::{place, record_size};
+pub use writing::{RecordPlace, place, place_record, record_size};

@@ -2,16 +2,16 @@
 
 ghost use Rattle.std.specs.Prelude.{◌≡◌, ◌+◌, ◌^◌, ◌≤◌, ◌<◌, ◌&&◌, ◌||◌, nat_lt, if◌then◌else◌, length, reverse};
 ghost use Rattle.page_source.specs.Pages.{with_bytes};
-ghost use Rattle.column_values.specs.Types.{is_big};
+ghost use Rattle.column_values.specs.Types.{field_at};
 ghost use Rattle.compact_record.specs.Reading.{null_bytes};
 ghost use Rattle.compact_record.specs.Writing.{FitsField, FitFields, CanPlace, local_bytes, null_byte, length_of_part};
 ghost use Rattle.compact_record.specs.Writing.{all_null_bytes, all_lengths, value_bytes, header_bytes, record_bytes};
 ghost use Rattle.compact_record.specs.Writing.{origin_in, size_of_record};
 
-use crate::field::field_at;
+use crate::field::storage_at;
 use crate::parts::{Part, Parts};
 use crate::places::Sizes;
-use column_values::{Field, FieldList};
+use column_values::FieldList;
 use page_source::{PAGE_SIZE, Page};
 
 /// The bytes of a record's header before its origin (REC_N_NEW_EXTRA_BYTES).
@@ -25,44 +25,48 @@ const LONG: usize = 0x80;
 
 const LONG_EXTERNAL: usize = 0xC0;
 
-/// Whether a length takes two bytes.
-fn is_long(field: &Field, length: usize, external: bool) -> bool
-    ensures { result ≡ (external || (is_big field.now.kind && nat_lt 127 length)) }
+/// Whether a length takes two bytes, where it may.
+fn is_long(big: bool, length: usize, external: bool) -> bool
+    ensures { result ≡ (external || (big && nat_lt 127 length)) }
 {
-    external || field.kind.is_big() && length > 127
+    external || big && length > 127
 }
 
-/// How many bytes the length of a part takes.
-fn length_size(field: &Field, part: &Part) -> usize
-    ensures value { result ≡ length (length_of_part (field.now, part.now)) }
+/// How many bytes the length of field `i` takes.
+fn length_size(fields: &FieldList, i: usize, part: &Part) -> usize
+    requires { i < length fields.now.fields }
+    ensures value { result ≡ length (length_of_part (field_at fields.now i, part.now)) }
     ensures few { result ≤ 2 }
 {
     let Part::Bytes { bytes, external } = part else {
         return 0;
     };
-    if !field.kind.is_variable() {
+    let stored = storage_at(fields, i);
+    if !stored.variable {
         return 0;
     }
-    if is_long(field, bytes.bytes().len(), *external) {
+    if is_long(stored.big, bytes.bytes().len(), *external) {
         2
     } else {
         1
     }
 }
 
-/// How many bytes a part has in the record.
-fn local_size(field: &Field, part: &Part) -> usize
-    requires { FitsField field.now part.now }
+/// How many bytes field `i` has in the record.
+fn local_size(fields: &FieldList, i: usize, part: &Part) -> usize
+    requires inside { i < length fields.now.fields }
+    requires fits { FitsField (field_at fields.now i) part.now }
     ensures value { result ≡ length (local_bytes part.now) }
     ensures within { result < 34359738368 }
 {
     let Part::Bytes { bytes, external } = part else {
         return 0;
     };
-    if *external || field.kind.is_variable() {
+    let stored = storage_at(fields, i);
+    if *external || stored.variable {
         bytes.bytes().len()
     } else {
-        field.kind.fixed_length()
+        stored.length
     }
 }
 
@@ -78,9 +82,9 @@ fn part_sizes(fields: &FieldList, parts: &Parts) -> Sizes
     let mut lengths = 0;
     let mut local = 0;
     for i in 0..count {
-        let field = field_at(fields, i);
-        lengths += length_size(&field, parts.at(i));
-        local += local_size(&field, parts.at(i));
+        let part = parts.at(i);
+        lengths += length_size(fields, i, part);
+        local += local_size(fields, i, part);
     }
     Sizes { lengths, local }
 }
@@ -94,21 +98,23 @@ pub fn record_size(fields: &FieldList, parts: &Parts) -> usize
     (fields.nullable() as usize + 7) / 8 + sizes.lengths + HEADER + sizes.local
 }
 
-/// Writes the length of a part from byte `at` on, its last byte first, and answers where it ends.
-fn put_length(page: &mut Page, at: usize, field: &Field, part: &Part) -> usize
-    requires fits { FitsField field.now part.now }
-    requires inside { at + length (length_of_part (field.now, part.now)) ≤ 16384 }
-    ensures page { page.new ≡ with_bytes page.old at (reverse (length_of_part (field.now, part.now))) }
-    ensures end { result ≡ at + length (length_of_part (field.now, part.now)) }
+/// Writes the length of field `i` from byte `at` on, its last byte first, and answers where it ends.
+fn put_length(page: &mut Page, at: usize, fields: &FieldList, i: usize, part: &Part) -> usize
+    requires within { i < length fields.now.fields }
+    requires fits { FitsField (field_at fields.now i) part.now }
+    requires inside { at + length (length_of_part (field_at fields.now i, part.now)) ≤ 16384 }
+    ensures page { page.new ≡ with_bytes page.old at (reverse (length_of_part (field_at fields.now i, part.now))) }
+    ensures end { result ≡ at + length (length_of_part (field_at fields.now i, part.now)) }
 {
     let Part::Bytes { bytes, external } = part else {
         return at;
     };
-    if !field.kind.is_variable() {
+    let stored = storage_at(fields, i);
+    if !stored.variable {
         return at;
     }
     let length = bytes.bytes().len();
-    if is_long(field, length, *external) {
+    if is_long(stored.big, length, *external) {
         let mark = if *external { LONG_EXTERNAL } else { LONG };
         page.put_bytes(at, &[(length % 256) as u8, (mark + length / 256) as u8]);
         at + 2
@@ -130,8 +136,7 @@ fn put_lengths(page: &mut Page, at: usize, fields: &FieldList, parts: &Parts) ->
     let mut end = at;
     for k in 0..count {
         let i = count - 1 - k;
-        let field = field_at(fields, i);
-        end = put_length(page, end, &field, parts.at(i));
+        end = put_length(page, end, fields, i, parts.at(i));
     }
     end
 }
@@ -154,7 +159,7 @@ fn null_byte(fields: &FieldList, parts: &Parts, j: usize) -> u8
     let mut byte = 0;
     let mut nulls = 0;
     for i in 0..count {
-        if field_at(fields, i).nullable {
+        if storage_at(fields, i).nullable {
             if nulls / 8 == j {
                 byte = with_bit(byte, nulls % 8, parts.at(i).is_null());
             }
@@ -197,10 +202,11 @@ fn put_header(page: &mut Page, at: usize, heap: u16, kind: u8, minimum: bool) ->
     at + HEADER
 }
 
-/// Writes the bytes of all parts from byte `at` on.
-fn put_values(page: &mut Page, at: usize, parts: &Parts)
+/// Writes the bytes of all parts from byte `at` on, and answers where they end.
+fn put_values(page: &mut Page, at: usize, parts: &Parts) -> usize
     requires { at + length (value_bytes parts.now) ≤ 16384 }
-    ensures { page.new ≡ with_bytes page.old at (value_bytes parts.now) }
+    ensures page { page.new ≡ with_bytes page.old at (value_bytes parts.now) }
+    ensures end { result ≡ at + length (value_bytes parts.now) }
 {
     prove!(page.bytes().len() == PAGE_SIZE);
     let mut end = at;
@@ -209,10 +215,44 @@ fn put_values(page: &mut Page, at: usize, parts: &Parts)
         page.put_bytes(end, bytes);
         end += bytes.len();
     }
+    end
+}
+
+/// Where a record was placed.
+#[derive(Clone, Copy, Debug, PartialEq, Eq)]
+pub struct RecordPlace {
+    /// The offset where its fields begin.
+    pub origin: usize,
+    /// The offset of the byte behind its last.
+    pub end: usize,
 }
 
 /// Writes the record of these parts from byte `at` of the page on, with its number in the heap and its status, and
-/// answers the byte where its fields begin. It owns no record, and no record is next. The other bytes of the page stay.
+/// answers the byte where its fields begin, and where it ends. It owns no record, and no record is next. The other bytes
+/// of the page stay.
+pub fn place_record(
+    page: &mut Page,
+    at: usize,
+    fields: &FieldList,
+    parts: &Parts,
+    heap: u16,
+    kind: u8,
+    minimum: bool,
+) -> RecordPlace
+    requires { CanPlace at heap kind fields.now parts.now }
+    ensures page { page.new ≡ with_bytes page.old at (record_bytes fields.now parts.now heap kind minimum) }
+    ensures origin { result.origin ≡ at + origin_in fields.now parts.now }
+    ensures end { result.end ≡ at + size_of_record fields.now parts.now }
+{
+    prove!(page.bytes().len() == PAGE_SIZE);
+    let nulls = put_lengths(page, at, fields, parts);
+    let header = put_null_bytes(page, nulls, fields, parts);
+    let origin = put_header(page, header, heap, kind, minimum);
+    let end = put_values(page, origin, parts);
+    RecordPlace { origin, end }
+}
+
+/// The same, where its end isn't asked for: it answers the byte where its fields begin.
 pub fn place(
     page: &mut Page,
     at: usize,
@@ -226,10 +266,5 @@ pub fn place(
     ensures page { page.new ≡ with_bytes page.old at (record_bytes fields.now parts.now heap kind minimum) }
     ensures origin { result ≡ at + origin_in fields.now parts.now }
 {
-    prove!(page.bytes().len() == PAGE_SIZE);
-    let nulls = put_lengths(page, at, fields, parts);
-    let header = put_null_bytes(page, nulls, fields, parts);
-    let origin = put_header(page, header, heap, kind, minimum);
-    put_values(page, origin, parts);
-    origin
+    place_record(page, at, fields, parts, heap, kind, minimum).origin
 }

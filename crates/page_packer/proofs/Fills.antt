@@ -1,10 +1,12 @@
 -- A page that is filled: what one more record changes.
-use Rattle.std.proofs.Common.{◌≡◌, ℕ, ◌+◌, ◌-◌, ◌*◌, ◌<◌, ◌≤◌, Bool, true, false, if◌then◌else◌, lit<, List, [], ◌∷◌}
-use Rattle.std.proofs.Common.{◌++◌, length, take, map, set}
+use Rattle.std.proofs.Common.{◌≡◌, ℕ, zero, suc, ◌+◌, ◌-◌, ◌*◌, ◌<◌, ◌≤◌, Bool, true, false, if◌then◌else◌, lit<, List, [], ◌∷◌}
+use Rattle.std.proofs.Common.{◌++◌, length, take, drop, map, set, append-nil, append_assoc}
 use Rattle.std.proofs.Common.{slice_index, slice_range, refl, sym, ap, ◌∙◌, subst, arith, inl, inr, lit≤, length-set}
 use Rattle.std.proofs.lemmas.Bool.{cases_eq}
 use Rattle.std.proofs.lemmas.List.{same_lists, length-map, get_or-map, get_or-take, length-take-le, take_more_set}
-use Rattle.std.proofs.lemmas.List.{map_push}
+use Rattle.std.proofs.lemmas.List.{map_push, take_all, take_more, append_cancel_right}
+use Rattle.std.proofs.lemmas.List.Concat.{flat_map-append}
+use Rattle.std.proofs.lemmas.List.Folds.{drop_split}
 use Rattle.std.proofs.lemmas.List.{take-append-le, take_at, get_or-set_same, get_or-set_other, get_or_default}
 use Rattle.std.proofs.lemmas.List.Edits.{get_or-between, length-between}
 use Rattle.std.proofs.lemmas.List.Sums.{sum_by_push}
@@ -16,9 +18,10 @@ use Rattle.compact_record.specs.Writing.{record_bytes, origin_in, size_of_record
 use Rattle.compact_record.proofs.Placed.{length-record_bytes, record_header, size_is, origin_is}
 use Rattle.page_packer.specs.declared.packer.Spot.{Spot}
 use Rattle.page_packer.specs.Packing.{pushed_record, with_record, status_on}
-use Rattle.page_packer.specs.Packing.{Pushed, AreWhole, slots_for, total_size, pushed_at, start_of}
-use Rattle.page_packer.specs.Filling.{pushed_from, pushed_in, spot_at, IsSpot, IsFilled, HasSpot}
-use Rattle.page_packer.proofs.Sizes.{start_is, none_pushed, origin_in_page, slots_least}
+use Rattle.page_packer.specs.Packing.{Pushed, Packing, AreWhole, slots_for, total_size, fits_more, pushed_at, start_of}
+use Rattle.page_packer.specs.Filling.{pushed_from, pushed_in, unlinked_bytes, spot_at, IsSpot, IsFilled, HasSpot}
+use Rattle.page_packer.proofs.Sizes.{start_is, start_none, start_more, start_all, none_pushed, origin_in_page}
+use Rattle.page_packer.proofs.Sizes.{slots_least, fits_of}
 
 -- the bytes before a write stay
 slice_before : (page : List ℕ) (at : ℕ) (bytes : List ℕ) (s e : ℕ) → e ≤ at → at + length bytes ≤ length page
@@ -265,21 +268,67 @@ whole_filled page spots count top long filled =
     let size : length (pushed_in page (take count spots)) ≡ count = pushed_count page spots count (omega arith) in
     record { each = λ k below. (has_spot page spots count top k long filled (omega (arith, size))).whole }
 
--- its bytes
-pub bytes_at : (page : List ℕ) (spots : List Spot) (count top k : ℕ) (spot : Spot) → length page ≡ 16384
-    → IsFilled page spots count top → k < count → HasSpot (pushed_in page (take count spots)) k spot
-    → slice_range page spot.start spot.end ≡ (pushed_at (pushed_in page (take count spots)) k).bytes
-bytes_at page spots count top k spot long filled below has =
+-- the bytes of one more record
+pub unlinked_more : (records : List Pushed) (k : ℕ) → k < length records
+    → unlinked_bytes (take (k + 1) records) ≡ unlinked_bytes (take k records) ++ (pushed_at records k).bytes
+unlinked_more records k below =
+    let r : Pushed = pushed_at records k in
+    ap (λ (rs : List Pushed). unlinked_bytes rs) (take_more records k none_pushed below)
+    ∙ flat_map-append (λ (p : Pushed). p.bytes) (take k records) (r ∷ [])
+    ∙ ap (λ (xs : List ℕ). unlinked_bytes (take k records) ++ xs) (append-nil r.bytes)
+
+-- the bytes from the start of the heap on are those of the first k records, and what stands behind them
+heap_pieces : (page : List ℕ) (spots : List Spot) (count top : ℕ) → length page ≡ 16384
+    → IsFilled page spots count top → (k : ℕ) → k ≤ count
+    → drop 120 page
+    ≡ unlinked_bytes (take k (pushed_in page (take count spots)))
+    ++ drop (start_of (pushed_in page (take count spots)) k) page
+heap_pieces page spots count top long filled zero most =
+    ap (λ (n : ℕ). drop n page) (sym (start_none (pushed_in page (take count spots))))
+heap_pieces page spots count top long filled (suc k) most =
     let few = filled.few in
     let room = filled.room in
     let fits = filled.fits in
-    let most : count ≤ length spots = omega arith in
-    let here : Spot = spot_at spots k in
-    let known = has_spot page spots count top k long filled below in
-    let start : spot.start ≡ here.start = has.start_is ∙ sym known.start_is in
-    let end : spot.end ≡ here.end = has.end_is ∙ sym known.end_is in
-    ap (λ (n : ℕ). slice_range page n spot.end) start ∙ ap (λ (n : ℕ). slice_range page here.start n) end
-    ∙ sym (ap (λ (r : Pushed). r.bytes) (pushed_is page spots count k most below))
+    let records : List Pushed = pushed_in page (take count spots) in
+    let r : Pushed = pushed_at records k in
+    let start : ℕ = start_of records k in
+    let end : ℕ = start_of records (k + 1) in
+    let size : length records ≡ count = pushed_count page spots count (omega arith) in
+    let has = has_spot page spots count top k long filled (omega arith) in
+    let more : end ≡ start + length r.bytes = start_more records k (omega (arith, size)) in
+    let bytes : slice_range page start end ≡ r.bytes =
+    ap (λ (n : ℕ). slice_range page n end) (sym has.start_is)
+    ∙ ap (λ (n : ℕ). slice_range page (spot_at spots k).start n) (more ∙ sym has.end_is)
+    ∙ sym (ap (λ (p : Pushed). p.bytes) (pushed_is page spots count k (omega arith) (omega arith))) in
+    let cut : drop start page ≡ r.bytes ++ drop end page =
+    drop_split page start end (omega (arith, more)) ∙ ap (λ (xs : List ℕ). xs ++ drop end page) bytes in
+    let front : unlinked_bytes (take (k + 1) records) ≡ unlinked_bytes (take k records) ++ r.bytes =
+    unlinked_more records k (omega (arith, size)) in
+    let step : drop 120 page ≡ unlinked_bytes (take (k + 1) records) ++ drop end page =
+    heap_pieces page spots count top long filled k (omega arith)
+    ∙ ap (λ (xs : List ℕ). unlinked_bytes (take k records) ++ xs) cut
+    ∙ sym (append_assoc (unlinked_bytes (take k records)) r.bytes (drop end page))
+    ∙ ap (λ (xs : List ℕ). xs ++ drop end page) (sym front) in
+    let next : k + 1 ≡ suc k = omega arith in
+    subst (λ (n : ℕ). drop 120 page ≡ unlinked_bytes (take n records) ++ drop (start_of records n) page) next step
+
+-- so the heap has the bytes of all records
+pub heap_is : (page : List ℕ) (spots : List Spot) (count top : ℕ) → length page ≡ 16384
+    → IsFilled page spots count top
+    → slice_range page 120 top ≡ unlinked_bytes (pushed_in page (take count spots))
+heap_is page spots count top long filled =
+    let few = filled.few in
+    let room = filled.room in
+    let fits = filled.fits in
+    let records : List Pushed = pushed_in page (take count spots) in
+    let size : length records ≡ count = pushed_count page spots count (omega arith) in
+    let all : take count records ≡ records = take_all count records (omega (arith, size)) in
+    let end : start_of records count ≡ top =
+    ap (λ (n : ℕ). start_of records n) (sym size) ∙ start_all records ∙ sym filled.top_is in
+    append_cancel_right (slice_range page 120 top) (unlinked_bytes records) (drop top page)
+    (sym (drop_split page 120 top (omega arith)) ∙ heap_pieces page spots count top long filled count (omega arith)
+    ∙ ap (λ (rs : List Pushed). unlinked_bytes rs ++ drop (start_of records count) page) all
+    ∙ ap (λ (n : ℕ). unlinked_bytes records ++ drop n page) end)
 
 mark_low : (minimum : Bool) → (if minimum then 16 else 0) ≤ 16
 mark_low true = lit≤ tt
@@ -293,34 +342,52 @@ info_low fields parts heap kind minimum =
     let place : origin_in fields parts - 5 ≡ b + 0 = omega (arith, origin_is fields parts) in
     rw (place, record_header fields parts heap kind minimum 0 (lit< tt)) (mark_low minimum)
 
+-- one more record that fits ends before the directory
+pub room_more : (packing : Packing) (page : List ℕ) (spots : List Spot) (count top size : ℕ)
+    → IsFilled page spots count top → packing.records ≡ pushed_in page (take count spots)
+    → fits_more packing size ≡ true → top + size + 2 * slots_for (count + 1) ≤ 16376
+room_more packing page spots count top size filled same more =
+    let few = filled.few in
+    let room = filled.room in
+    let fits = filled.fits in
+    let top_is = filled.top_is in
+    let counted : length packing.records ≡ count =
+    ap (λ (rs : List Pushed). length rs) same ∙ pushed_count page spots count (omega arith) in
+    let sum = fits_of (length packing.records + 1) (total_size packing.records + size) more in
+    let slots : slots_for (length packing.records + 1) ≡ slots_for (count + 1) =
+    ap (λ (n : ℕ). slots_for (n + 1)) counted in
+    omega (arith, sum, slots, ap (λ (rs : List Pushed). total_size rs) same)
+
 pub push_filled : (page now : List ℕ) (spots : List Spot) (count top : ℕ) (fields : Fields) (parts : List Part)
-    (heap kind : ℕ) (minimum : Bool) (origin size : ℕ)
+    (heap kind : ℕ) (minimum : Bool) (origin end : ℕ)
     → IsFilled page spots count top → length page ≡ 16384
     → now ≡ with_bytes page top (record_bytes fields parts heap kind minimum)
-    → origin ≡ top + origin_in fields parts → size ≡ size_of_record fields parts
-    → top + size + 2 * slots_for (count + 1) ≤ 16376
-    → IsFilled now (set spots count (record { start = top; origin = origin; end = top + size })) (count + 1) (top + size)
-push_filled page now spots count top fields parts heap kind minimum origin size filled long is place sized fits =
+    → origin ≡ top + origin_in fields parts → end ≡ top + size_of_record fields parts
+    → end + 2 * slots_for (count + 1) ≤ 16376
+    → IsFilled now (set spots count (record { start = top; origin = origin; end = end })) (count + 1) end
+push_filled page now spots count top fields parts heap kind minimum origin end filled long is place ends fits =
     let bytes : List ℕ = record_bytes fields parts heap kind minimum in
-    let all : size ≡ length bytes = sized ∙ sym (length-record_bytes fields parts heap kind minimum) in
+    let size = length-record_bytes fields parts heap kind minimum in
+    let all : end ≡ top + length bytes = omega (arith, ends, size) in
     let sizes = size_is fields parts in
     let offset = origin_is fields parts in
     let fits' : top + length bytes + 2 * slots_for (count + 1) ≤ 16376 = rw all at fits in
     rw (is, place, all) (filled_more page spots count top (origin_in fields parts) bytes filled long (omega arith)
-    (omega (arith, all, sized)) (info_low fields parts heap kind minimum) fits')
+    (omega (arith, size, sizes, offset)) (info_low fields parts heap kind minimum) fits')
 
 pub push_records : (page now : List ℕ) (spots : List Spot) (count top : ℕ) (fields : Fields) (parts : List Part)
-    (heap kind : ℕ) (minimum : Bool) (origin size : ℕ)
+    (heap kind : ℕ) (minimum : Bool) (origin end : ℕ)
     → IsFilled page spots count top → length page ≡ 16384
     → now ≡ with_bytes page top (record_bytes fields parts heap kind minimum)
-    → origin ≡ top + origin_in fields parts → size ≡ size_of_record fields parts
-    → top + size + 2 * slots_for (count + 1) ≤ 16376
-    → pushed_in now (take (count + 1) (set spots count (record { start = top; origin = origin; end = top + size })))
+    → origin ≡ top + origin_in fields parts → end ≡ top + size_of_record fields parts
+    → end + 2 * slots_for (count + 1) ≤ 16376
+    → pushed_in now (take (count + 1) (set spots count (record { start = top; origin = origin; end = end })))
     ≡ pushed_in page (take count spots)
     ++ record { bytes = record_bytes fields parts heap kind minimum; origin = origin_in fields parts } ∷ []
-push_records page now spots count top fields parts heap kind minimum origin size filled long is place sized fits =
+push_records page now spots count top fields parts heap kind minimum origin end filled long is place ends fits =
     let bytes : List ℕ = record_bytes fields parts heap kind minimum in
-    let all : size ≡ length bytes = sized ∙ sym (length-record_bytes fields parts heap kind minimum) in
+    let size = length-record_bytes fields parts heap kind minimum in
+    let all : end ≡ top + length bytes = omega (arith, ends, size) in
     let few = filled.few in
     let room = filled.room in
     let least = slots_least (count + 1) in

@@ -1,11 +1,13 @@
 -- A packed page that is written part by part.
 use Rattle.std.proofs.Common.{◌≡◌, ℕ, ◌+◌, ◌-◌, ◌*◌, ◌<◌, ◌≤◌, List, [], ◌∷◌, ◌++◌, length}
-use Rattle.std.proofs.Common.{get_or, take, map, reverse, flat_map, replicate, codes, slice_index, Option}
+use Rattle.std.proofs.Common.{get_or, take, drop, map, reverse, flat_map, replicate, codes, slice_index, Option}
 use Rattle.std.proofs.Common.{refl, sym, ap, ◌∙◌, arith, inl, inr, length-append, append-nil}
+use Rattle.std.proofs.Common.{append_assoc}
+use Rattle.std.proofs.Math.Seq.{take_at, drop_at}
 use Rattle.std.specs.List.{range_with_len}
 use Rattle.std.proofs.lemmas.Bool.{cases_lt}
 use Rattle.std.proofs.lemmas.List.{same_lists, take_more, take_all, length-reverse, length-take-le, get_or-reverse}
-use Rattle.std.proofs.lemmas.List.{length-replicate}
+use Rattle.std.proofs.lemmas.List.{length-replicate, drop_more, drop_all}
 use Rattle.std.proofs.lemmas.List.Concat.{flat_map-append}
 use Rattle.std.proofs.lemmas.List.FromFn.{length-range_with_len, length-map-range_with_len}
 use Rattle.std.proofs.lemmas.List.FromFn.{get_or-map-range_with_len}
@@ -16,11 +18,13 @@ use Rattle.compact_record.proofs.WriteSteps.{written_more}
 use Rattle.index_page.specs.Header.{infimum}
 use Rattle.page_packer.specs.declared.packer.Heads.{Heads}
 use Rattle.page_packer.specs.Packing.{Pushed, Packing, IsWhole, AreWhole, slots_for, total_size, start_of, origin_at}
+use Rattle.page_packer.specs.Packing.{pushed_at, owned_at, next_of_record}
 use Rattle.page_packer.specs.Packing.{owned_by_supremum, next_between, linked, linked_bytes}
 use Rattle.page_packer.specs.Packing.{heap_bytes, slot_origin, directory_bytes, segment_header, head_bytes}
 use Rattle.page_packer.specs.Packing.{header_numbers}
 use Rattle.page_packer.specs.Packing.{page_header, end_bytes, page_beside, packed_page}
-use Rattle.page_packer.proofs.Sizes.{front_length, place_in_range, start_is}
+use Rattle.page_packer.specs.Filling.{unlinked_bytes}
+use Rattle.page_packer.proofs.Sizes.{front_length, place_in_range, start_is, none_pushed, length-linked}
 use Rattle.page_packer.proofs.Sizes.{pairs_length}
 use Rattle.page_packer.proofs.PagePieces.{length-page_header, length-end_bytes, beside_length}
 
@@ -82,14 +86,26 @@ with_bytes-within page at bytes i piece inside within =
           ]
     ])
 
--- a record that is linked in three steps
-pub linked_put : (page first second third : List ℕ) (start origin info owned next : ℕ) (r : Pushed) → IsWhole r
-    → start + length r.bytes ≤ length page → origin ≡ start + r.origin
-    → info ≡ slice_index r.bytes (r.origin - 5) + owned
-    → first ≡ with_bytes page start r.bytes → second ≡ with_bytes first (origin - 5) (info ∷ [])
+-- the first byte of the header of a record that stands there
+pub info_there : (page : List ℕ) (start origin : ℕ) (r : Pushed) → IsWhole r → start + length r.bytes ≤ length page
+    → page ≡ with_bytes page start r.bytes → origin ≡ start + r.origin
+    → slice_index page (origin - 5) ≡ slice_index r.bytes (r.origin - 5)
+info_there page start origin r whole inside stands place =
+    let least = whole.least in
+    let most = whole.most in
+    let there : origin - 5 ≡ start + (r.origin - 5) = omega arith in
+    ap (λ (p : List ℕ). slice_index p (origin - 5)) stands
+    ∙ ap (λ (n : ℕ). slice_index (with_bytes page start r.bytes) n) there
+    ∙ get_or-with_bytes_at page start r.bytes (r.origin - 5) 0 (omega arith) (omega arith)
+
+-- a record that stands there, linked in two steps
+pub linked_put : (page second third : List ℕ) (start origin info owned next : ℕ) (r : Pushed) → IsWhole r
+    → start + length r.bytes ≤ length page → page ≡ with_bytes page start r.bytes → origin ≡ start + r.origin
+    → info ≡ slice_index page (origin - 5) + owned
+    → second ≡ with_bytes page (origin - 5) (info ∷ [])
     → third ≡ with_bytes second (origin - 2) (be_bytes 2 next) → third ≡ with_bytes page start (linked r owned next)
 unfolding linked
-linked_put page first second third start origin info owned next r whole inside place is e1 e2 e3 =
+linked_put page second third start origin info owned next r whole inside stands place is e2 e3 =
     let least = whole.least in
     let most = whole.most in
     let at1 : origin - 5 ≡ start + (r.origin - 5) = omega arith in
@@ -97,9 +113,11 @@ linked_put page first second third start origin info owned next r whole inside p
     let byte : List ℕ = (slice_index r.bytes (r.origin - 5) + owned) ∷ [] in
     let owning : List ℕ = with_bytes r.bytes (r.origin - 5) byte in
     let long : length owning ≡ length r.bytes = length-with_bytes r.bytes (r.origin - 5) byte (omega arith) in
+    let first = info_there page start origin r whole inside stands place in
+    let info_is : info ≡ slice_index r.bytes (r.origin - 5) + owned = is ∙ ap (λ (n : ℕ). n + owned) first in
     let two : second ≡ with_bytes page start owning =
-    e2 ∙ ap (λ (n : ℕ). with_bytes first (origin - 5) (n ∷ [])) is ∙ ap (λ (n : ℕ). with_bytes first n byte) at1
-    ∙ ap (λ (p : List ℕ). with_bytes p (start + (r.origin - 5)) byte) e1
+    e2 ∙ ap (λ (n : ℕ). with_bytes page (origin - 5) (n ∷ [])) info_is ∙ ap (λ (n : ℕ). with_bytes page n byte) at1
+    ∙ ap (λ (p : List ℕ). with_bytes p (start + (r.origin - 5)) byte) stands
     ∙ with_bytes-within page start r.bytes (r.origin - 5) byte inside (omega arith) in
     e3 ∙ ap (λ (n : ℕ). with_bytes second n (be_bytes 2 next)) at2
     ∙ ap (λ (p : List ℕ). with_bytes p (start + (r.origin - 2)) (be_bytes 2 next)) two
@@ -126,16 +144,139 @@ records_all records k past =
     ap (λ (ks : List ℕ). flat_map (linked_bytes records) ks)
     (take_all k (range_with_len 0 (length records)) (omega (arith, length-range_with_len 0 (length records))))
 
-pub records_put : (records : List Pushed) (page before now : List ℕ) (k : ℕ) → AreWhole records → k < length records
-    → 120 + total_size (take k records) ≤ length page
-    → before ≡ with_bytes page 120 (records_so_far records k)
+-- a piece among others gives way to one of its length
+pub replaced : (xs piece new ys : List ℕ) (at : ℕ) → at ≡ length xs → length new ≡ length piece
+    → with_bytes (xs ++ piece ++ ys) at new ≡ xs ++ new ++ ys
+unfolding with_bytes
+replaced xs piece new ys at there same =
+    let whole : List ℕ = xs ++ piece ++ ys in
+    let front : take at whole ≡ xs =
+    ap (λ (zs : List ℕ). take at zs) (append_assoc xs piece ys) ∙ take_at xs (piece ++ ys) at (sym there) in
+    let back : drop (at + length new) whole ≡ ys =
+    drop_at (xs ++ piece) ys (at + length new) (omega (arith, length-append xs piece, there, same)) in
+    ap (λ (zs : List ℕ). zs ++ new ++ drop (at + length new) whole) front
+    ∙ ap (λ (zs : List ℕ). xs ++ new ++ zs) back
+
+-- so does a piece of what was written
+piece_put : (page : List ℕ) (at place : ℕ) (xs piece new ys : List ℕ) → place ≡ at + length xs
+    → length new ≡ length piece → at + length (xs ++ piece ++ ys) ≤ length page
+    → with_bytes (with_bytes page at (xs ++ piece ++ ys)) place new ≡ with_bytes page at (xs ++ new ++ ys)
+piece_put page at place xs piece new ys there same inside =
+    let whole : List ℕ = xs ++ piece ++ ys in
+    let size = length-append (xs ++ piece) ys in
+    let front = length-append xs piece in
+    ap (λ (n : ℕ). with_bytes (with_bytes page at whole) n new) there
+    ∙ with_bytes-within page at whole (length xs) new inside (omega (arith, size, front, same))
+    ∙ ap (λ (zs : List ℕ). with_bytes page at zs) (replaced xs piece new ys (length xs) refl same)
+
+-- the records from record k on, as they were pushed
+abbrev pub records_left : List Pushed → ℕ → List ℕ
+records_left records k = unlinked_bytes (drop k records)
+
+records_left_more : (records : List Pushed) (k : ℕ) → k < length records
+    → records_left records k ≡ (pushed_at records k).bytes ++ records_left records (k + 1)
+records_left_more records k below =
+    ap (λ (rs : List Pushed). unlinked_bytes rs) (drop_more records k none_pushed below)
+
+-- the heap where the first k records are linked
+abbrev pub heap_so_far : List Pushed → ℕ → List ℕ
+heap_so_far records k = records_so_far records k ++ records_left records k
+
+heap_at : (records : List Pushed) (k : ℕ) → k < length records
+    → heap_so_far records k
+    ≡ records_so_far records k ++ (pushed_at records k).bytes ++ records_left records (k + 1)
+heap_at records k below =
+    ap (λ (xs : List ℕ). records_so_far records k ++ xs) (records_left_more records k below)
+    ∙ sym (append_assoc (records_so_far records k) (pushed_at records k).bytes (records_left records (k + 1)))
+
+heap_more : (records : List Pushed) (k : ℕ) → k < length records
+    → heap_so_far records (k + 1)
+    ≡ records_so_far records k ++ linked_bytes records k ++ records_left records (k + 1)
+heap_more records k below =
+    ap (λ (xs : List ℕ). xs ++ records_left records (k + 1)) (records_more records k below)
+
+-- its size stays
+heap_size : (records : List Pushed) (k : ℕ) → AreWhole records → k < length records
+    → length (heap_so_far records (k + 1)) ≡ length (heap_so_far records k)
+heap_size records k whole below =
+    let xs : List ℕ = records_so_far records k in
+    let r : Pushed = pushed_at records k in
+    let ys : List ℕ = records_left records (k + 1) in
+    let l : List ℕ = linked_bytes records k in
+    omega (
+      arith,
+      ap length (heap_at records k below),
+      ap length (heap_more records k below),
+      length-append (xs ++ r.bytes) ys,
+      length-append xs r.bytes,
+      length-append (xs ++ l) ys,
+      length-append xs l,
+      length-linked r (owned_at (length records) k) (next_of_record records k) (whole.each k below),
+    )
+
+-- the page with the first k records linked
+pub record IsLinked (records : List Pushed) (page now : List ℕ) (k : ℕ) : Type 0 where
+  pub has : now ≡ with_bytes page 120 (heap_so_far records k)
+  pub size : length (heap_so_far records k) ≡ total_size records
+
+-- record k stands there as it was pushed
+pub stands_there : (records : List Pushed) (page now : List ℕ) (k : ℕ) → AreWhole records → k < length records
+    → 120 + total_size records ≤ length page → IsLinked records page now k
+    → now ≡ with_bytes now (start_of records k) (pushed_at records k).bytes
+stands_there records page now k whole below inside linked =
+    let xs : List ℕ = records_so_far records k in
+    let r : Pushed = pushed_at records k in
+    let ys : List ℕ = records_left records (k + 1) in
+    let here = heap_at records k below in
+    let is : now ≡ with_bytes page 120 (xs ++ r.bytes ++ ys) =
+    linked.has ∙ ap (λ (zs : List ℕ). with_bytes page 120 zs) here in
+    let place : start_of records k ≡ 120 + length xs =
+    omega (arith, start_is records k, front_length records k whole (omega arith)) in
+    is
+    ∙ sym (ap (λ (p : List ℕ). with_bytes p (start_of records k) r.bytes) is
+    ∙ piece_put page 120 (start_of records k) xs r.bytes r.bytes ys place refl
+    (omega (arith, inside, linked.size, ap length here)))
+
+-- and then it is linked
+pub links_more : (records : List Pushed) (page before now : List ℕ) (k : ℕ) → AreWhole records → k < length records
+    → 120 + total_size records ≤ length page → IsLinked records page before k
     → now ≡ with_bytes before (start_of records k) (linked_bytes records k)
-    → now ≡ with_bytes page 120 (records_so_far records (k + 1))
-records_put records page before now k whole below inside written step =
-    let size = front_length records k whole (omega arith) in
-    written_more page before now (records_so_far records k) (linked_bytes records k) (records_so_far records (k + 1)) 120
-    (start_of records k) written (omega (arith, start_is records k, size)) step (records_more records k below)
-    (omega (arith, size))
+    → IsLinked records page now (k + 1)
+links_more records page before now k whole below inside linked step =
+    let xs : List ℕ = records_so_far records k in
+    let r : Pushed = pushed_at records k in
+    let ys : List ℕ = records_left records (k + 1) in
+    let l : List ℕ = linked_bytes records k in
+    let here = heap_at records k below in
+    let is : before ≡ with_bytes page 120 (xs ++ r.bytes ++ ys) =
+    linked.has ∙ ap (λ (zs : List ℕ). with_bytes page 120 zs) here in
+    let place : start_of records k ≡ 120 + length xs =
+    omega (arith, start_is records k, front_length records k whole (omega arith)) in
+    record {
+      has = step ∙ ap (λ (p : List ℕ). with_bytes p (start_of records k) l) is
+          ∙ piece_put page 120 (start_of records k) xs r.bytes l ys place
+          (length-linked r (owned_at (length records) k) (next_of_record records k) (whole.each k below))
+          (omega (arith, inside, linked.size, ap length here))
+          ∙ ap (λ (zs : List ℕ). with_bytes page 120 zs) (sym (heap_more records k below));
+      size = heap_size records k whole below ∙ linked.size;
+    }
+
+pub links_none : (records : List Pushed) (page now heap : List ℕ) → heap ≡ unlinked_bytes records
+    → length heap ≡ total_size records → now ≡ with_bytes page 120 heap → IsLinked records page now 0
+links_none records page now heap is size step =
+    record {
+      has = step ∙ ap (λ (xs : List ℕ). with_bytes page 120 xs) is;
+      size = ap length (sym is) ∙ size;
+    }
+
+pub links_all : (records : List Pushed) (page now : List ℕ) (k : ℕ) → length records ≤ k
+    → IsLinked records page now k → now ≡ with_bytes page 120 (heap_bytes records)
+links_all records page now k past linked =
+    let rest : records_left records k ≡ [] = ap (λ (rs : List Pushed). unlinked_bytes rs) (drop_all k records past) in
+    linked.has
+    ∙ ap (λ (xs : List ℕ). with_bytes page 120 (records_so_far records k ++ xs)) rest
+    ∙ ap (λ (xs : List ℕ). with_bytes page 120 xs) (append-nil (records_so_far records k))
+    ∙ ap (λ (xs : List ℕ). with_bytes page 120 xs) (records_all records k past)
 
 -- the directory so far
 abbrev pub slot_list : List Pushed → List ℕ

@@ -1,5 +1,6 @@
 -- The records that stand on a page while it is filled.
-use Rattle.std.specs.Prelude.{◌≡◌, ℕ, ◌+◌, ◌-◌, ◌*◌, ◌<◌, ◌≤◌, List, length, map, take, slice_index, slice_index_or}
+use Rattle.std.specs.Prelude.{◌≡◌, ℕ, ◌+◌, ◌-◌, ◌*◌, ◌<◌, ◌≤◌, List, length, map, take, flat_map, slice_index}
+use Rattle.std.specs.Prelude.{slice_index_or}
 use Rattle.std.specs.Prelude.{slice_range}
 use Rattle.page_packer.specs.declared.packer.Spot.{Spot}
 use Rattle.page_packer.specs.Packing.{Pushed, IsWhole, slots_for, total_size, pushed_at, start_of, origin_at}
@@ -11,6 +12,10 @@ pushed_from page spot = record { bytes = slice_range page spot.start spot.end; o
 -- the records at these spots
 unfoldable pub pushed_in : List ℕ → List Spot → List Pushed
 pushed_in page spots = map (pushed_from page) spots
+
+-- the bytes of records as they were pushed, one after another: no record owns others or leads to a next one
+abbrev pub unlinked_bytes : List Pushed → List ℕ
+unlinked_bytes records = flat_map (λ (r : Pushed). r.bytes) records
 
 -- spot k
 abbrev pub spot_at : List Spot → ℕ → Spot

@@ -3,12 +3,13 @@
 ghost use Rattle.std.specs.Prelude.{◌≡◌, ◌-◌, ◌*◌, ◌<◌, ◌≤◌, length};
 ghost use Rattle.page_source.specs.Pages.{with_bytes};
 ghost use Rattle.page_packer.specs.Packing.{slots_for, next_of_record, page_header, end_bytes, origin_at, slot_origin};
-ghost use Rattle.page_packer.specs.Packing.{start_of, linked_bytes, heap_bytes, directory_bytes, packed_page};
+ghost use Rattle.page_packer.specs.Packing.{start_of, pushed_at, linked_bytes, heap_bytes, directory_bytes};
+ghost use Rattle.page_packer.specs.Packing.{packed_page};
 
 use crate::packer::{Heads, Packer};
 use crate::parts::{
-    INFIMUM, SUPREMUM, next_between, owned_at, owned_by_supremum, put_heads, put_neighbours,
-    put_numbers, slots_for,
+    FILL_START, INFIMUM, SUPREMUM, next_between, owned_at, owned_by_supremum, put_heads,
+    put_neighbours, put_numbers, slots_for,
 };
 use page_source::{PAGE_SIZE, Page, write_be};
 
@@ -25,7 +26,7 @@ impl Packer {
         ensures within { result ≤ 16384 }
     {
         if k < self.count() {
-            self.spot(k).origin
+            self.spot(k).origin as usize
         } else {
             SUPREMUM
         }
@@ -57,19 +58,21 @@ impl Packer {
         }
     }
 
-    /// Writes record `k` with its owner count and its next field.
-    fn put_record(&self, page: &mut Page, k: usize)
-        requires { k < length self.now.records }
+    /// Gives record `k`, which stands on the page as it was pushed, its owner count and its next field.
+    fn link_record(&self, page: &mut Page, k: usize)
+        requires within { k < length self.now.records }
+        requires stands { page.old ≡ with_bytes page.old
+            (start_of self.now.records k)
+            (pushed_at self.now.records k).bytes }
         ensures { page.new ≡ with_bytes page.old (start_of self.now.records k) (linked_bytes self.now.records k) }
     {
         prove!(page.bytes().len() == PAGE_SIZE);
         let spot = self.spot(k);
-        let bytes = self.bytes_of(k);
-        let info = bytes[spot.origin - spot.start - 5] + owned_at(self.count(), k);
+        let origin = spot.origin as usize;
+        let info = page.bytes()[origin - 5] + owned_at(self.count(), k);
         let next = self.next_at(k);
-        page.put_bytes(spot.start, bytes);
-        page.put_bytes(spot.origin - 5, &[info]);
-        write_be::<2>(page, spot.origin - 2, next);
+        page.put_bytes(origin - 5, &[info]);
+        write_be::<2>(page, origin - 2, next);
     }
 
     /// Writes all records, one after another.
@@ -78,8 +81,9 @@ impl Packer {
     {
         prove!(page.bytes().len() == PAGE_SIZE);
         prove!(self.top() <= PAGE_SIZE);
+        page.put_bytes(FILL_START, self.heap());
         for k in 0..self.count() {
-            self.put_record(page, k);
+            self.link_record(page, k);
         }
     }
 

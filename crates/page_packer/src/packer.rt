@@ -2,13 +2,13 @@
 
 ghost use Rattle.std.specs.Prelude.{◌≡◌, ◌+◌, ◌*◌, ◌<◌, ◌≤◌, true, IfOk, length};
 ghost use Rattle.compact_record.specs.Writing.{FitFields, size_of_record};
-ghost use Rattle.page_packer.specs.Packing.{AreWhole, slots_for, total_size, fits_more, pushed_at, none_packed};
+ghost use Rattle.page_packer.specs.Packing.{AreWhole, slots_for, total_size, fits_more, none_packed};
 ghost use Rattle.page_packer.specs.Packing.{with_record};
-ghost use Rattle.page_packer.specs.Filling.{HasSpot};
+ghost use Rattle.page_packer.specs.Filling.{unlinked_bytes, HasSpot};
 
 use crate::parts::{FILL_START, slots_for, status_on};
 use column_values::FieldList;
-use compact_record::{Parts, place, record_size};
+use compact_record::{Parts, place_record};
 use page_source::{NoMemory, PAGE_SIZE, Page};
 use std::alloc::Global;
 use std::marker::Model;
@@ -30,11 +30,11 @@ pub struct Heads {
 #[derive(Clone, Copy, Debug, PartialEq, Eq)]
 pub(crate) struct Spot {
     /// The offset of its first byte.
-    pub(crate) start: usize,
+    pub(crate) start: u16,
     /// The offset where its fields begin.
-    pub(crate) origin: usize,
+    pub(crate) origin: u16,
     /// The offset of the byte behind its last.
-    pub(crate) end: usize,
+    pub(crate) end: u16,
 }
 
 /// More records than fit one page: each has at least the five bytes of its header.
@@ -114,15 +114,14 @@ impl Packer {
         let at = self.top;
         let heap = (FIRST_NUMBER + self.count) as u16;
         let kind = status_on(self.level);
-        let origin = place(&mut self.page, at, fields, parts, heap, kind, minimum);
-        let end = at + record_size(fields, parts);
+        let placed = place_record(&mut self.page, at, fields, parts, heap, kind, minimum);
         self.spots[self.count] = Spot {
-            start: at,
-            origin,
-            end,
+            start: at as u16,
+            origin: placed.origin as u16,
+            end: placed.end as u16,
         };
         self.count += 1;
-        self.top = end;
+        self.top = placed.end;
     }
 
     /// How many records were pushed.
@@ -159,12 +158,11 @@ impl Packer {
         self.spots[k]
     }
 
-    /// The bytes of record `k`.
-    pub(crate) fn bytes_of(&self, k: usize) -> &[u8]
-        requires { k < length self.now.records }
-        ensures { result.now ≡ (pushed_at self.now.records k).bytes }
+    /// The bytes of all records, one after another.
+    pub(crate) fn heap(&self) -> &[u8]
+        ensures value { result.now ≡ unlinked_bytes self.now.records }
+        ensures size { length result.now ≡ total_size self.now.records }
     {
-        let spot = self.spot(k);
-        &self.page.bytes()[spot.start..spot.end]
+        &self.page.bytes()[FILL_START..self.top]
     }
 }

@@ -1,13 +1,13 @@
 use Rattle.std.proofs.Common.{◌≡◌, ◌<◌, ◌+◌, ◌%◌, ◌^◌, if◌then◌else◌, length-append, ◌++◌, ◌∷◌, [], Bool, List, true}
 use Rattle.std.proofs.Common.{false, length, sym, ap, ◌∙◌, arith}
-use Rattle.column_values.specs.declared.field.Field.{Field}
+use Rattle.column_values.specs.declared.field.Storage.{Storage}
 use Rattle.column_values.specs.Types.{field_at}
 use Rattle.compact_record.specs.Writing.{part_at, is_null_part}
 use Rattle.compact_record.proofs.FieldFits.{fit_same}
 use Rattle.compact_record.proofs.WriteSteps.{bits_before, byte_of, bits_all, bits_nullable, bits_never, low_here}
 use Rattle.compact_record.proofs.WriteSteps.{byte_same, byte_elsewhere}
 use Rattle.compact_record.proofs.writing.null_byte.Goals as goal
-use Rattle.compact_record.proofs.writing.null_byte.Goals.{then-field_at, else-field_at, then-nulls-j, else-nulls-j}
+use Rattle.compact_record.proofs.writing.null_byte.Goals.{then-storage_at, else-storage_at, then-nulls-j, else-nulls-j}
 
 pub at-requires : goal.at-requires
 at-requires c =
@@ -29,10 +29,10 @@ loop-i-preserved c =
     let counted = c.loop-i.invariant.counted in
     let value = c.loop-i.invariant.value in
     let few = c.loop-i.invariant.few in
-    elim c.if-field_at.branch [
-      | then-field_at w ↦
+    elim c.if-storage_at.branch [
+      | then-storage_at w ↦
           let may_be : (field_at fields i).nullable ≡ true =
-          ap (λ (f : Field). f.nullable) (sym c.field_at.ensures) ∙ w.if-field_at.true in
+          ap (λ (s : Storage). s.nullable) (sym c.storage_at.ensures.value) ∙ w.if-storage_at.true in
           let more = bits_nullable fields parts i c.requires below may_be in
           let one : length (bits_before fields parts (i + 1)) ≡ length bits + 1 =
           ap (λ (bs : List Bool). length bs) more ∙ length-append bits (bit ∷ []) in
@@ -53,9 +53,9 @@ loop-i-preserved c =
             value = w.byte-is ∙ byte ∙ ap (λ (bs : List Bool). byte_of bs c.args.j) (sym more);
             few = omega (arith, w.nulls-is);
           }
-      | else-field_at w ↦
+      | else-storage_at w ↦
           let never : (field_at fields i).nullable ≡ false =
-          ap (λ (f : Field). f.nullable) (sym c.field_at.ensures) ∙ w.if-field_at.false in
+          ap (λ (s : Storage). s.nullable) (sym c.storage_at.ensures.value) ∙ w.if-storage_at.false in
           let same = bits_never fields parts i c.requires below never in
           record {
             counted = w.nulls-is ∙ counted ∙ ap (λ (bs : List Bool). length bs) (sym same);

@@ -1,6 +1,5 @@
 use Rattle.std.proofs.Common.{◌≡◌, ◌<◌, ◌+◌, ◌-◌, List, ℕ, length, reverse, sym, ap, ◌∙◌, subst, arith}
 use Rattle.page_source.specs.Pages.{with_bytes}
-use Rattle.column_values.specs.declared.field.Field.{Field}
 use Rattle.column_values.specs.Types.{field_at}
 use Rattle.compact_record.specs.declared.parts.Part.{Part}
 use Rattle.compact_record.specs.Writing.{FitsField, part_at, length_of_part}
@@ -24,9 +23,7 @@ put_length-end-requires-clause-fits c =
     let parts = c.args.parts.now in
     let i : ℕ = length c.fields-count.result.now - 1 - c.loop-k.k in
     let below : i < length fields.fields = omega (arith, ap length c.fields-count.ensures.same) in
-    subst (λ (p : Part). FitsField c.field_at-field.result p) (sym c.at.ensures)
-    (subst (λ (f : Field). FitsField f (part_at parts i)) (sym c.field_at-field.ensures)
-    (fit_at fields parts i c.requires.fit below))
+    subst (λ (p : Part). FitsField (field_at fields i) p) (sym c.at.ensures) (fit_at fields parts i c.requires.fit below)
 
 pub put_length-end-requires-clause-inside : goal.put_length-end-requires-clause-inside
 put_length-end-requires-clause-inside c =
@@ -36,10 +33,9 @@ put_length-end-requires-clause-inside c =
     let k : ℕ = c.loop-k.k in
     let i : ℕ = count - 1 - k in
     let counted : count ≡ length fields.fields = ap length c.fields-count.ensures.same in
-    let same : length (length_of_part (c.field_at-field.result, c.at.result.now))
+    let same : length (length_of_part (field_at fields i, c.at.result.now))
     ≡ length (length_of_part (field_at fields i, part_at parts i)) =
-    ap (λ (f : Field). length (length_of_part (f, c.at.result.now))) c.field_at-field.ensures
-    ∙ ap (λ (p : Part). length (length_of_part (field_at fields i, p))) c.at.ensures in
+    ap (λ (p : Part). length (length_of_part (field_at fields i, p))) c.at.ensures in
     let ends = lengths_end fields parts c.args.at c.loop-k.end k count c.requires.fit counted c.loop-k-test.true
     c.loop-k.invariant.ends in
     let within = lengths_within fields parts (count - (k + 1)) in
@@ -54,10 +50,9 @@ loop-k-preserved c =
     let k : ℕ = c.loop-k.k in
     let i : ℕ = count - 1 - k in
     let counted : count ≡ length fields.fields = ap length c.fields-count.ensures.same in
-    let same : length_of_part (c.field_at-field.result, c.at.result.now)
+    let same : length_of_part (field_at fields i, c.at.result.now)
     ≡ length_of_part (field_at fields i, part_at parts i) =
-    ap (λ (f : Field). length_of_part (f, c.at.result.now)) c.field_at-field.ensures
-    ∙ ap (λ (p : Part). length_of_part (field_at fields i, p)) c.at.ensures in
+    ap (λ (p : Part). length_of_part (field_at fields i, p)) c.at.ensures in
     let long : length c.args.page.now ≡ 16384 = ap length (sym c.bytes.ensures.same) ∙ c.bytes.ensures.size in
     let inside = c.requires.inside in
     record {

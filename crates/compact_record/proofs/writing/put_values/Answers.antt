@@ -2,6 +2,7 @@ use Rattle.std.proofs.Common.{◌≡◌, ◌<◌, List, ℕ, length, sym, ap, �
 use Rattle.page_source.specs.Pages.{with_bytes}
 use Rattle.compact_record.specs.Writing.{part_at, local_bytes}
 use Rattle.compact_record.proofs.WriteSteps.{with_bytes-none, values_put, values_done, values_within, values_step}
+use Rattle.compact_record.proofs.WriteSteps.{values_all}
 use Rattle.compact_record.proofs.writing.put_values.Goals as goal
 
 pub loop-i-init : goal.loop-i-init
@@ -41,8 +42,13 @@ loop-i-preserved c =
       ends = omega (arith, ap length here, values_step parts i below);
     }
 
-pub returns : goal.returns
-returns c =
+pub returns-clause-end : goal.returns-clause-end
+returns-clause-end c =
+    let ends = c.loop-i.invariant.ends in
+    omega (arith, values_all c.args.parts.now c.loop-i.i (omega (arith, c.count-i-end.ensures)))
+
+pub returns-clause-page : goal.returns-clause-page
+returns-clause-page c =
     c.loop-i.invariant.written
     ∙ ap (λ (xs : List ℕ). with_bytes c.args.page.now c.args.at xs)
     (values_done c.args.parts.now c.loop-i.i (omega (arith, c.count-i-end.ensures)))

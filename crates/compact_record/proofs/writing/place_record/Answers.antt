@@ -5,7 +5,7 @@ use Rattle.compact_record.specs.Writing.{all_lengths, all_null_bytes, header_byt
 use Rattle.compact_record.proofs.ReadParts.{length-bytes_below}
 use Rattle.compact_record.proofs.Placed.{size_is, origin_is}
 use Rattle.compact_record.proofs.WriteSteps.{record_put}
-use Rattle.compact_record.proofs.writing.place.Goals as goal
+use Rattle.compact_record.proofs.writing.place_record.Goals as goal
 
 pub put_lengths-nulls-requires-clause-inside : goal.put_lengths-nulls-requires-clause-inside
 put_lengths-nulls-requires-clause-inside c =
@@ -31,8 +31,8 @@ put_header-origin-requires-clause-inside c =
     let header = c.put_null_bytes-header.ensures.end in
     omega (arith, size_is fields parts, length-bytes_below fields parts)
 
-pub put_values-requires : goal.put_values-requires
-put_values-requires c =
+pub put_values-end-requires : goal.put_values-end-requires
+put_values-end-requires c =
     let fields = c.args.fields.now in
     let parts = c.args.parts.now in
     let most = c.requires.most in
@@ -53,14 +53,14 @@ returns-clause-page c =
     let origin : c.put_header-origin.result ≡ c.args.at + length (all_lengths fields parts) + null_bytes fields + 5 =
     c.put_header-origin.ensures.end ∙ ap (λ (n : ℕ). n + 5) header in
     record_put fields parts c.args.page.now c.put_lengths-nulls.new.page c.put_null_bytes-header.new.page
-    c.put_header-origin.new.page c.put_values.new.page c.args.at c.args.heap c.args.kind c.args.minimum
+    c.put_header-origin.new.page c.put_values-end.new.page c.args.at c.args.heap c.args.kind c.args.minimum
     (omega (arith, most, long)) c.put_lengths-nulls.ensures.page
     (c.put_null_bytes-header.ensures.page
     ∙ ap (λ (n : ℕ). with_bytes c.put_lengths-nulls.new.page n (reverse (all_null_bytes fields parts))) nulls)
     (c.put_header-origin.ensures.page
     ∙ ap (λ (n : ℕ). with_bytes c.put_null_bytes-header.new.page n
     (header_bytes c.args.heap c.args.kind c.args.minimum)) header)
-    (c.put_values.ensures ∙ ap (λ (n : ℕ). with_bytes c.put_header-origin.new.page n (value_bytes parts)) origin)
+    (c.put_values-end.ensures.page ∙ ap (λ (n : ℕ). with_bytes c.put_header-origin.new.page n (value_bytes parts)) origin)
 
 pub returns-clause-origin : goal.returns-clause-origin
 returns-clause-origin c =
@@ -70,3 +70,13 @@ returns-clause-origin c =
     let header = c.put_null_bytes-header.ensures.end in
     let origin = c.put_header-origin.ensures.end in
     omega (arith, origin_is fields parts, length-bytes_below fields parts)
+
+pub returns-clause-end : goal.returns-clause-end
+returns-clause-end c =
+    let fields = c.args.fields.now in
+    let parts = c.args.parts.now in
+    let nulls = c.put_lengths-nulls.ensures.end in
+    let header = c.put_null_bytes-header.ensures.end in
+    let origin = c.put_header-origin.ensures.end in
+    let end = c.put_values-end.ensures.end in
+    omega (arith, size_is fields parts, length-bytes_below fields parts)
