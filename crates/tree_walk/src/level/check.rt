@@ -42,7 +42,7 @@ fn next_child(walk: &Walk, node: &FieldList, next: Next) -> u32
 /// The tally of the page in hand, where it is a leaf.
 pub(crate) fn tally_on(level: u16, page: &Page, fields: &FieldList) -> Tally
     requires facts { PageFacts page.now fields.now }
-    ensures exact { level ≡ 0 → IsTally page.now result }
+    ensures exact { level ≡ 0 → IsTally page.now fields.now result }
     ensures most { result.live + result.deleted ≤ 65536 }
 {
     if level == 0 {
@@ -72,7 +72,7 @@ pub(crate) fn check_place<S: PageSource, L: Ledger>(
     ensures marked { IfOk result (λ _.
         GrowsBy marks.old marks.new (child_in_hand walk.old aim.now.tree.node.now place)) }
     ensures tally { IfOk result (λ tally. OfIndex S.PageSource source.old aim.now.tree (λ index.
-        aim.now.level ≡ 0 → IsTally (page_in index (child_in_hand walk.old index.node place)) tally)) }
+        aim.now.level ≡ 0 → IsTally (page_in index (child_in_hand walk.old index.node place)) index.leaf tally)) }
     ensures most { IfOk result (λ tally. tally.live + tally.deleted ≤ 65536) }
     ensures fewer { IfOk result (λ _. unmarked marks.new + 1 ≡ unmarked marks.old) }
     ensures parent { walk.new.parent ≡ walk.old.parent }

@@ -1,4 +1,5 @@
-use Rattle.std.proofs.Common.{◌≡◌, ◌∙◌, ap, subst, refl}
+use Rattle.std.proofs.Common.{◌≡◌, ◌∙◌, Bool, cond, ap, subst, refl}
+use Rattle.std.proofs.lemmas.Bool.{eq-eqb}
 use Rattle.page_source.specs.Pages.{page_of}
 use Rattle.compact_record.specs.Keys.{child_at}
 use Rattle.tree_walk.specs.declared.walk.Walk.{Walk}
@@ -21,5 +22,11 @@ returns-clause-tally g c =
     let node = c.args.aim.now.tree.node.now in
     let n : c.child-n.result ≡ child_in_hand c.args.walk.now node c.args.place = c.child-n.ensures ∙ ap
     (child_at c.args.walk.now.parent node) c.requires.low.stands in
-    subst (λ page. IsTally page c.tally_on.result) (e ∙ (p ∙ ap (page_of file) n)) (c.tally_on.ensures.exact z))
+    let leaf = c.args.aim.now.tree.leaf.now in
+    let is_leaf : c.fields_on-fields.result.now ≡ leaf = c.fields_on-fields.ensures
+    ∙ ap (λ (b : Bool). cond b leaf node) (eq-eqb c.args.aim.now.level 0 z) in
+    subst (λ fields. IsTally (page_of file (child_in_hand c.args.walk.now node c.args.place)) fields c.tally_on.result)
+    is_leaf
+    (subst (λ page. IsTally page c.fields_on-fields.result.now c.tally_on.result) (e ∙ (p ∙ ap (page_of file) n))
+    (c.tally_on.ensures.exact z)))
     c.in_ok-fetch.ensures.bytes

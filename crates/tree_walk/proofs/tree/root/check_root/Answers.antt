@@ -86,6 +86,6 @@ returns-clause-top g c =
     (top_is file c.args.tree.now c.fetch.new.page
     (is_set c.args.named.now) c.segment_in-lowest.result c.segment_in-upper.result
     a p c.segment_in-lowest.ensures c.segment_in-upper.ensures)
-    c.tally_on-tally.result (λ z. subst (λ page. IsTally page c.tally_on-tally.result) e
+    c.tally_on-tally.result (λ z. subst (λ page. IsTally page c.fields_on-fields.result.now c.tally_on-tally.result) e
     (c.tally_on-tally.ensures.exact z)))
     c.requires.ready.audit c.in_ok-fetch.ensures.bytes
