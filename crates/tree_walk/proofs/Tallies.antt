@@ -5,15 +5,17 @@ use Rattle.std.proofs.lemmas.List.{take_all, take_more, append-nil}
 use Rattle.std.proofs.lemmas.List.Sums.{sum_by_more, sum_by-append, sum_by-cons}
 use Rattle.std.proofs.lemmas.List.Concat.{flat_map-append}
 use Rattle.std.proofs.lemmas.List.Elements.{All-nil, All-cons, All-append, All-map}
-use Rattle.std.proofs.lemmas.Bool.{true≢false}
+use Rattle.std.proofs.lemmas.Bool.{true≢false, eq-eqb}
 use Rattle.tree_walk.specs.Index.{Index, Row, page_in, rows_at, rows_on, rows_of, is_deleted_row, is_live_row}
 use Rattle.column_values.specs.Types.{Fields}
-use Rattle.compact_record.specs.Header.{next_origin, is_deleted}
+use Rattle.compact_record.specs.Header.{next_origin, is_deleted, is_minimum}
 use Rattle.compact_record.specs.Whole.{LiesWhole}
 use Rattle.index_page.specs.Header.{records_of, record_count}
+use Rattle.index_page.specs.Page.{HasMinimumMark, is_lowest_first}
 use Rattle.tree_walk.specs.Records.{PageFacts, HasPassed}
 use Rattle.tree_walk.specs.declared.place.tally.Tally.{Tally}
-use Rattle.tree_walk.specs.Walk.{IsTally, IsTallyOf, RowLiesWhole}
+use Rattle.tree_walk.specs.Place.{is_leaf_level}
+use Rattle.tree_walk.specs.Walk.{IsTally, IsTallyOf, AreUnmarked, RowLiesWhole}
 use Rattle.tree_walk.proofs.Records.{passed_more, passed_behind, record_at, length-records}
 
 -- the first k records were counted
@@ -79,6 +81,37 @@ module _ (page : List ℕ) (fields : Fields) (f : PageFacts page fields) (k at l
             (subst (LiesWhole page fields) q both.1) (All-nil (LiesWhole page fields))));
         most = omega arith;
       }
+
+  -- the records so far have no minimum mark, nor has the next one
+  pub marked_more : (next : ℕ) (unmarked unmarked' : Bool) → next ≡ next_origin page at
+      → (unmarked ≡ true → AreUnmarked page (take k (records_of page)))
+      → (unmarked' ≡ true → (unmarked ≡ true) × (is_minimum page next ≡ false))
+      → unmarked' ≡ true → AreUnmarked page (take (k + 1) (records_of page))
+  marked_more next unmarked unmarked' e before here t =
+      let n = length-records page in
+      let both = here t in
+      let P : ℕ → Type 0 = λ o. is_minimum page o ≡ false in
+      let q : next ≡ get_or (records_of page) k 0 = e ∙ next_is in
+      subst (All P) (sym (take_more (records_of page) k 0 (omega arith)))
+      (All-append P (take k (records_of page)) (get_or (records_of page) k 0 ∷ []) (before both.0)
+      (All-cons P (get_or (records_of page) k 0) [] (subst P q both.1) (All-nil P)))
+
+pub none_marked : (page : List ℕ) → AreUnmarked page (take 0 (records_of page))
+none_marked page = All-nil (λ o. is_minimum page o ≡ false)
+
+not_on_leaf : (leftmost : Bool) → ¬ (is_lowest_first true leftmost ≡ true)
+not_on_leaf true e = true≢false (sym e)
+not_on_leaf false e = true≢false (sym e)
+
+-- so a leaf has the mark nowhere, as it must
+pub leaf_unmarked : (page : List ℕ) (level : ℕ) (leftmost : Bool) → level ≡ 0 → AreUnmarked page (records_of page)
+    → HasMinimumMark page (is_leaf_level level) leftmost (records_of page)
+leaf_unmarked page level leftmost leaf none k h =
+    let e : is_leaf_level level ≡ true = eq-eqb level 0 leaf in
+    rw e (
+      λ t. absurd (true≢false (sym t ∙ none k 0 h)),
+      λ first. absurd (not_on_leaf leftmost first.1),
+    )
 
 -- over all leaves
 

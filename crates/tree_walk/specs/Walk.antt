@@ -21,7 +21,7 @@ use Rattle.tree_walk.specs.declared.level.Place.{Place}
 use Rattle.tree_walk.specs.declared.level.Level.{Level}
 use Rattle.tree_walk.specs.declared.tree.root.Top.{Top}
 use Rattle.tree_walk.specs.declared.ends.TreeEnds.{TreeEnds}
-use Rattle.compact_record.specs.Header.{is_deleted}
+use Rattle.compact_record.specs.Header.{is_deleted, is_minimum}
 use Rattle.compact_record.specs.Whole.{LiesWhole}
 use Rattle.index_page.specs.Header.{records_of}
 use Rattle.space_audit.specs.Marks.{is_set, Marked}
@@ -131,6 +131,10 @@ pub record IsTally (page : List ℕ) (fields : Fields) (tally : Tally) : Type 0 
   pub live : tally.live ≡ count_by (λ origin. not (is_deleted page origin)) (records_of page)
   pub deleted : tally.deleted ≡ count_by (is_deleted page) (records_of page)
   pub whole : tally.whole ≡ true → All (LiesWhole page fields) (records_of page)
+
+-- none of these records has the minimum mark
+abbrev pub AreUnmarked : List ℕ → List ℕ → Type 0
+AreUnmarked page records = All (λ origin. is_minimum page origin ≡ false) records
 
 -- the values of a row lie whole on its leaf, in no more bytes than their types take
 abbrev pub RowLiesWhole : Index → Row → Type 0

@@ -18,7 +18,6 @@ use crate::index::Tree;
 use crate::place::INFIMUM;
 use crate::place::tally::{NONE, Tally};
 use crate::walk::Walk;
-pub(crate) use check::tally_on;
 use compact_record::next_origin;
 use here::check_here;
 use look::{advance, read_low};

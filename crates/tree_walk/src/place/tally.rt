@@ -1,16 +1,16 @@
 //! How many records of a leaf have the delete mark, how many don't, and whether all their values lie on it whole.
 
-ghost use Rattle.std.specs.Prelude.{◌≡◌, ◌+◌, ◌≤◌, true, if◌then◌else◌};
-ghost use Rattle.compact_record.specs.Header.{is_deleted};
+ghost use Rattle.std.specs.Prelude.{◌≡◌, ◌+◌, ◌≤◌, true, false, if◌then◌else◌};
+ghost use Rattle.compact_record.specs.Header.{is_deleted, is_minimum};
 ghost use Rattle.compact_record.specs.Reading.{IsHeapOrigin};
 ghost use Rattle.compact_record.specs.Whole.{LiesWhole};
-ghost use Rattle.index_page.specs.Header.{record_count};
+ghost use Rattle.index_page.specs.Header.{records_of, record_count};
 ghost use Rattle.tree_walk.specs.Records.{PageFacts};
-ghost use Rattle.tree_walk.specs.Walk.{IsTally};
+ghost use Rattle.tree_walk.specs.Walk.{IsTally, AreUnmarked};
 
 use crate::place::records::{INFIMUM, record_count};
 use column_values::FieldList;
-use compact_record::{deleted, lies_whole, next_origin};
+use compact_record::{deleted, lies_whole, minimum, next_origin};
 use page_source::Page;
 
 /// How many records have no delete mark, how many have one, and whether the values of all are known to lie whole on
@@ -20,6 +20,13 @@ pub(crate) struct Tally {
     pub live: u64,
     pub deleted: u64,
     pub whole: bool,
+}
+
+/// What is found of the records of a leaf: their tally, and whether none of them has the minimum mark.
+#[derive(Clone, Copy, Debug, PartialEq, Eq)]
+pub(crate) struct Count {
+    pub tally: Tally,
+    pub unmarked: bool,
 }
 
 /// The tally of no records.
@@ -53,17 +60,45 @@ fn one_more(tally: Tally, page: &Page, origin: usize, fields: &FieldList) -> Tal
     }
 }
 
-/// The tally of a page.
-pub(crate) fn tally_of(page: &Page, fields: &FieldList) -> Tally
+/// Whether this record has no minimum mark either.
+fn none_marked(before: bool, page: &Page, origin: usize) -> bool
+    requires { IsHeapOrigin origin }
+    ensures { result ≡ true → (before ≡ true) × (is_minimum page.now origin ≡ false) }
+{
+    before && !minimum(page, origin)
+}
+
+/// What is found of the records of a page.
+pub(crate) fn count_of(page: &Page, fields: &FieldList) -> Count
     requires facts { PageFacts page.now fields.now }
-    ensures exact { IsTally page.now fields.now result }
-    ensures most { result.live + result.deleted ≤ 65536 }
+    ensures exact { IsTally page.now fields.now result.tally }
+    ensures most { result.tally.live + result.tally.deleted ≤ 65536 }
+    ensures unmarked { result.unmarked ≡ true → AreUnmarked page.now (records_of page.now) }
 {
     let mut tally = NONE;
+    let mut unmarked = true;
     let mut at = INFIMUM;
     for k in 0..record_count(page) {
         at = next_origin(page, at);
         tally = one_more(tally, page, at, fields);
+        unmarked = none_marked(unmarked, page, at);
     }
-    tally
+    Count { tally, unmarked }
+}
+
+/// What is found of the records of a page of this level, where it is a leaf.
+pub(crate) fn count_on(level: u16, page: &Page, fields: &FieldList) -> Count
+    requires facts { PageFacts page.now fields.now }
+    ensures exact { level ≡ 0 → IsTally page.now fields.now result.tally }
+    ensures most { result.tally.live + result.tally.deleted ≤ 65536 }
+    ensures unmarked { result.unmarked ≡ true → AreUnmarked page.now (records_of page.now) × (level ≡ 0) }
+{
+    if level == 0 {
+        count_of(page, fields)
+    } else {
+        Count {
+            tally: NONE,
+            unmarked: false,
+        }
+    }
 }

@@ -18,15 +18,14 @@ pub returns-clause-tally : goal.returns-clause-tally
 returns-clause-tally g c =
     told1 (g.S.PageSource.content c.args.source.now)
     (λ file p z.
-    let e = ap (λ (w : Walk). w.child) c.in_ok-check_spot.ensures.same in
     let node = c.args.aim.now.tree.node.now in
     let n : c.child-n.result ≡ child_in_hand c.args.walk.now node c.args.place = c.child-n.ensures ∙ ap
     (child_at c.args.walk.now.parent node) c.requires.low.stands in
     let leaf = c.args.aim.now.tree.leaf.now in
     let is_leaf : c.fields_on-fields.result.now ≡ leaf = c.fields_on-fields.ensures
     ∙ ap (λ (b : Bool). cond b leaf node) (eq-eqb c.args.aim.now.level 0 z) in
-    subst (λ fields. IsTally (page_of file (child_in_hand c.args.walk.now node c.args.place)) fields c.tally_on.result)
+    subst (λ fields. IsTally (page_of file (child_in_hand c.args.walk.now node c.args.place)) fields c.in_ok-tally.tally)
     is_leaf
-    (subst (λ page. IsTally page c.fields_on-fields.result.now c.tally_on.result) (e ∙ (p ∙ ap (page_of file) n))
-    (c.tally_on.ensures.exact z)))
+    (subst (λ page. IsTally page c.fields_on-fields.result.now c.in_ok-tally.tally) (p ∙ ap (page_of file) n)
+    (c.in_ok-tally.ensures.tally z)))
     c.in_ok-fetch.ensures.bytes
