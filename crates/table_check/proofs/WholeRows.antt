@@ -1,18 +1,16 @@
 -- Rows whose values lie whole on their leaves, in columns of which any bytes are values: no check of them is broken.
 use Rattle.std.proofs.Common.{◌≡◌, ℕ, zero, suc, ◌+◌, ◌*◌, ◌/◌, ◌<◌, ◌≤◌, Bool, true, false, not, ◌&&◌, List, []}
 use Rattle.std.proofs.Common.{◌∷◌, ◌++◌}
-use Rattle.std.proofs.Common.{length, take, get_or, flat_map, All, Option, None, refl, sym, ap, ◌∙◌, subst, arith, add-one}
+use Rattle.std.proofs.Common.{length, take, get_or, flat_map, All, None, refl, sym, ap, ◌∙◌, subst, arith}
 use Rattle.std.proofs.lemmas.Bool.{true≢false}
 use Rattle.std.proofs.lemmas.List.Edits.{length-between}
 use Rattle.std.proofs.lemmas.List.Elements.{All-nil, All-append, All-map, All-filter}
 use Rattle.std.proofs.lemmas.List.FromFn.{get_or-map-range_with_len, length-map-range_with_len}
 use Rattle.std.proofs.Math.Path.{fun_ext}
-use Rattle.page_source.specs.declared.rule.Fault.{Fault}
 use Rattle.page_source.specs.Pages.{num, page_of, page_count}
 use Rattle.column_values.specs.declared.kind.ColumnType.{ColumnType}
 use Rattle.column_values.specs.declared.kind.ColumnType.TheVariants as types
 use Rattle.column_values.specs.declared.value.Value.TheVariants as values
-use Rattle.column_values.specs.declared.field.Field.{Field}
 use Rattle.column_values.specs.declared.field.FieldType.{FieldType}
 use Rattle.column_values.specs.declared.field.FieldType.TheVariants.{Column, RowId, TrxId, RollPointer, Child}
 use Rattle.column_values.specs.Types.{Fields, field_at, child_field, greatest_length, is_variable_kind, is_variable}
@@ -27,7 +25,7 @@ use Rattle.compact_record.specs.Reading.{place_of, places_of, field_count, is_nu
 use Rattle.compact_record.specs.Whole.{LiesWhole}
 use Rattle.compact_record.proofs.KeySteps.{on_page}
 use Rattle.index_page.specs.Header.{records_of}
-use Rattle.space_audit.specs.Marks.{is_in, is_set, seen}
+use Rattle.space_audit.specs.Marks.{is_in, seen}
 use Rattle.schema_text.specs.TableDef.{TableDef}
 use Rattle.schema_text.specs.IndexFields.{leaf_fields}
 use Rattle.tree_walk.specs.declared.ends.TreeEnds.{TreeEnds}
@@ -41,7 +39,7 @@ use Rattle.tree_walk.proofs.LeafFacts.{leaf_facts}
 use Rattle.table_check.specs.AnyBytes.{takes_any_bytes, field_takes_any, TakeAnyBytes}
 use Rattle.table_check.specs.Trees.{index_in, clustered_tree, all_tree_pages}
 use Rattle.table_check.specs.Taken.{AreExactly, IsClustered, IsReached}
-use Rattle.table_check.specs.Values.{bytes_at, ValueChecks, FieldChecks, FieldCheck, RecordChecks, RowChecks, live_rows}
+use Rattle.table_check.specs.Values.{bytes_at, ValueChecks, FieldChecks, RecordChecks, RowChecks, live_rows}
 use Rattle.table_check.specs.Values.{pages_of_value, pages_of_field, pages_of_part, pages_of_record, pages_of_row}
 use Rattle.table_check.specs.Values.{pages_of_rows, all_chain_pages}
 use Rattle.table_check.specs.First.{ValueChecksOf}
@@ -127,7 +125,8 @@ module _ (page : List ℕ) (origin : ℕ) (fields : Fields) (size : length page 
     pub field_checked : (file : List ℕ) (segment leaf : ℕ) (taken : ℕ → Bool)
         → FieldChecks file segment leaf (field_at fields i).kind page place taken None
     field_checked file segment leaf taken =
-        checks_of file segment leaf taken (field_at fields i).kind (any i child_field within) (whole i within).fits fixed_here
+        checks_of file segment leaf taken (field_at fields i).kind (any i child_field within) (whole i within).fits
+        fixed_here
 
     -- and it has no pages
     pages_of : (file : List ℕ) (kind : FieldType) → pages_of_field file kind page place ≡ []
@@ -178,8 +177,8 @@ none_of_all f (x ∷ xs) all =
     ap (λ ys. ys ++ flat_map f xs) (all 0 x (omega arith))
     ∙ none_of_all f xs (λ k d below. all (suc k) d (omega (arith, below)))
 
-module _ (index : Index) (walked : IsWalked index) (can : RowsCanBeRead) (whole : All (RowLiesWhole index) (leaf_rows index))
-    (any : TakeAnyBytes index.leaf) where
+module _ (index : Index) (walked : IsWalked index) (can : RowsCanBeRead)
+    (whole : All (RowLiesWhole index) (leaf_rows index)) (any : TakeAnyBytes index.leaf) where
   abbrev IsWholePage : Row → Type 0
   IsWholePage row = length (page_in index row.page) ≡ 16384
 

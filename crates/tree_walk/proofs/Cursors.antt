@@ -1,6 +1,6 @@
 -- facts on a cursor that goes along the pointers of a level by next fields
 use Rattle.std.proofs.Common.{◌≡◌, ◌≢◌, ◌==◌, ◌-◌, Err, ℕ, ◌+◌, ◌<◌, ◌≤◌, List, length, get_or, take, refl, sym, ◌∙◌}
-use Rattle.std.proofs.Common.{ap, arith, Bool, true, false, Option, None, Some, IfSome, inl, inr, length-append}
+use Rattle.std.proofs.Common.{ap, arith, Bool, true, false, Option, None, Some, inl, inr, length-append}
 use Rattle.std.proofs.Common.{slice_get, cond, subst}
 use Rattle.std.proofs.lemmas.Bool.{cases_lt}
 use Rattle.std.proofs.lemmas.List.{length-map, take_all, get_or-map, get_or_default, get_or_past}

@@ -24,11 +24,11 @@ use Rattle.tree_walk.specs.declared.ends.TreeEnds.{TreeEnds}
 use Rattle.compact_record.specs.Header.{is_deleted, is_minimum}
 use Rattle.compact_record.specs.Whole.{LiesWhole}
 use Rattle.index_page.specs.Header.{records_of}
-use Rattle.space_audit.specs.Marks.{is_set, Marked}
-use Rattle.tree_walk.specs.Index.{Index, page_in, pages_at, rows_of, places, children, root_level, index_id, reached}
+use Rattle.space_audit.specs.Marks.{Marked}
+use Rattle.tree_walk.specs.Index.{Index, page_in, pages_at, rows_of, places, children, root_level, index_id}
 use Rattle.tree_walk.specs.Index.{leaf_pages}
 use Rattle.tree_walk.specs.Index.{Row, leaf_rows, is_deleted_row, is_live_row}
-use Rattle.tree_walk.specs.TreeChecks.{before, PlaceWith, PlaceCheck, RootCheck, DepthCheck}
+use Rattle.tree_walk.specs.TreeChecks.{before, PlaceWith}
 use Rattle.tree_walk.specs.Segments.{leaf_segment, top_segment, segment_at}
 use Rattle.tree_walk.specs.Facts.{LevelFacts}
 

@@ -2,7 +2,6 @@ use Rattle.std.proofs.Common.{◌≡◌, ◌∙◌, Bool, cond, ap, subst, refl}
 use Rattle.std.proofs.lemmas.Bool.{eq-eqb}
 use Rattle.page_source.specs.Pages.{page_of}
 use Rattle.compact_record.specs.Keys.{child_at}
-use Rattle.tree_walk.specs.declared.walk.Walk.{Walk}
 use Rattle.tree_walk.specs.Walk.{child_in_hand, IsTally}
 use Rattle.page_source.proofs.Told.{told1}
 use Rattle.tree_walk.proofs.Audit.{place_within}

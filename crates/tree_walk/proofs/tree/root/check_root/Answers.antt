@@ -1,10 +1,8 @@
-use Rattle.std.proofs.Common.{◌≡◌, refl, inl, inr, None, Some, ap, subst}
+use Rattle.std.proofs.Common.{refl, inl, inr, None, Some}
 use Rattle.std.proofs.lemmas.Bool.{iff_false}
 use Rattle.std.proofs.lemmas.Result.{err_from_is_err_and}
 use Rattle.page_source.proofs.Told.{told1, told2}
 use Rattle.space_audit.specs.Marks.{is_set}
-use Rattle.tree_walk.specs.declared.walk.Walk.{Walk}
-use Rattle.tree_walk.specs.Walk.{IsTally}
 use Rattle.tree_walk.proofs.Audit.{new_iff, leaf_is, top_is, root_within}
 use Rattle.tree_walk.proofs.Root.{spot_root, top_of}
 use Rattle.tree_walk.proofs.tree.root.check_root.Goals as goal
