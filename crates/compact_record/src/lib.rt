@@ -9,6 +9,7 @@ pub mod laws;
 mod located;
 mod parts;
 mod places;
+mod whole;
 mod writing;
 
 pub use errors::LocateError;
@@ -16,4 +17,5 @@ pub use header::{deleted, heap_number, minimum, next_field, next_origin, owned, 
 pub use located::{Located, locate};
 pub use parts::{Part, Parts};
 pub use places::Place;
+pub use whole::lies_whole;
 pub use writing::{RecordPlace, place, place_record, record_size};

@@ -86,7 +86,7 @@ pub(crate) fn read_places(
 
 /// How many nullable fields stand before the one behind field `i`.
 #[tactic(auto, using(crate::proofs::Steps::nullable_more))]
-fn nulls_with(fields: &FieldList, i: usize, nulls: usize) -> usize
+pub(crate) fn nulls_with(fields: &FieldList, i: usize, nulls: usize) -> usize
     requires inside { i < length fields.now.fields }
     requires few { i < 128 }
     requires before { nulls ≡ nullable_before fields.now i }
@@ -103,7 +103,7 @@ fn nulls_with(fields: &FieldList, i: usize, nulls: usize) -> usize
 
 /// The bytes of the lengths before the field behind field `i`.
 #[tactic(auto, using(crate::proofs::Steps::lengths_more))]
-fn lengths_with(
+pub(crate) fn lengths_with(
     page: &Page,
     origin: usize,
     fields: &FieldList,

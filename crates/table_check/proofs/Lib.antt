@@ -6,6 +6,7 @@ pub mod RecordMarks
 mod LiveSteps
 mod RowSteps
 mod RowMarks
+mod WholeRows
 mod TreeSteps
 mod UnreachedSteps
 mod WholeSteps

@@ -1,6 +1,7 @@
 //! A whole table: all rules of its file, in order.
 #![tactic(auto)]
 
+mod any_bytes;
 mod ends;
 pub mod laws;
 mod leaf;

@@ -17,6 +17,7 @@ ghost use Rattle.table_check.specs.Live.{GivesAll};
 ghost use Rattle.table_check.specs.Values.{RowChecks, all_chain_pages};
 ghost use Rattle.table_check.specs.Leaf.{RecordChecksOn, pages_of_record_on};
 
+use crate::any_bytes::need_no_look;
 use crate::leaf::{Leaf, Leaves};
 use crate::record::check_record;
 use crate::rows::LiveRows;
@@ -99,7 +100,8 @@ pub(crate) fn check_rows<S: PageSource, L: Ledger>(
     Ok(count)
 }
 
-/// Checks the values of all rows of a table whose trees are these pages.
+/// Checks the values of all rows of a table whose trees are these pages. Where all values lie whole on their leaves, and
+/// any bytes spell one, there is nothing to be checked, and no page is fetched.
 pub(crate) fn check_values<S: PageSource, L: Ledger>(
     alloc: Global,
     source: &mut S,
@@ -125,6 +127,10 @@ pub(crate) fn check_values<S: PageSource, L: Ledger>(
 {
     let _ = schema.indexes();
     let fields = schema.fields(alloc, 0, true)?;
+    rows_can_be_read();
+    if need_no_look(clustered, &fields) {
+        return Ok(0);
+    }
     let leaves = Leaves {
         space,
         segment: clustered.leaf_segment,

@@ -8,8 +8,7 @@ use Rattle.fil_frame.specs.Kinds.{index_kind}
 use Rattle.space_header.specs.Header.{size_of, address_at}
 use Rattle.extent_map.specs.Head.{HeaderChecks, IsSize}
 use Rattle.inode_segments.specs.Inodes.{segments}
-use Rattle.space_audit.specs.declared.owner.Owner.TheVariants.{Used}
-use Rattle.space_audit.specs.Owners.{owner_of, IsUsedBy}
+use Rattle.space_audit.specs.Owners.{IsUsedBy}
 use Rattle.space_audit.specs.Audit.{OwnerChecks}
 use Rattle.space_audit.specs.Space.{SpaceView, IsAuditOf, IsPageOf}
 use Rattle.tree_walk.specs.declared.index.Tree.{Tree}

@@ -1,6 +1,6 @@
 -- facts on a cursor that goes along the pointers of a level by next fields
 use Rattle.std.proofs.Common.{◌≡◌, ◌≢◌, ◌==◌, ◌-◌, Err, ℕ, ◌+◌, ◌<◌, ◌≤◌, List, length, get_or, take, refl, sym, ◌∙◌}
-use Rattle.std.proofs.Common.{ap, arith, Bool, true, false, Option, None, Some, IfSome, inl, inr, length-append}
+use Rattle.std.proofs.Common.{ap, arith, Bool, true, false, Option, None, Some, inl, inr, length-append}
 use Rattle.std.proofs.Common.{slice_get, cond, subst}
 use Rattle.std.proofs.lemmas.Bool.{cases_lt}
 use Rattle.std.proofs.lemmas.List.{length-map, take_all, get_or-map, get_or_default, get_or_past}
@@ -388,9 +388,9 @@ module _ (index : Index) (aim : Aim) (place : Place) (next : Next) (walk : Walk)
       (page_at_place index aim place)
   grew_in_hand old new g = subst (GrowsBy old new) child_is g
 
-  pub tally_in_hand : (tally : Tally) → IsTally (page_in index (child_in_hand walk index.node place)) tally →
-      IsTally (page_in index (page_at_place index aim place)) tally
-  tally_in_hand tally t = subst (λ n. IsTally (page_in index n) tally) child_is t
+  pub tally_in_hand : (tally : Tally) → IsTally (page_in index (child_in_hand walk index.node place)) index.leaf tally
+      → IsTally (page_in index (page_at_place index aim place)) index.leaf tally
+  tally_in_hand tally t = subst (λ n. IsTally (page_in index n) index.leaf tally) child_is t
 
 -- a search that breaks off stops the checks there, and it never breaks off
 pub looks_halt : (index : Index) (depth j : ℕ) (page ahead : List ℕ) (halt : Halt) (checks : Option Fault → Type 0)

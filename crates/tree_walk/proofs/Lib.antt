@@ -1,6 +1,8 @@
 pub mod Lists
 pub mod Records
 pub mod Tallies
+pub mod LastRecord
+pub mod States
 pub mod Audit
 pub mod Levels
 pub mod Cursors

@@ -10,7 +10,7 @@ use Rattle.index_page.specs.Header.{infimum, supremum, record_count, records_fro
 use Rattle.std.specs.List.{All}
 use Rattle.index_page.specs.Page.{Leads, IsChain, HasRoom}
 use Rattle.index_page.specs.PageChecks.{PageChecks}
-use Rattle.tree_walk.specs.Records.{IsRecord, PageFacts}
+use Rattle.tree_walk.specs.Records.{IsRecord, PageFacts, HasPassed}
 
 chain_first : (page : List ℕ) (f n : ℕ) → 0 < n → get_or (records_from page f n) 0 0 ≡ f
 unfolding records_from
@@ -67,7 +67,7 @@ module _ (page : List ℕ) (fields : Fields) (leaf root leftmost : Bool)
 
   pub page_facts : PageFacts page fields
   unfolding PageChecks
-  page_facts = record { header = c.0; is_chain = the_chain; records = the_records }
+  page_facts = record { header = c.0; is_chain = the_chain; directory = c.1.1.1.1.1.0; records = the_records }
 
   pub some_record : root ≡ false → 0 < record_count page
   unfolding PageChecks
@@ -129,10 +129,6 @@ leads_none : (page chain : List ℕ) (start end : ℕ) → Leads page start chai
     page start ≡ end
 leads_none page [] start end l e = l
 leads_none page (x ∷ xs) start end l e = absurd (omega arith)
-
--- the record that a walk along the chain stands on behind k records, the infimum before the first
-abbrev pub HasPassed : List ℕ → ℕ → ℕ → Type 0
-HasPassed page k at = at ≡ get_or (infimum ∷ records_of page) k 0
 
 pub passed_more : (page : List ℕ) (k at : ℕ) → k < record_count page → HasPassed page k at → next_origin page at ≡
     get_or (records_of page) k 0

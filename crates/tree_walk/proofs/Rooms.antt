@@ -1,8 +1,7 @@
 -- the room stays
-use Rattle.std.proofs.Common.{◌∙◌, ℕ, length, refl}
-use Rattle.column_values.specs.Types.{Fields}
+use Rattle.std.proofs.Common.{◌∙◌, ℕ}
 use Rattle.tree_walk.specs.declared.walk.Walk.{Walk}
-use Rattle.tree_walk.specs.Room.{HasRoom, HasSameRoom, CanWalk}
+use Rattle.tree_walk.specs.Room.{HasRoom, HasSameRoom}
 
 pub room_join : (a b c : Walk) → HasSameRoom a b → HasSameRoom b c → HasSameRoom a c
 room_join a b c x y = record {

@@ -1,6 +1,7 @@
 -- the root's checks, and the tree from its start to its end
 use Rattle.std.proofs.Common.{◌≡◌, ◌==◌, ◌-◌, ℕ, suc, ◌+◌, ◌<◌, ◌≤◌, List, [], ◌∷◌, length, get_or, count_by, Bool}
-use Rattle.std.proofs.Common.{true, cond, sym, ◌∙◌, ap, arith, Option, None, Some, below_more, refl, inl, inr, subst}
+use Rattle.std.proofs.Common.{true, cond, All, sym, ◌∙◌, ap, arith, Option, None, Some, below_more, refl, inl, inr, subst}
+use Rattle.std.proofs.lemmas.Bool.{eq-eqb}
 use Rattle.page_source.specs.Pages.{page_of, num, fil_null}
 use Rattle.page_source.specs.Checks.{HaltsAt}
 use Rattle.page_source.specs.declared.rule.Fault.{Fault}
@@ -20,7 +21,8 @@ use Rattle.tree_walk.specs.Segments.{leaf_segment, top_segment, named_segments}
 use Rattle.space_audit.specs.Marks.{is_set, Marked}
 use Rattle.tree_walk.specs.Facts.{LevelFacts}
 use Rattle.tree_walk.specs.Tree.{index_in}
-use Rattle.tree_walk.specs.Walk.{IsTop, IsAtLevel, IsLevel, IsTally, TreeState, IsEndsOf}
+use Rattle.tree_walk.specs.Walk.{IsTop, IsAtLevel, IsLevel, IsTally, IsEndsOf, RowLiesWhole}
+use Rattle.tree_walk.proofs.States.{TreeState}
 use Rattle.tree_walk.proofs.Tallies.{tally_root}
 use Rattle.tree_walk.specs.Place.{SpotAt}
 use Rattle.tree_walk.specs.TreeChecks.{RootCheck, DepthCheck, LevelCheck, TreeChecks, root_spot}
@@ -81,15 +83,16 @@ module _ (file : List ℕ) (tree : Tree) (fields : Fields) (page : List ℕ) (le
 
   pub top_of : (l t : ℕ) → l ≡ leaf_segment (index_in file tree) → t ≡ top_segment
       (index_in file tree)
-      → (tally : Tally) → (level ≡ 0 → IsTally page tally) → IsTop (index_in file tree)
+      → (tally : Tally) → (level ≡ 0 → IsTally page fields tally) → IsTop (index_in file tree)
       (record { level = level; index_id = id; leaf = l; upper = t; tally = tally })
   top_of l t a b tally y = record {
     level = sym level_is;
     id = sym id_is;
     leaf = a;
     upper = b;
-    tallied = λ z. subst
-        (λ pg. IsTally pg tally) p (y z);
+    tallied = λ z. subst (λ pg. IsTally pg tree.leaf.now tally) p
+        (subst (λ fs. IsTally page fs tally) (ef ∙ ap (λ (b : Bool). cond b tree.leaf.now tree.node.now) (eq-eqb level 0 z))
+        (y z));
   }
 
 -- the tree's start
@@ -197,8 +200,9 @@ module _ (index : Index) (top : Top) (depth : ℕ) (start names marks : List Boo
 
     pub tree_ends : (ends : TreeEnds) → ends.index_id ≡ top.index_id → ends.root_level ≡ top.level → ends.first_leaf
         ≡ row.first → ends.leaves ≡ row.pages → ends.leaf_segment ≡ top.leaf → ends.top_segment ≡ top.upper
-        → ends.live ≡ row.tally.live → ends.deleted ≡ row.tally.deleted → IsEndsOf index ends
-    tree_ends ends a b c d e f l m =
+        → ends.live ≡ row.tally.live → ends.deleted ≡ row.tally.deleted → ends.whole ≡ row.tally.whole
+        → IsEndsOf index ends
+    tree_ends ends a b c d e f l m w =
         let y = t.tallied at_top in
         record {
           id = a ∙ t.is_top.id;
@@ -209,6 +213,7 @@ module _ (index : Index) (top : Top) (depth : ℕ) (start names marks : List Boo
           top = f ∙ t.is_top.upper;
           live = l ∙ y.live ∙ ap (λ d. count_by (is_live_row index) (places index d)) at_top;
           deleted = m ∙ y.deleted ∙ ap (λ d. count_by (is_deleted_row index) (places index d)) at_top;
+          whole = λ t. subst (λ d. All (RowLiesWhole index) (places index d)) at_top (y.whole (sym w ∙ t));
         }
 
     pub tree_marked : Marked (is_set start) marks (tree_pages index)

@@ -1,6 +1,6 @@
 -- one place of a level, the level's end, and the tree
-use Rattle.std.proofs.Common.{◌≡◌, ◌-◌, ℕ, ◌+◌, ◌<◌, ◌≤◌, List, [], length, get_or, take, Bool, sym, ◌∙◌, arith, None}
-use Rattle.std.proofs.Common.{below_more, add-one, refl}
+use Rattle.std.proofs.Common.{◌≡◌, ◌-◌, ℕ, ◌+◌, ◌<◌, ◌≤◌, ◌&&◌, List, [], length, get_or, take, Bool, true, sym, ◌∙◌}
+use Rattle.std.proofs.Common.{below_more, add-one, refl, arith, None}
 use Rattle.std.proofs.lemmas.List.{length-map, get_or-map}
 use Rattle.page_source.specs.Pages.{fil_null}
 use Rattle.page_source.specs.Checks.{HaltsAt}
@@ -16,7 +16,8 @@ use Rattle.tree_walk.specs.declared.level.Aim.{Aim}
 use Rattle.tree_walk.specs.declared.level.Place.{Place}
 use Rattle.tree_walk.specs.declared.level.Level.{Level}
 use Rattle.tree_walk.specs.declared.place.tally.Tally.{Tally}
-use Rattle.tree_walk.specs.Walk.{Stands, IsAtLevel, IsLevel, LevelState, CheckAtPlace, page_at_place, GrowsBy}
+use Rattle.tree_walk.specs.Walk.{Stands, IsAtLevel, IsLevel, CheckAtPlace, page_at_place, GrowsBy}
+use Rattle.tree_walk.proofs.States.{LevelState}
 use Rattle.tree_walk.specs.Walk.{IsTally, IsTallyOf}
 use Rattle.tree_walk.proofs.Tallies.{tally_none, tally_more}
 use Rattle.tree_walk.specs.TreeChecks.{before, PlaceCheck, LevelCheck}
@@ -52,13 +53,15 @@ module _ (index : Index) (aim : Aim) (start marks : List Bool) (place : Place) (
         place.j state.held
         (check_at index aim.level (is_set start) marks (places index aim.depth) place.j None state.marked check)
 
-    module _ (one both : Tally) (o : aim.level ≡ 0 → IsTally (page_in index (page_at_place index aim place)) one)
-        (l : both.live ≡ tally.live + one.live) (d : both.deleted ≡ tally.deleted + one.deleted) where
+    module _ (one both : Tally)
+        (o : aim.level ≡ 0 → IsTally (page_in index (page_at_place index aim place)) index.leaf one)
+        (l : both.live ≡ tally.live + one.live) (d : both.deleted ≡ tally.deleted + one.deleted)
+        (w : both.whole ≡ (tally.whole && one.whole)) where
       tallied_more : aim.level ≡ 0 → IsTallyOf index (take (place.j + 1) (children index (places index aim.depth))) both
       tallied_more z =
           rw (children_more index (places index aim.depth) place.j within)
           (tally_more index (take place.j (children index (places index aim.depth))) (page_at_place index aim place)
-          tally one both (state.tallied z) (o z) l d)
+          tally one both (state.tallied z) (o z) l d w)
 
       pub state_more : (cursor' : Cursor) (page' : List ℕ) (at : ℕ) → Stands index aim.depth cursor' page'
           (place.j + 1) → at ≡ child_at page index.node place.cursor.origin
@@ -133,7 +136,7 @@ module _ (index : Index) (aim : Aim) (upper : Level) (origin : ℕ) (page : List
         previous =
             fil_null;
         j = 0;
-      }) page (record { live = 0; deleted = 0 })
+      }) page (record { live = 0; deleted = 0; whole = true })
   state_first start = record {
     at = record { facts = a.facts; is_aim = a.is_aim; stands = stands_first; previous = refl };
     marked = marked_start start;

@@ -1,7 +1,7 @@
 -- A walk along the pointers of a level by next fields.
 use Rattle.std.specs.Prelude.{◌≡◌, ◌==◌, if◌then◌else◌, [], ◌∷◌, ◌++◌, Bool, true, false, ℕ, ◌+◌, ◌<◌, ◌≤◌, not, List}
 use Rattle.std.specs.Prelude.{length, slice_index_or}
-use Rattle.std.specs.Prelude.{take, count_by, Option, None, Some, IfSome, Result, Ok, Err, ⊤}
+use Rattle.std.specs.Prelude.{take, count_by, All, Option, None, Some, IfSome, Result, Ok, Err, ⊤}
 use Rattle.page_source.specs.declared.rule.Fault.{Fault}
 use Rattle.page_source.specs.declared.checks.Halt.{Halt}
 use Rattle.page_source.specs.declared.checks.Halt.TheVariants.{Broken, Source}
@@ -21,13 +21,14 @@ use Rattle.tree_walk.specs.declared.level.Place.{Place}
 use Rattle.tree_walk.specs.declared.level.Level.{Level}
 use Rattle.tree_walk.specs.declared.tree.root.Top.{Top}
 use Rattle.tree_walk.specs.declared.ends.TreeEnds.{TreeEnds}
-use Rattle.compact_record.specs.Header.{is_deleted}
+use Rattle.compact_record.specs.Header.{is_deleted, is_minimum}
+use Rattle.compact_record.specs.Whole.{LiesWhole}
 use Rattle.index_page.specs.Header.{records_of}
-use Rattle.space_audit.specs.Marks.{is_set, Marked}
-use Rattle.tree_walk.specs.Index.{Index, page_in, pages_at, rows_of, places, children, root_level, index_id, reached}
+use Rattle.space_audit.specs.Marks.{Marked}
+use Rattle.tree_walk.specs.Index.{Index, page_in, pages_at, rows_of, places, children, root_level, index_id}
 use Rattle.tree_walk.specs.Index.{leaf_pages}
-use Rattle.tree_walk.specs.Index.{leaf_rows, is_deleted_row, is_live_row}
-use Rattle.tree_walk.specs.TreeChecks.{before, PlaceWith, PlaceCheck, RootCheck, DepthCheck}
+use Rattle.tree_walk.specs.Index.{Row, leaf_rows, is_deleted_row, is_live_row}
+use Rattle.tree_walk.specs.TreeChecks.{before, PlaceWith}
 use Rattle.tree_walk.specs.Segments.{leaf_segment, top_segment, segment_at}
 use Rattle.tree_walk.specs.Facts.{LevelFacts}
 
@@ -125,15 +126,25 @@ spot_beside walk node stand low next =
 abbrev pub GrowsBy : List Bool → List Bool → ℕ → Type 0
 GrowsBy old new n = (taken : ℕ → Bool) (list : List ℕ) → Marked taken old list → Marked taken new (list ++ n ∷ [])
 
--- how many records of a page have no delete mark, and how many have one
-pub record IsTally (page : List ℕ) (tally : Tally) : Type 0 where
+-- how many records of a page have no delete mark, how many have one, and whether all are known to lie whole there
+pub record IsTally (page : List ℕ) (fields : Fields) (tally : Tally) : Type 0 where
   pub live : tally.live ≡ count_by (λ origin. not (is_deleted page origin)) (records_of page)
   pub deleted : tally.deleted ≡ count_by (is_deleted page) (records_of page)
+  pub whole : tally.whole ≡ true → All (LiesWhole page fields) (records_of page)
+
+-- none of these records has the minimum mark
+abbrev pub AreUnmarked : List ℕ → List ℕ → Type 0
+AreUnmarked page records = All (λ origin. is_minimum page origin ≡ false) records
+
+-- the values of a row lie whole on its leaf, in no more bytes than their types take
+abbrev pub RowLiesWhole : Index → Row → Type 0
+RowLiesWhole index row = LiesWhole (page_in index row.page) index.leaf row.origin
 
 -- the same of the rows of these leaves
 pub record IsTallyOf (index : Index) (leaves : List ℕ) (tally : Tally) : Type 0 where
   pub live : tally.live ≡ count_by (is_live_row index) (rows_of index leaves)
   pub deleted : tally.deleted ≡ count_by (is_deleted_row index) (rows_of index leaves)
+  pub whole : tally.whole ≡ true → All (RowLiesWhole index) (rows_of index leaves)
 
 -- the numbers of the level below a depth
 pub record IsAim (index : Index) (aim : Aim) : Type 0 where
@@ -168,32 +179,13 @@ page_at_place index aim place = child_of index (row_at (places index aim.depth) 
 abbrev pub CheckAtPlace : Index → Aim → Place → Bool → Option Fault → Type 0
 CheckAtPlace index aim place taken = PlaceWith index aim.level taken (places index aim.depth) place.j
 
--- what is known before place j of a level, over a told content
-pub record LevelState (index : Index) (aim : Aim) (start marks : List Bool) (place : Place) (page : List ℕ)
-    (tally : Tally) : Type 0 where
-  pub at : IsAtPlace index aim place page
-  pub marked : Marked (is_set start) marks (take place.j (children index (places index aim.depth)))
-  pub held : (k : ℕ) → k < place.j → PlaceCheck index aim.level (is_set start) [] (places index aim.depth) k None
-  pub tallied : aim.level ≡ 0 → IsTallyOf index (take place.j (children index (places index aim.depth))) tally
-
 -- what is known of the root
 pub record IsTop (index : Index) (top : Top) : Type 0 where
   pub level : top.level ≡ root_level index
   pub id : top.index_id ≡ index_id index
   pub leaf : top.leaf ≡ leaf_segment index
   pub upper : top.upper ≡ top_segment index
-  pub tallied : top.level ≡ 0 → IsTally (page_in index index.root) top.tally
-
--- what is known before the level below a depth is walked, over a told content
-pub record TreeState (index : Index) (top : Top) (depth : ℕ) (start names marks : List Bool) (row : Level)
-    : Type 0 where
-  pub is_top : IsTop index top
-  pub checked : RootCheck index (is_set start) (is_set names) None
-  pub first : row.first ≡ slice_index_or (pages_at index depth) 0 0
-  pub pages : row.pages ≡ length (pages_at index depth)
-  pub tallied : depth ≡ root_level index → IsTallyOf index (pages_at index depth) row.tally
-  pub marked : Marked (is_set start) marks (reached index depth)
-  pub held : (d : ℕ) → d < depth → DepthCheck index (is_set start) d None
+  pub tallied : top.level ≡ 0 → IsTally (page_in index index.root) index.leaf top.tally
 
 -- the numbers of a tree that was walked
 pub record IsEndsOf (index : Index) (ends : TreeEnds) : Type 0 where
@@ -205,3 +197,4 @@ pub record IsEndsOf (index : Index) (ends : TreeEnds) : Type 0 where
   pub top : ends.top_segment ≡ top_segment index
   pub live : ends.live ≡ count_by (is_live_row index) (leaf_rows index)
   pub deleted : ends.deleted ≡ count_by (is_deleted_row index) (leaf_rows index)
+  pub whole : ends.whole ≡ true → All (RowLiesWhole index) (leaf_rows index)

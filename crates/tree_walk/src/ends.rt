@@ -24,6 +24,9 @@ pub struct TreeEnds {
     pub live: u64,
     /// How many leaf records have the delete mark.
     pub deleted: u64,
+    /// Whether the values of all leaf records are known to lie whole on their leaves, in no more bytes than their types
+    /// take. After false nothing is said.
+    pub whole: bool,
     made: (),
 }
 
@@ -38,6 +41,7 @@ impl TreeEnds {
         ensures upper { result.top_segment ≡ top.upper }
         ensures live { result.live ≡ row.tally.live }
         ensures deleted { result.deleted ≡ row.tally.deleted }
+        ensures whole { result.whole ≡ row.tally.whole }
     {
         TreeEnds {
             index_id: top.index_id,
@@ -48,6 +52,7 @@ impl TreeEnds {
             top_segment: top.upper,
             live: row.tally.live,
             deleted: row.tally.deleted,
+            whole: row.tally.whole,
             made: (),
         }
     }

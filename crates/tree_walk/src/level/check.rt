@@ -6,17 +6,16 @@ ghost use Rattle.page_source.specs.Checks.{Halts};
 ghost use Rattle.space_audit.specs.Marks.{is_set};
 ghost use Rattle.tree_walk.specs.Index.{page_in};
 ghost use Rattle.compact_record.specs.Keys.{HaveChild};
-ghost use Rattle.tree_walk.specs.Records.{PageFacts};
 ghost use Rattle.tree_walk.specs.Tree.{OfIndex, IsReady, StaysReady};
 ghost use Rattle.tree_walk.specs.Walk.{HoldsLow, HoldsHigh, PlaceInHand, child_in_hand, next_in_hand, GrowsBy, IsTally};
 
 use crate::cursor::{FIL_NULL, Next};
 use crate::level::{Aim, Place};
-use crate::place::tally::{NONE, Tally, tally_of};
+use crate::place::tally::Tally;
 use crate::place::{Stand, check_spot, is_place};
 use crate::walk::Walk;
 use column_values::FieldList;
-use page_source::{Halt, Page, PageSource, Rule, Steps};
+use page_source::{Halt, PageSource, Rule, Steps};
 use space_audit::Marks;
 use std::sync::ledger::Ledger;
 
@@ -36,19 +35,6 @@ fn next_child(walk: &Walk, node: &FieldList, next: Next) -> u32
         Next::Here(_) => walk.high.child(&walk.parent, node),
         Next::Ahead(_) => walk.high.child(&walk.after, node),
         Next::End => FIL_NULL,
-    }
-}
-
-/// The tally of the page in hand, where it is a leaf.
-pub(crate) fn tally_on(level: u16, page: &Page, fields: &FieldList) -> Tally
-    requires facts { PageFacts page.now fields.now }
-    ensures exact { level ≡ 0 → IsTally page.now result }
-    ensures most { result.live + result.deleted ≤ 65536 }
-{
-    if level == 0 {
-        tally_of(page, fields)
-    } else {
-        NONE
     }
 }
 
@@ -72,7 +58,7 @@ pub(crate) fn check_place<S: PageSource, L: Ledger>(
     ensures marked { IfOk result (λ _.
         GrowsBy marks.old marks.new (child_in_hand walk.old aim.now.tree.node.now place)) }
     ensures tally { IfOk result (λ tally. OfIndex S.PageSource source.old aim.now.tree (λ index.
-        aim.now.level ≡ 0 → IsTally (page_in index (child_in_hand walk.old index.node place)) tally)) }
+        aim.now.level ≡ 0 → IsTally (page_in index (child_in_hand walk.old index.node place)) index.leaf tally)) }
     ensures most { IfOk result (λ tally. tally.live + tally.deleted ≤ 65536) }
     ensures fewer { IfOk result (λ _. unmarked marks.new + 1 ≡ unmarked marks.old) }
     ensures parent { walk.new.parent ≡ walk.old.parent }
@@ -98,7 +84,7 @@ pub(crate) fn check_place<S: PageSource, L: Ledger>(
     source.fetch(n, &mut walk.child, steps)?;
     let fields = aim.tree.fields_on(aim.level);
     let low = low_of(stand.leftmost, place.cursor.origin);
-    check_spot(walk, fields, node, stand, low, next)?;
+    let tally = check_spot(walk, fields, node, stand, low, next)?;
     marks.mark(n);
-    Ok(tally_on(aim.level, &walk.child, fields))
+    Ok(tally)
 }

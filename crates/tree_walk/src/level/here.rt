@@ -44,7 +44,7 @@ pub(crate) fn check_here<S: PageSource, L: Ledger>(
     ensures marked { IfOk result (λ _. OfIndex S.PageSource source.old aim.now.tree (λ index.
         GrowsBy marks.old marks.new (page_at_place index aim.now place))) }
     ensures tally { IfOk result (λ found. OfIndex S.PageSource source.old aim.now.tree (λ index.
-        aim.now.level ≡ 0 → IsTally (page_in index (page_at_place index aim.now place)) found.tally)) }
+        aim.now.level ≡ 0 → IsTally (page_in index (page_at_place index aim.now place)) index.leaf found.tally)) }
     ensures most { IfOk result (λ found. found.tally.live + found.tally.deleted ≤ 65536) }
     ensures fewer { IfOk result (λ _. unmarked marks.new + 1 ≡ unmarked marks.old) }
     ensures follows { IfOk result (λ found. OfIndex S.PageSource source.old aim.now.tree (λ index.

@@ -1,6 +1,6 @@
 //! The walk along one level, beside the level above it, by next fields.
 
-ghost use Rattle.std.specs.Prelude.{◌≡◌, ◌+◌, ◌*◌, ◌≤◌, [], IfOk};
+ghost use Rattle.std.specs.Prelude.{◌≡◌, ◌+◌, ◌*◌, ◌≤◌, ◌&&◌, [], IfOk};
 ghost use Rattle.page_source.specs.Lists.{unmarked};
 ghost use Rattle.page_source.specs.Checks.{Halts};
 ghost use Rattle.space_audit.specs.Marks.{is_set, Marked};
@@ -18,7 +18,6 @@ use crate::index::Tree;
 use crate::place::INFIMUM;
 use crate::place::tally::{NONE, Tally};
 use crate::walk::Walk;
-pub(crate) use check::tally_on;
 use compact_record::next_origin;
 use here::check_here;
 use look::{advance, read_low};
@@ -58,10 +57,12 @@ fn sum(a: Tally, b: Tally) -> Tally
     requires deleted { a.deleted + b.deleted ≤ 4294967296 * 65536 }
     ensures live { result.live ≡ a.live + b.live }
     ensures deleted { result.deleted ≡ a.deleted + b.deleted }
+    ensures whole { result.whole ≡ (a.whole && b.whole) }
 {
     Tally {
         live: a.live + b.live,
         deleted: a.deleted + b.deleted,
+        whole: a.whole && b.whole,
     }
 }
 

@@ -1,8 +1,9 @@
 //! The records of a page in hand.
 
-ghost use Rattle.std.specs.Prelude.{◌≡◌, ◌-◌, ◌<◌, ◌≤◌, ◌↔◌, IsTrue, length, slice_index};
-ghost use Rattle.index_page.specs.Header.{records_of, record_count};
-ghost use Rattle.tree_walk.specs.Records.{IsRecord, IsHeld, PageFacts};
+ghost use Rattle.std.specs.Prelude.{◌≡◌, ◌-◌, ◌<◌, ◌≤◌, ◌↔◌, IsTrue, IfSome, length, slice_index};
+ghost use Rattle.index_page.specs.Header.{records_of, record_count, slot_at, slot_count};
+ghost use Rattle.index_page.specs.Page.{HasHeader};
+ghost use Rattle.tree_walk.specs.Records.{IsRecord, IsHeld, PageFacts, HasPassed};
 
 use column_values::FieldList;
 use compact_record::{Located, next_origin};
@@ -13,6 +14,21 @@ pub(crate) const INFIMUM: usize = 99;
 
 /// The least origin of a record of the heap.
 pub(crate) const FIRST_ORIGIN: usize = 125;
+
+/// PAGE_NEW_SUPREMUM, the origin of the record behind the last one.
+const SUPREMUM: usize = 112;
+
+/// PAGE_N_DIR_SLOTS, the number of directory slots.
+const SLOT_COUNT: usize = 38;
+
+/// Where the first directory slot stands; the others go down from it.
+const FIRST_SLOT: usize = 16374;
+
+/// The bytes of a slot (PAGE_DIR_SLOT_SIZE).
+const SLOT_SIZE: usize = 2;
+
+/// The most records that an owner owns (PAGE_DIR_SLOT_MAX_N_OWNED).
+const GREATEST_GROUP: usize = 8;
 
 /// PAGE_N_RECS, the number of records.
 const RECORD_COUNT: usize = 54;
@@ -52,7 +68,34 @@ pub(crate) fn first_record(page: &Page) -> usize
     next_origin(page, INFIMUM)
 }
 
-/// The last record of a page with so many of them.
+/// The origin that the last directory slot but one names: of the owner before the last group.
+fn last_owner(page: &Page) -> usize
+    requires { HasHeader page.now }
+    ensures { result ≡ slot_at page.now (slot_count page.now - 2) }
+{
+    let slot = read_be::<2>(page, SLOT_COUNT) as usize - 2;
+    read_be::<2>(page, FIRST_SLOT - SLOT_SIZE * slot) as usize
+}
+
+/// The last record of the chain, where it is found from the last slot but one on; the infimum where there is no record.
+#[tactic(auto, using(crate::proofs::LastRecord::passed_header))]
+fn last_of_group(page: &Page, fields: &FieldList) -> Option<usize>
+    requires facts { PageFacts page.now fields.now }
+    ensures { IfSome result (λ last. HasPassed page.now (record_count page.now) last) }
+{
+    let mut at = last_owner(page);
+    for _ in 0..GREATEST_GROUP {
+        let next = next_origin(page, at);
+        if next == SUPREMUM {
+            return Some(at);
+        }
+        at = next;
+    }
+    None
+}
+
+/// The last record of a page with so many of them: from the last directory slot but one on, or, if it isn't met there,
+/// from the first record on.
 #[tactic(auto, using(crate::proofs::Records::first_record, crate::proofs::Records::record_at))]
 pub(crate) fn last_record(page: &Page, fields: &FieldList, count: usize) -> usize
     requires some { 0 < count }
@@ -60,6 +103,9 @@ pub(crate) fn last_record(page: &Page, fields: &FieldList, count: usize) -> usiz
     requires facts { PageFacts page.now fields.now }
     ensures { result ≡ slice_index (records_of page.now) (count - 1) }
 {
+    if let Some(last) = last_of_group(page, fields) {
+        return last;
+    }
     let mut at = next_origin(page, INFIMUM);
     for k in 1..count {
         at = next_origin(page, at);

@@ -1,18 +1,20 @@
 //! The checks of a page in hand.
 
-ghost use Rattle.std.specs.Prelude.{◌≡◌, ◌<◌, ◌≤◌, ◌↔◌, IsTrue, OnOk, false, length};
+ghost use Rattle.std.specs.Prelude.{◌≡◌, ◌+◌, ◌<◌, ◌≤◌, ◌↔◌, IsTrue, IfOk, OnOk, true, false, length};
 ghost use Rattle.page_source.specs.Checks.{Finds, AtPage};
-ghost use Rattle.index_page.specs.Header.{record_count};
+ghost use Rattle.index_page.specs.Header.{records_of, record_count};
+ghost use Rattle.index_page.specs.Page.{HasMinimumMark};
 ghost use Rattle.index_page.specs.PageChecks.{PageChecks};
 ghost use Rattle.tree_walk.specs.OneIndex.{HaveOneKey};
 ghost use Rattle.tree_walk.specs.Place.{is_leaf_level, IsBeside, NodeAt, SpotAt};
 ghost use Rattle.tree_walk.specs.Records.{PageFacts};
 ghost use Rattle.tree_walk.specs.Room.{HasRoom, HasSameRoom};
-ghost use Rattle.tree_walk.specs.Walk.{HoldsBeside, spot_beside};
+ghost use Rattle.tree_walk.specs.Walk.{HoldsBeside, spot_beside, IsTally, AreUnmarked};
 
 use crate::cursor::Next;
 use crate::place::Stand;
 use crate::place::keys::is_between;
+use crate::place::tally::{Tally, count_on};
 use crate::walk::Walk;
 use column_values::FieldList;
 use index_page::{mark_fault, page_fault};
@@ -65,6 +67,57 @@ fn check_records(walk: &mut Walk, fields: &FieldList, stand: Stand) -> Result<()
     }
 }
 
+/// Whether the minimum mark of a page lacks, or is where it mustn't be. No leaf has one, so where none was found on a
+/// leaf, all is well.
+#[tactic(auto, using(crate::proofs::Tallies::leaf_unmarked))]
+fn has_mark_fault(page: &Page, fields: &FieldList, stand: Stand, unmarked: bool) -> bool
+    requires facts { PageFacts page.now fields.now }
+    requires unmarked { unmarked ≡ true → AreUnmarked page.now (records_of page.now) × (stand.level ≡ 0) }
+    ensures { (result ≡ false)
+        ↔ HasMinimumMark page.now (is_leaf_level stand.level) stand.leftmost (records_of page.now) }
+{
+    !unmarked && mark_fault(page, stand.level == 0, stand.leftmost)
+}
+
+/// The checks of the page in hand at its level, and its tally where it is a leaf.
+fn check_page(
+    walk: &mut Walk,
+    fields: &FieldList,
+    node: &FieldList,
+    stand: Stand,
+    low: Option<usize>,
+    next: Next,
+) -> Result<Tally, Fault>
+    requires room { HasRoom walk.old (length fields.now.fields) }
+    requires lists { HaveOneKey fields.now node.now }
+    requires beside { HoldsBeside walk.old node.now stand.root low next }
+    ensures exact { Finds result (NodeAt walk.old.child fields.now
+        (spot_beside walk.old node.now stand low next)) }
+    ensures facts { OnOk result (PageFacts walk.old.child fields.now) }
+    ensures tally { IfOk result (λ tally. stand.level ≡ 0 → IsTally walk.old.child fields.now tally) }
+    ensures most { IfOk result (λ tally. tally.live + tally.deleted ≤ 65536) }
+    ensures same { walk.new ≡ record walk.old {
+      scratch = walk.new.scratch;
+      first = walk.new.first;
+      last = walk.new.last;
+    } }
+    ensures room { HasSameRoom walk.old walk.new }
+{
+    let n = stand.page;
+    if read_be::<2>(&walk.child, LEVEL) as u16 != stand.level || stand.level > GREATEST_LEVEL {
+        return Err(Rule::Level.at(n));
+    }
+    check_records(walk, fields, stand)?;
+    if !is_between(walk, fields, node, stand, low, next) {
+        return Err(Rule::Separator.at(n));
+    }
+    let count = count_on(stand.level, &walk.child, fields);
+    if has_mark_fault(&walk.child, fields, stand, count.unmarked) {
+        return Err(Rule::MinimumMark.at(n));
+    }
+    Ok(count.tally)
+}
+
 /// The checks of the page in hand at its level, by the rules 32 to 45: of its records, and of their keys between the
 /// separators, which are the keys of the node pointers on either side of the one that leads to it.
 pub fn check_node(
@@ -88,22 +141,12 @@ pub fn check_node(
     } }
     ensures room { HasSameRoom walk.old walk.new }
 {
-    let n = stand.page;
-    if read_be::<2>(&walk.child, LEVEL) as u16 != stand.level || stand.level > GREATEST_LEVEL {
-        return Err(Rule::Level.at(n));
-    }
-    check_records(walk, fields, stand)?;
-    if !is_between(walk, fields, node, stand, low, next) {
-        return Err(Rule::Separator.at(n));
-    }
-    if mark_fault(&walk.child, stand.level == 0, stand.leftmost) {
-        return Err(Rule::MinimumMark.at(n));
-    }
+    check_page(walk, fields, node, stand, low, next)?;
     Ok(())
 }
 
-/// The checks of the page in hand where it stands: the low separator is the key of the node pointer in hand, where
-/// there is one, and the high separator that of the next node pointer.
+/// The checks of the page in hand where it stands, and its tally where it is a leaf: the low separator is the key of the
+/// node pointer in hand, where there is one, and the high separator that of the next node pointer.
 pub(crate) fn check_spot(
     walk: &mut Walk,
     fields: &FieldList,
@@ -111,13 +154,15 @@ pub(crate) fn check_spot(
     stand: Stand,
     low: Option<usize>,
     next: Next,
-) -> Result<(), Fault>
+) -> Result<Tally, Fault>
     requires room { HasRoom walk.old (length fields.now.fields) }
     requires lists { HaveOneKey fields.now node.now }
     requires beside { HoldsBeside walk.old node.now stand.root low next }
     ensures exact { Finds result (SpotAt walk.old.child fields.now stand.index_id
         (spot_beside walk.old node.now stand low next) stand.previous stand.next) }
     ensures facts { OnOk result (PageFacts walk.old.child fields.now) }
+    ensures tally { IfOk result (λ tally. stand.level ≡ 0 → IsTally walk.old.child fields.now tally) }
+    ensures most { IfOk result (λ tally. tally.live + tally.deleted ≤ 65536) }
     ensures same { walk.new ≡ record walk.old {
       scratch = walk.new.scratch;
       first = walk.new.first;
@@ -131,5 +176,5 @@ pub(crate) fn check_spot(
     if !is_beside(&walk.child, stand.previous, stand.next) {
         return Err(Rule::Sibling.at(stand.page));
     }
-    check_node(walk, fields, node, stand, low, next)
+    check_page(walk, fields, node, stand, low, next)
 }

@@ -13,7 +13,6 @@ ghost use Rattle.tree_walk.specs.Walk.{IsTop};
 
 use crate::cursor::{FIL_NULL, Next};
 use crate::index::Tree;
-use crate::level::tally_on;
 use crate::place::tally::Tally;
 use crate::place::{INDEX_ID, LEVEL, Stand, check_spot, is_root, is_used_by};
 use crate::walk::Walk;
@@ -127,11 +126,10 @@ pub(crate) fn check_root<S: PageSource, L: Ledger>(
         next: FIL_NULL,
     };
     let fields = tree.fields_on(level);
-    check_spot(walk, fields, tree.node, stand, None, Next::End)?;
+    let tally = check_spot(walk, fields, tree.node, stand, None, Next::End)?;
     marks.mark(root);
     named.mark(lowest);
     named.mark(upper);
-    let tally = tally_on(level, &walk.child, fields);
     Ok(Top {
         level,
         index_id: id,

@@ -1,7 +1,8 @@
-use Rattle.std.proofs.Common.{None}
+use Rattle.std.proofs.Common.{None, refl, ap, length, sym}
 use Rattle.std.proofs.lemmas.Result.{err_from_is_err_and}
-use Rattle.page_source.proofs.Told.{told2}
+use Rattle.page_source.proofs.Told.{told1, told2}
 use Rattle.table_check.proofs.TreeSteps.{values_checked, values_stop}
+use Rattle.table_check.proofs.WholeRows.{values_hold, values_none, values_reached}
 use Rattle.table_check.proofs.values.check_values.Goals as goal
 
 pub returns-in_err-check_rows-clause-exact : goal.returns-in_err-check_rows-clause-exact
@@ -17,3 +18,27 @@ returns-clause-exact g c =
     told2 (g.S.PageSource.content c.args.source.now)
     (λ file exactly check. values_checked file c.args.schema.now c.args.marks.now exactly None check)
     c.requires.trees c.in_ok-check_rows.ensures.checks.exact
+
+pub returns-then-need_no_look-clause-exact : goal.returns-then-need_no_look-clause-exact
+returns-then-need_no_look-clause-exact g c =
+    let found = c.if-need_no_look.ensures refl in
+    told1 (g.S.PageSource.content c.args.source.now)
+    (λ file is. values_hold file c.args.schema.now c.args.clustered.now c.in_ok-fields.fields c.rows_can_be_read.ensures
+    is found.0 c.in_ok-fields.ensures.value found.1)
+    c.requires.clustered
+
+pub returns-then-need_no_look-clause-count : goal.returns-then-need_no_look-clause-count
+returns-then-need_no_look-clause-count g c =
+    let found = c.if-need_no_look.ensures refl in
+    told1 (g.S.PageSource.content c.args.source.now)
+    (λ file is. sym (ap length (values_none file c.args.schema.now c.args.clustered.now c.in_ok-fields.fields
+    c.rows_can_be_read.ensures is found.0 c.in_ok-fields.ensures.value found.1)))
+    c.requires.clustered
+
+pub returns-then-need_no_look-clause-reached : goal.returns-then-need_no_look-clause-reached
+returns-then-need_no_look-clause-reached g c =
+    let found = c.if-need_no_look.ensures refl in
+    told2 (g.S.PageSource.content c.args.source.now)
+    (λ file is exactly. values_reached file c.args.schema.now c.args.clustered.now c.in_ok-fields.fields
+    c.rows_can_be_read.ensures is found.0 c.in_ok-fields.ensures.value found.1 c.args.marks.now exactly)
+    c.requires.clustered c.requires.trees

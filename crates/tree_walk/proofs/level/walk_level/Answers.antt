@@ -64,7 +64,7 @@ returns-in-None-clause-exact g c =
     told5 o
     (λ file s x m t f. level_holds (index_in file c.args.aim.now.tree) c.args.aim.now
     c.args.marks.now c.places.marks c.places.place c.places.walk.parent c.places.tally s c.check_here.new.marks
-    x m c.in_ok-found.found.tally c.sum-tally.result t c.sum-tally.ensures.live c.sum-tally.ensures.deleted
+    x m c.in_ok-found.found.tally c.sum-tally.result t c.sum-tally.ensures.live c.sum-tally.ensures.deleted c.sum-tally.ensures.whole
     (c.in-None.ensures.end refl (index_in file c.args.aim.now.tree) c.args.aim.now.depth
     c.places.place.j f))
     i.told x m t f
@@ -80,7 +80,7 @@ returns-in-None-clause-marked g c =
     told5 o
     (λ file s x m t f. level_marked (index_in file c.args.aim.now.tree) c.args.aim.now
     c.args.marks.now c.places.marks c.places.place c.places.walk.parent c.places.tally s c.check_here.new.marks
-    x m c.in_ok-found.found.tally c.sum-tally.result t c.sum-tally.ensures.live c.sum-tally.ensures.deleted
+    x m c.in_ok-found.found.tally c.sum-tally.result t c.sum-tally.ensures.live c.sum-tally.ensures.deleted c.sum-tally.ensures.whole
     (c.in-None.ensures.end refl (index_in file c.args.aim.now.tree) c.args.aim.now.depth
     c.places.place.j f))
     i.told x m t f
@@ -106,7 +106,7 @@ returns-in-None-clause-level g c =
     let v = told5 o
     (λ file s x m t f. level_is (index_in file c.args.aim.now.tree) c.args.aim.now
     c.args.marks.now c.places.marks c.places.place c.places.walk.parent c.places.tally s c.check_here.new.marks
-    x m c.in_ok-found.found.tally c.sum-tally.result t c.sum-tally.ensures.live c.sum-tally.ensures.deleted
+    x m c.in_ok-found.found.tally c.sum-tally.result t c.sum-tally.ensures.live c.sum-tally.ensures.deleted c.sum-tally.ensures.whole
     (c.in-None.ensures.end refl (index_in file c.args.aim.now.tree) c.args.aim.now.depth
     c.places.place.j f))
     i.told x m t f in
@@ -140,7 +140,7 @@ places-preserved g c =
           (λ file s x m t f. state_more (index_in file c.args.aim.now.tree) c.args.aim.now
           c.args.marks.now c.places.marks c.places.place c.places.walk.parent c.places.tally s
           c.check_here.new.marks x m c.in_ok-found.found.tally c.sum-tally.result t c.sum-tally.ensures.live
-          c.sum-tally.ensures.deleted
+          c.sum-tally.ensures.deleted c.sum-tally.ensures.whole
           c.in-Some.cursor c.advance.new.walk.parent c.child-at.result
           (c.in-Some.ensures.stands (index_in file c.args.aim.now.tree)
           c.args.aim.now.depth c.places.place.j f) q)

@@ -3,7 +3,7 @@ use Rattle.page_source.specs.Lists.{unmarked}
 use Rattle.page_source.specs.Calls.{AsksNoMore}
 use Rattle.tree_walk.specs.Tree.{index_in}
 use Rattle.tree_walk.specs.Room.{HasSameRoom}
-use Rattle.tree_walk.specs.Walk.{LevelState}
+use Rattle.tree_walk.proofs.States.{LevelState}
 use Rattle.tree_walk.proofs.level.walk_level.Given as goal
 
 abbrev pub invariant-places : goal.invariant-places

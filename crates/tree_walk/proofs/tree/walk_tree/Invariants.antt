@@ -3,7 +3,7 @@ use Rattle.page_source.specs.Lists.{unmarked}
 use Rattle.page_source.specs.Calls.{AsksNoMore}
 use Rattle.tree_walk.specs.Index.{index_of}
 use Rattle.tree_walk.specs.Room.{HasSameRoom}
-use Rattle.tree_walk.specs.Walk.{TreeState}
+use Rattle.tree_walk.proofs.States.{TreeState}
 use Rattle.tree_walk.proofs.tree.walk_tree.Given as goal
 
 abbrev pub invariant-loop-depth : goal.invariant-loop-depth

@@ -1,7 +1,7 @@
-use Rattle.std.proofs.Common.{◌≡◌, ◌∙◌, ap, subst, refl}
+use Rattle.std.proofs.Common.{◌≡◌, ◌∙◌, Bool, cond, ap, subst, refl}
+use Rattle.std.proofs.lemmas.Bool.{eq-eqb}
 use Rattle.page_source.specs.Pages.{page_of}
 use Rattle.compact_record.specs.Keys.{child_at}
-use Rattle.tree_walk.specs.declared.walk.Walk.{Walk}
 use Rattle.tree_walk.specs.Walk.{child_in_hand, IsTally}
 use Rattle.page_source.proofs.Told.{told1}
 use Rattle.tree_walk.proofs.Audit.{place_within}
@@ -17,9 +17,14 @@ pub returns-clause-tally : goal.returns-clause-tally
 returns-clause-tally g c =
     told1 (g.S.PageSource.content c.args.source.now)
     (λ file p z.
-    let e = ap (λ (w : Walk). w.child) c.in_ok-check_spot.ensures.same in
     let node = c.args.aim.now.tree.node.now in
     let n : c.child-n.result ≡ child_in_hand c.args.walk.now node c.args.place = c.child-n.ensures ∙ ap
     (child_at c.args.walk.now.parent node) c.requires.low.stands in
-    subst (λ page. IsTally page c.tally_on.result) (e ∙ (p ∙ ap (page_of file) n)) (c.tally_on.ensures.exact z))
+    let leaf = c.args.aim.now.tree.leaf.now in
+    let is_leaf : c.fields_on-fields.result.now ≡ leaf = c.fields_on-fields.ensures
+    ∙ ap (λ (b : Bool). cond b leaf node) (eq-eqb c.args.aim.now.level 0 z) in
+    subst (λ fields. IsTally (page_of file (child_in_hand c.args.walk.now node c.args.place)) fields c.in_ok-tally.tally)
+    is_leaf
+    (subst (λ page. IsTally page c.fields_on-fields.result.now c.in_ok-tally.tally) (p ∙ ap (page_of file) n)
+    (c.in_ok-tally.ensures.tally z)))
     c.in_ok-fetch.ensures.bytes

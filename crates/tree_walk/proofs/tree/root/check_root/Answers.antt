@@ -1,10 +1,8 @@
-use Rattle.std.proofs.Common.{◌≡◌, refl, inl, inr, None, Some, ap, subst}
+use Rattle.std.proofs.Common.{refl, inl, inr, None, Some}
 use Rattle.std.proofs.lemmas.Bool.{iff_false}
 use Rattle.std.proofs.lemmas.Result.{err_from_is_err_and}
 use Rattle.page_source.proofs.Told.{told1, told2}
 use Rattle.space_audit.specs.Marks.{is_set}
-use Rattle.tree_walk.specs.declared.walk.Walk.{Walk}
-use Rattle.tree_walk.specs.Walk.{IsTally}
 use Rattle.tree_walk.proofs.Audit.{new_iff, leaf_is, top_is, root_within}
 use Rattle.tree_walk.proofs.Root.{spot_root, top_of}
 use Rattle.tree_walk.proofs.tree.root.check_root.Goals as goal
@@ -31,9 +29,9 @@ returns-then-not-are_new-clause-exact g c =
     ))
     c.requires.ready.audit c.in_ok-fetch.ensures.bytes
 
-pub returns-in_err-check_spot-clause-exact : goal.returns-in_err-check_spot-clause-exact
-returns-in_err-check_spot-clause-exact g c =
-    let r = err_from_is_err_and c.from_residual-in_err-check_spot.result c.from_residual-in_err-check_spot.ensures.1 in
+pub returns-in_err-tally-clause-exact : goal.returns-in_err-tally-clause-exact
+returns-in_err-tally-clause-exact g c =
+    let r = err_from_is_err_and c.from_residual-in_err-tally.result c.from_residual-in_err-tally.ensures.1 in
     rw (r.1, r.2)
     (told2 (g.S.PageSource.content c.args.source.now)
     (λ file a p. inr (
@@ -46,8 +44,8 @@ returns-in_err-check_spot-clause-exact g c =
             c.if-not-are_new.false,
         spot_root file c.args.tree.now c.fields_on-fields.result.now c.fetch.new.page
             c.read_be-level.result c.read_be-id.result p c.read_be-level.ensures.number c.read_be-id.ensures.number
-            c.fields_on-fields.ensures (Some c.in_err-check_spot.field-0.0)
-            c.in_err-check_spot.ensures.exact,
+            c.fields_on-fields.ensures (Some c.in_err-tally.field-0.0)
+            c.in_err-tally.ensures.exact,
       ),
     ))
     c.requires.ready.audit c.in_ok-fetch.ensures.bytes)
@@ -66,15 +64,13 @@ returns-clause-exact g c =
         spot_root file c.args.tree.now c.fields_on-fields.result.now c.fetch.new.page
             c.read_be-level.result c.read_be-id.result p c.read_be-level.ensures.number c.read_be-id.ensures.number
             c.fields_on-fields.ensures None
-            c.in_ok-check_spot.ensures.exact,
+            c.in_ok-tally.ensures.exact,
       ),
     ))
     c.requires.ready.audit c.in_ok-fetch.ensures.bytes
 
 pub returns-clause-top : goal.returns-clause-top
 returns-clause-top g c =
-    let e : c.check_spot.new.walk.child ≡ c.fetch.new.page = ap (λ (w : Walk). w.child)
-    c.in_ok-check_spot.ensures.same in
     told2 (g.S.PageSource.content c.args.source.now)
     (λ file a p. top_of file c.args.tree.now c.fields_on-fields.result.now
     c.fetch.new.page c.read_be-level.result c.read_be-id.result p c.read_be-level.ensures.number
@@ -86,6 +82,5 @@ returns-clause-top g c =
     (top_is file c.args.tree.now c.fetch.new.page
     (is_set c.args.named.now) c.segment_in-lowest.result c.segment_in-upper.result
     a p c.segment_in-lowest.ensures c.segment_in-upper.ensures)
-    c.tally_on-tally.result (λ z. subst (λ page. IsTally page c.tally_on-tally.result) e
-    (c.tally_on-tally.ensures.exact z)))
+    c.in_ok-tally.tally c.in_ok-tally.ensures.tally)
     c.requires.ready.audit c.in_ok-fetch.ensures.bytes

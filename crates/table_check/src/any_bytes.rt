@@ -1,0 +1,51 @@
+//! Columns of which any bytes are values.
+
+ghost use Rattle.std.specs.Prelude.{◌≡◌, IsTrue, true};
+ghost use Rattle.table_check.specs.AnyBytes.{takes_any_bytes, field_takes_any, TakeAnyBytes};
+
+use column_values::{ColumnType, FieldList, FieldType};
+use tree_walk::TreeEnds;
+
+/// Whether any bytes spell a value of the type, where they are as many as a value of it has.
+fn takes_any_bytes(kind: ColumnType) -> bool
+    ensures { result ≡ takes_any_bytes kind }
+{
+    matches!(
+        &kind,
+        ColumnType::Int { .. }
+            | ColumnType::Char { .. }
+            | ColumnType::Varchar { .. }
+            | ColumnType::Binary { .. }
+            | ColumnType::Varbinary { .. }
+            | ColumnType::Text { .. }
+            | ColumnType::Blob { .. }
+            | ColumnType::Year
+    )
+}
+
+fn field_takes_any(kind: FieldType) -> bool
+    ensures { result ≡ field_takes_any kind }
+{
+    match kind {
+        FieldType::Column(kind) => takes_any_bytes(kind),
+        _ => true,
+    }
+}
+
+/// Whether this holds of each column among the fields.
+fn take_any_bytes(fields: &FieldList) -> bool
+    ensures { IsTrue result → TakeAnyBytes fields.now }
+{
+    fields
+        .fields()
+        .iter()
+        .all(|field| field_takes_any(field.kind))
+}
+
+/// Whether no value can be wrong of the rows of a tree with these ends: all lie whole on their leaves, in no more bytes
+/// than their types take, and any such bytes spell a value.
+pub(crate) fn need_no_look(ends: &TreeEnds, fields: &FieldList) -> bool
+    ensures { IsTrue result → (ends.now.whole ≡ true) × TakeAnyBytes fields.now }
+{
+    ends.whole && take_any_bytes(fields)
+}
