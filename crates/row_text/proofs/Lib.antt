@@ -32,3 +32,4 @@ mod Hex
 mod Numbers
 mod Lines
 mod LongValues
+mod Vectors
