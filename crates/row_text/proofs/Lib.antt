@@ -33,3 +33,5 @@ mod Numbers
 mod Lines
 mod LongValues
 mod Vectors
+mod AsciiTexts
+mod Letters

@@ -2,7 +2,7 @@
 
 ghost use Rattle.std.specs.Prelude.{◌≡◌, ◌≢◌, ℕ, ◌+◌, ◌*◌, ◌≤◌, length, MatchOption, IfSome};
 ghost use Rattle.row_text.specs.Values.{escape_letter};
-ghost use Rattle.row_text.specs.calls.Texts.{LeadsByte, IsWritten};
+ghost use Rattle.row_text.specs.calls.Texts.{LeadsByte, IsWritten, byte_of};
 
 use crate::bytes::is_escaped;
 use crate::lanes::{LANES, plain_length};
@@ -13,19 +13,44 @@ const FEW: usize = 4;
 /// How many bytes both take.
 const STEP: usize = FEW + LANES;
 
+/// What stands in the table of bytes for no byte.
+const NONE: u8 = 255;
+
+/// The byte that each letter stands for behind a backslash.
+pub static BYTES: [u8; 256] = [
+    255, 255, 255, 255, 255, 255, 255, 255, 255, 255, 255, 255, 255, 255, 255, 255, 255, 255, 255,
+    255, 255, 255, 255, 255, 255, 255, 255, 255, 255, 255, 255, 255, 255, 255, 34, 255, 255, 255,
+    255, 39, 255, 255, 255, 255, 255, 255, 255, 255, 0, 255, 255, 255, 255, 255, 255, 255, 255,
+    255, 255, 255, 255, 255, 255, 255, 255, 255, 255, 255, 255, 255, 255, 255, 255, 255, 255, 255,
+    255, 255, 255, 255, 255, 255, 255, 255, 255, 255, 255, 255, 255, 255, 26, 255, 92, 255, 255,
+    255, 255, 255, 255, 255, 255, 255, 255, 255, 255, 255, 255, 255, 255, 255, 10, 255, 255, 255,
+    13, 255, 255, 255, 255, 255, 255, 255, 255, 255, 255, 255, 255, 255, 255, 255, 255, 255, 255,
+    255, 255, 255, 255, 255, 255, 255, 255, 255, 255, 255, 255, 255, 255, 255, 255, 255, 255, 255,
+    255, 255, 255, 255, 255, 255, 255, 255, 255, 255, 255, 255, 255, 255, 255, 255, 255, 255, 255,
+    255, 255, 255, 255, 255, 255, 255, 255, 255, 255, 255, 255, 255, 255, 255, 255, 255, 255, 255,
+    255, 255, 255, 255, 255, 255, 255, 255, 255, 255, 255, 255, 255, 255, 255, 255, 255, 255, 255,
+    255, 255, 255, 255, 255, 255, 255, 255, 255, 255, 255, 255, 255, 255, 255, 255, 255, 255, 255,
+    255, 255, 255, 255, 255, 255, 255, 255, 255, 255, 255, 255, 255, 255, 255, 255, 255, 255, 255,
+    255, 255, 255, 255, 255, 255, 255, 255, 255,
+];
+
+/// The byte that the letter stands for behind a backslash, 255 for none.
+fn entry_of(letter: u8) -> u8
+    ensures { result ≡ byte_of letter }
+{
+    BYTES[usize::from(letter)]
+}
+
 /// The byte that the letter stands for behind a backslash.
 pub(crate) fn byte_of(letter: u8) -> Option<u8>
     ensures { MatchOption result ((byte : ℕ) → escape_letter byte ≡ letter → letter ≡ 0)
         (λ byte. (escape_letter byte ≡ letter) × (letter ≢ 0)) }
 {
-    match letter {
-        b'0' => Some(0),
-        b'n' => Some(b'\n'),
-        b'r' => Some(b'\r'),
-        b'Z' => Some(0x1A),
-        b'\\' | b'\'' | b'"' => Some(letter),
-        _ => None,
+    let byte = entry_of(letter);
+    if byte == NONE {
+        return None;
     }
+    Some(byte)
 }
 
 /// The byte that a text begins with, where it stands for itself.

@@ -3,7 +3,7 @@
 ghost use Rattle.std.specs.Prelude.{◌≡◌, ◌≢◌, ℕ, ◌+◌, ◌*◌, ◌≤◌, ◌↔◌, true, length, MatchOption, IfSome, IsTrue, IfOk};
 ghost use Rattle.column_values.specs.declared.value.Value.{Value};
 ghost use Rattle.column_values.specs.Types.{IsColumnType};
-ghost use Rattle.column_values.specs.Spell.{IsTrimmed, IsValueOf};
+ghost use Rattle.column_values.specs.Spell.{IsSpelling, IsTrimmed, IsValueOf};
 ghost use Rattle.row_text.specs.Values.{escaped_text};
 ghost use Rattle.row_text.specs.calls.Values.{EndsValue, FindsValue};
 ghost use Rattle.row_text.specs.calls.Texts.{FindsText, LeadsByte, LeadsNoByte, IsWritten, TakesText, is_quoted};
@@ -91,6 +91,26 @@ fn is_trimmed(n: u32, text: &[u8]) -> bool
     text.len() <= n as usize && (text.is_empty() || text[text.len() - 1] != b' ')
 }
 
+/// Whether the text has characters of one byte alone, and not too many: then it is a value of its type of utf8mb4, and
+/// its characters needn't be counted.
+fn is_short_ascii(kind: &ColumnType, text: &[u8]) -> bool
+    ensures { IsTrue result → IsSpelling kind.now text.now }
+{
+    match *kind {
+        ColumnType::Utf8Varchar { n } => text.len() <= n as usize && text.is_ascii(),
+        ColumnType::Utf8Text { n } => text.len() <= n as usize && text.is_ascii(),
+        _ => false,
+    }
+}
+
+/// Whether the text spells a value of the type.
+fn is_spelling(kind: &ColumnType, text: &[u8]) -> bool
+    requires { IsColumnType kind.now }
+    ensures { IsTrue result ↔ IsSpelling kind.now text.now }
+{
+    is_short_ascii(kind, text) || is_value(kind, text)
+}
+
 /// Whether the text is a value of the type, one of those whose values stand in quotes.
 fn is_text_of(kind: &ColumnType, text: &[u8]) -> bool
     requires known { IsColumnType kind.now }
@@ -99,7 +119,7 @@ fn is_text_of(kind: &ColumnType, text: &[u8]) -> bool
 {
     match *kind {
         ColumnType::Char { n } => is_trimmed(n, text),
-        _ => is_value(kind, text),
+        _ => is_spelling(kind, text),
     }
 }
 

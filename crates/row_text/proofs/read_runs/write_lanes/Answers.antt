@@ -1,4 +1,3 @@
-use Rattle.std.proofs.Common.{arith}
 use Rattle.row_text.proofs.Unquoted.{written_run}
 use Rattle.row_text.proofs.read_runs.write_lanes.Goals as goal
 
