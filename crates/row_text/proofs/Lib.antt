@@ -32,3 +32,6 @@ mod Hex
 mod Numbers
 mod Lines
 mod LongValues
+mod Vectors
+mod AsciiTexts
+mod Letters

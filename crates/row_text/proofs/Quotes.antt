@@ -1,17 +1,12 @@
 -- Where a text in quotes ends.
-use Rattle.std.proofs.Common.{◌≡◌, ◌≢◌, ℕ, ◌≤◌, ◌⊎◌, inl, inr, eqb, cond, List, [], ◌∷◌, ◌++◌, flat_map}
+use Rattle.std.proofs.Common.{◌≡◌, ◌≢◌, ℕ, ◌≤◌, ◌⊎◌, inl, inr, List, [], ◌∷◌, ◌++◌, flat_map}
 use Rattle.std.proofs.Common.{refl, sym, ap, ◌∙◌, arith, append_assoc}
 use Rattle.std.proofs.lemmas.Bool.{cases_eq, ne_eqb}
 use Rattle.std.proofs.lemmas.List.Elements.{All-nil, All-cons, All-head, All-tail}
 use Rattle.std.specs.List.{All}
 use Rattle.row_text.specs.Values.{escape_letter, escaped, escaped_text, IsPlain, quoted}
+use Rattle.row_text.specs.calls.Texts.{byte_of}
 use Rattle.row_text.proofs.Escapes.{itself, behind_backslash, escaped_plain}
-
--- the byte that a letter stands for
-abbrev pub byte_of : ℕ → ℕ
-byte_of letter =
-    cond (eqb letter 48) 0 (cond (eqb letter 110) 10 (cond (eqb letter 114) 13 (cond (eqb letter 92) 92
-    (cond (eqb letter 39) 39 (cond (eqb letter 34) 34 (cond (eqb letter 90) 26 255))))))
 
 -- the letters
 abbrev pub IsLetter : ℕ → Type 0
@@ -22,13 +17,13 @@ pub record HasLetter (byte : ℕ) : Type 0 where
   pub known : IsLetter (escape_letter byte)
 
 -- a byte that is none of these stands for itself
-plain_byte : (b : ℕ) → b ≢ 0 → b ≢ 10 → b ≢ 13 → b ≢ 92 → b ≢ 39 → b ≢ 34 → b ≢ 26 → escape_letter b ≡ 0
+pub plain_byte : (b : ℕ) → b ≢ 0 → b ≢ 10 → b ≢ 13 → b ≢ 92 → b ≢ 39 → b ≢ 34 → b ≢ 26 → escape_letter b ≡ 0
 plain_byte b n0 n1 n2 n3 n4 n5 n6 =
     rw (ne_eqb b 0 n0, ne_eqb b 10 n1, ne_eqb b 13 n2, ne_eqb b 92 n3, ne_eqb b 39 n4, ne_eqb b 34 n5, ne_eqb b 26 n6)
     refl
 
 -- a byte stands for itself, or its letter stands for it
-cases_letter : (b : ℕ) → (escape_letter b ≡ 0) ⊎ HasLetter b
+pub cases_letter : (b : ℕ) → (escape_letter b ≡ 0) ⊎ HasLetter b
 cases_letter b = elim (cases_eq b 0) [
   | inl e ↦ rw e (inr (record { back = refl; known = inl refl }))
   | inr n0 ↦ elim (cases_eq b 10) [

@@ -1,11 +1,24 @@
 -- A text in quotes that is read piece by piece.
-use Rattle.std.proofs.Common.{◌≡◌, ◌≢◌, ℕ, ◌+◌, ◌-◌, ◌<◌, List, [], ◌∷◌, ◌++◌, length, take, drop}
+use Rattle.std.proofs.Common.{◌≡◌, ◌≢◌, ℕ, ◌+◌, ◌-◌, ◌<◌, ◌≤◌, List, [], ◌∷◌, ◌++◌, length, take, drop}
 use Rattle.std.proofs.Common.{set, subst, refl, sym, ap, ◌∙◌, arith, append_assoc, length-append}
-use Rattle.std.proofs.lemmas.List.{drop_at, drop-drop, length-drop, length-set, take_more_set, take-append-drop}
+use Rattle.std.proofs.lemmas.List.{drop_at, drop-drop, length-drop, length-set, length-take-le, take_more_set, take-append-drop}
+use Rattle.std.proofs.lemmas.List.{take-take}
+use Rattle.std.proofs.lemmas.Slice.{take-put_mid}
+use Rattle.std.proofs.Math.Seq.{take-append-add}
+use borrow.Rule.Slice.PartMut.{mid_of, put_mid, mid_len, same_len_mid}
 use Rattle.row_text.specs.Values.{escaped, escaped_text, quoted, IsPlain}
 use Rattle.row_text.specs.calls.Texts.{LeadsByte, LeadsNoByte, IsWritten, TakesText}
 use Rattle.row_text.proofs.Escapes.{escaped_append, escaped_plain, alone}
 use Rattle.row_text.proofs.Quotes.{left_of}
+
+take_behind : (front run : List ℕ) (n k : ℕ) → n ≡ length front + k → take n (front ++ run) ≡ front ++ take k run
+take_behind front run n k place = ap (λ (j : ℕ). take j (front ++ run)) place ∙ take-append-add front run k
+
+length_put_mid : (n : ℕ) (room other : List ℕ) → length other ≡ 16 → n + 16 ≤ length room
+    → length (put_mid n (n + 16 - n) room other) ≡ length room
+length_put_mid n room other long space =
+    let part : length (mid_of n (n + 16 - n) room) ≡ n + 16 - n = mid_len n (n + 16) room space in
+    same_len_mid n (n + 16 - n) room other (omega (arith, long, part))
 
 pub written_none : (text room : List ℕ) → IsWritten text room 0 0
 unfolding escaped_text
@@ -33,6 +46,36 @@ written_more text room rest n at byte size more up lt is left leads e f =
     subst (λ (k : ℕ). IsWritten text (set room n byte) k up) e
     (subst (λ (k : ℕ). IsWritten text (set room n byte) (n + 1) k) f
     (written_byte text room rest n at byte size lt is left leads))
+
+pub written_at : (text room : List ℕ) (n at more up : ℕ) → IsWritten text room n at → n ≡ more → at ≡ up
+    → IsWritten text room more up
+written_at text room n at more up is e f =
+    subst (λ (k : ℕ). IsWritten text room k up) e (subst (λ (k : ℕ). IsWritten text room n k) f is)
+
+-- a run of bytes that stand for themselves, of which more were written
+pub written_run : (text room rest run other : List ℕ) (n at k : ℕ) → IsWritten text room n at → rest ≡ drop at text
+    → run ≡ take 16 rest → other ≡ run → IsPlain (take k run) → k ≤ 16 → at + 16 ≤ length text → n + 16 ≤ length room
+    → IsWritten text (put_mid n (n + 16 - n) room other) (n + k) (at + k)
+written_run text room rest run other n at k is left cut same plain most fits space =
+    let size : length run ≡ 16 = ap length cut ∙ length-take-le 16 rest (omega (arith, fits, ap length left, length-drop at text)) in
+    let long : length other ≡ 16 = ap length same ∙ size in
+    let front : take k run ≡ take k (drop at text) = ap (take k) (cut ∙ ap (take 16) left) ∙ take-take k 16 (drop at text) most in
+    let wrote : take (n + k) (put_mid n (n + 16 - n) room other) ≡ take n room ++ take k run =
+    sym (take-take (n + k) (n + 16) (put_mid n (n + 16 - n) room other) (omega (arith, most)))
+    ∙ ap (take (n + k)) (take-put_mid n (n + 16 - n) room other (n + 16) (omega (arith, long)) (omega (arith, space))
+    ∙ ap (λ (t : List ℕ). take n room ++ t) same)
+    ∙ take_behind (take n room) run (n + k) k (omega (arith, length-take-le n room (omega (arith, space)))) in
+    let longer : escaped_text (take (n + k) (put_mid n (n + 16 - n) room other)) ≡ escaped_text (take n room) ++ take k (drop at text) =
+    ap escaped_text wrote ∙ escaped_append (take n room) (take k run)
+    ∙ ap (λ (t : List ℕ). escaped_text (take n room) ++ t) (escaped_plain (take k run) plain ∙ front) in
+    let whole_text : drop at text ≡ take k (drop at text) ++ drop (at + k) text = sym (take-append-drop k (drop at text))
+    ∙ ap (λ (t : List ℕ). take k (drop at text) ++ t) (drop-drop k at text) in record {
+      same = is.same ∙ ap (λ (t : List ℕ). escaped_text (take n room) ++ t) whole_text
+          ∙ sym (append_assoc (escaped_text (take n room)) (take k (drop at text)) (drop (at + k) text))
+          ∙ ap (λ (t : List ℕ). t ++ drop (at + k) text) (sym longer);
+      wrote = omega (arith, most, space, length_put_mid n room other long space);
+      read = omega (arith, most, fits);
+    }
 
 -- the bytes that stand in the room were taken
 pub written_taken : (old new text room rest : List ℕ) (n at : ℕ) → IsWritten text room n at

@@ -5,3 +5,4 @@ pub mod Texts
 pub mod Words
 pub mod Bytes
 pub mod Moments
+pub mod Lanes

@@ -5,12 +5,14 @@ mod bytes;
 mod calendar;
 mod digits;
 mod ends;
+mod lanes;
 pub mod laws;
 mod read;
 mod read_bytes;
 mod read_decimals;
 mod read_moments;
 mod read_numbers;
+mod read_runs;
 #[cfg(test)]
 mod read_tests;
 mod read_texts;

@@ -3,13 +3,14 @@
 ghost use Rattle.std.specs.Prelude.{◌≡◌, ◌≢◌, ℕ, ◌+◌, ◌*◌, ◌≤◌, ◌↔◌, true, length, MatchOption, IfSome, IsTrue, IfOk};
 ghost use Rattle.column_values.specs.declared.value.Value.{Value};
 ghost use Rattle.column_values.specs.Types.{IsColumnType};
-ghost use Rattle.column_values.specs.Spell.{IsTrimmed, IsValueOf};
-ghost use Rattle.row_text.specs.Values.{escape_letter, escaped_text};
+ghost use Rattle.column_values.specs.Spell.{IsSpelling, IsTrimmed, IsValueOf};
+ghost use Rattle.row_text.specs.Values.{escaped_text};
 ghost use Rattle.row_text.specs.calls.Values.{EndsValue, FindsValue};
 ghost use Rattle.row_text.specs.calls.Texts.{FindsText, LeadsByte, LeadsNoByte, IsWritten, TakesText, is_quoted};
 
 use crate::bytes::{is_escaped, plain_front};
 use crate::ends::behind;
+use crate::read_runs::{byte_of, write_text};
 use crate::row::RowError;
 use column_values::{ColumnType, Value, is_value};
 use page_source::{ByteList, NoMemory};
@@ -20,21 +21,6 @@ const PLAIN: usize = 16384;
 
 /// How many bytes of a text with escapes are written at a time.
 const PIECE: usize = 256;
-
-/// The byte that the letter stands for behind a backslash.
-fn byte_of(letter: u8) -> Option<u8>
-    ensures { MatchOption result ((byte : ℕ) → escape_letter byte ≡ letter → letter ≡ 0)
-        (λ byte. (escape_letter byte ≡ letter) × (letter ≢ 0)) }
-{
-    match letter {
-        b'0' => Some(0),
-        b'n' => Some(b'\n'),
-        b'r' => Some(b'\r'),
-        b'Z' => Some(0x1A),
-        b'\\' | b'\'' | b'"' => Some(letter),
-        _ => None,
-    }
-}
 
 /// The byte that a text begins with, and in how many bytes it stands there: in one, or in two behind a backslash; none
 /// where no byte of a text stands there.
@@ -52,83 +38,6 @@ fn first_byte(text: &[u8]) -> Option<(u8, usize)>
     }
     let byte = byte_of(text[1])?;
     Some((byte, 2))
-}
-
-/// The byte that a text begins with, where it stands for itself.
-fn plain_byte(text: &[u8]) -> Option<u8>
-    ensures { IfSome result (λ byte. LeadsByte byte 1 text.now) }
-{
-    if text.is_empty() || is_escaped(text[0]) {
-        return None;
-    }
-    Some(text[0])
-}
-
-/// The byte that a text begins with, where it stands behind a backslash.
-fn escaped_byte(text: &[u8]) -> Option<u8>
-    ensures { IfSome result (λ byte. LeadsByte byte 2 text.now) }
-{
-    if text.len() < 2 || text[0] != b'\\' {
-        return None;
-    }
-    byte_of(text[1])
-}
-
-/// Goes on writing into the room, from its place `n`, the bytes of the text from `at` on, as long as they stand for
-/// themselves; answers how many.
-fn write_plain(text: &[u8], at: usize, room: &mut [u8], n: usize) -> usize
-    requires written { IsWritten text.now room.old n at }
-    ensures written { IsWritten text.now room.new (n + result) (at + result) }
-    ensures same { length room.new ≡ length room.old }
-{
-    let most = (text.len() - at).min(room.len() - n);
-    for i in 0..most {
-        let (_, rest) = text.split_at(at + i);
-        let Some(byte) = plain_byte(rest) else {
-            return i;
-        };
-        room[n + i] = byte;
-    }
-    most
-}
-
-/// The same, as long as they stand behind backslashes.
-fn write_escapes(text: &[u8], at: usize, room: &mut [u8], n: usize) -> usize
-    requires written { IsWritten text.now room.old n at }
-    ensures written { IsWritten text.now room.new (n + result) (at + 2 * result) }
-    ensures same { length room.new ≡ length room.old }
-{
-    let most = ((text.len() - at) / 2).min(room.len() - n);
-    for i in 0..most {
-        let (_, rest) = text.split_at(at + 2 * i);
-        let Some(byte) = escaped_byte(rest) else {
-            return i;
-        };
-        room[n + i] = byte;
-    }
-    most
-}
-
-/// Fills the room with the bytes that a text begins with, runs of plain ones and of escapes by turns; answers how many
-/// bytes of the text it read, and how many it wrote.
-fn write_text(text: &[u8], room: &mut [u8]) -> (usize, usize)
-    ensures written { IsWritten text.now room.new result.1 result.0 }
-    ensures same { length room.new ≡ length room.old }
-{
-    let mut at = 0;
-    let mut n = 0;
-    while n < room.len() {
-        let plain = write_plain(text, at, room, n);
-        at += plain;
-        n += plain;
-        let escapes = write_escapes(text, at, room, n);
-        at += 2 * escapes;
-        n += escapes;
-        if escapes == 0 {
-            return (at, n);
-        }
-    }
-    (at, n)
 }
 
 /// Adds the bytes at the head of a text that stand for themselves, by whole runs, and answers what is left.
@@ -182,6 +91,26 @@ fn is_trimmed(n: u32, text: &[u8]) -> bool
     text.len() <= n as usize && (text.is_empty() || text[text.len() - 1] != b' ')
 }
 
+/// Whether the text has characters of one byte alone, and not too many: then it is a value of its type of utf8mb4, and
+/// its characters needn't be counted.
+fn is_short_ascii(kind: &ColumnType, text: &[u8]) -> bool
+    ensures { IsTrue result → IsSpelling kind.now text.now }
+{
+    match *kind {
+        ColumnType::Utf8Varchar { n } => text.len() <= n as usize && text.is_ascii(),
+        ColumnType::Utf8Text { n } => text.len() <= n as usize && text.is_ascii(),
+        _ => false,
+    }
+}
+
+/// Whether the text spells a value of the type.
+fn is_spelling(kind: &ColumnType, text: &[u8]) -> bool
+    requires { IsColumnType kind.now }
+    ensures { IsTrue result ↔ IsSpelling kind.now text.now }
+{
+    is_short_ascii(kind, text) || is_value(kind, text)
+}
+
 /// Whether the text is a value of the type, one of those whose values stand in quotes.
 fn is_text_of(kind: &ColumnType, text: &[u8]) -> bool
     requires known { IsColumnType kind.now }
@@ -190,7 +119,7 @@ fn is_text_of(kind: &ColumnType, text: &[u8]) -> bool
 {
     match *kind {
         ColumnType::Char { n } => is_trimmed(n, text),
-        _ => is_value(kind, text),
+        _ => is_spelling(kind, text),
     }
 }
 

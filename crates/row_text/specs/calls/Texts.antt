@@ -1,5 +1,5 @@
 -- Texts in quotes.
-use Rattle.std.specs.Prelude.{◌≡◌, ◌≢◌, ℕ, ◌≤◌, Bool, true, ⊤, List, ◌++◌, length, take, drop, Result, Ok, Err}
+use Rattle.std.specs.Prelude.{◌≡◌, ◌≢◌, ℕ, ◌≤◌, ◌==◌, if◌then◌else◌, Bool, true, ⊤, List, ◌++◌, length, take, drop, Result, Ok, Err}
 use Rattle.column_values.specs.declared.kind.ColumnType.{ColumnType}
 use Rattle.column_values.specs.declared.kind.ColumnType.TheVariants.{Char}
 use Rattle.row_text.specs.declared.row.RowError.{RowError}
@@ -11,6 +11,13 @@ use Rattle.row_text.specs.Writer.{is_text}
 abbrev pub is_quoted : ColumnType → Bool
 is_quoted (Char n) = true
 is_quoted kind = is_text kind
+
+-- the byte that a letter stands for behind a backslash, and 255 for none
+abbrev pub byte_of : ℕ → ℕ
+byte_of letter =
+    if letter == 48 then 0 else (if letter == 110 then 10 else (if letter == 114 then 13 else
+    (if letter == 92 then 92 else (if letter == 39 then 39 else (if letter == 34 then 34 else
+    (if letter == 90 then 26 else 255))))))
 
 -- the text in quotes at the head, and how many bytes it takes there; none where none stands there
 abbrev pub FindsText : List ℕ → Result (List ℕ × ℕ) RowError → Type 0

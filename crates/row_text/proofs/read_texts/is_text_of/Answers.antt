@@ -16,6 +16,6 @@ returns-in_default c =
     let text = c.args.text.now in
     let kind = c.args.kind.now in
     let plain = not_char kind c.requires.quoted c.in_default.not-Char in (
-      λ t. text_spells kind text plain (are_bytes text (λ k. omega (arith, c.type_inv.text k))) (c.is_value.ensures.0 t),
-      λ is. c.is_value.ensures.1 (text_spelled kind text plain is),
+      λ t. text_spells kind text plain (are_bytes text (λ k. omega (arith, c.type_inv.text k))) (c.is_spelling.ensures.0 t),
+      λ is. c.is_spelling.ensures.1 (text_spelled kind text plain is),
     )

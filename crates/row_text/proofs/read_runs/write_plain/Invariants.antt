@@ -1,6 +1,6 @@
 use Rattle.std.proofs.Common.{◌≡◌, ◌+◌, length}
 use Rattle.row_text.specs.calls.Texts.{IsWritten}
-use Rattle.row_text.proofs.read_texts.write_plain.Given as goal
+use Rattle.row_text.proofs.read_runs.write_plain.Given as goal
 
 abbrev pub invariant-loop-i : goal.invariant-loop-i
 invariant-loop-i l = record {

@@ -1,7 +1,7 @@
-use Rattle.std.proofs.Common.{◌+◌, ◌*◌, ◌<◌, length, arith, ◌∙◌}
+use Rattle.std.proofs.Common.{◌+◌, ◌<◌, length, arith, ◌∙◌}
 use Rattle.std.proofs.lemmas.List.{length-set}
 use Rattle.row_text.proofs.Unquoted.{written_more}
-use Rattle.row_text.proofs.read_texts.write_escapes.Goals as goal
+use Rattle.row_text.proofs.read_runs.write_plain.Goals as goal
 
 pub loop-i-preserved : goal.loop-i-preserved
 loop-i-preserved c =
@@ -9,10 +9,10 @@ loop-i-preserved c =
     let room = c.loop-i.room in
     let so = c.loop-i.invariant in
     let n = c.args.n + i in
-    let at = c.args.at + 2 * i in
-    let here : n < length room = omega (arith, c.loop-i-test.true, c.min-most.ensures, so.same) in
+    let at = c.args.at + i in
+    let here : n < length room = omega (arith, c.loop-i-test.true, c.requires.room, so.same) in
     record {
-      written = written_more c.args.text.now room c.split_at.result.1.now n at c.in-Some.byte 2 _ _ here so.written
+      written = written_more c.args.text.now room c.split_at.result.1.now n at c.in-Some.byte 1 _ _ here so.written
           c.split_at.ensures.back c.in-Some.ensures (omega arith) (omega arith);
       same = length-set room n c.in-Some.byte ∙ so.same;
     }
