@@ -6,6 +6,7 @@ mod calendar;
 mod digits;
 mod ends;
 pub mod laws;
+mod pieces;
 mod read;
 mod read_bytes;
 mod read_decimals;
@@ -20,6 +21,7 @@ mod row;
 #[cfg(test)]
 mod tests;
 mod values;
+mod whole;
 mod write;
 mod writer;
 
