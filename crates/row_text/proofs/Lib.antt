@@ -1,6 +1,7 @@
 mod Chars
 mod Dates
 mod Escapes
+mod Groups
 mod Quotes
 mod Shapes
 mod FixedDigits

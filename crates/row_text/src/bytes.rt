@@ -1,19 +1,25 @@
 //! Texts and bytes as they stand in a line.
 
-ghost use Rattle.std.specs.Prelude.{◌≡◌, ◌*◌, ◌<◌, ◌≤◌, position, length, take, slice_index, Some, MatchOption, IfSome, IsNone, IsTrue};
+ghost use Rattle.std.specs.Prelude.{◌≡◌, ◌≢◌, ◌*◌, ◌<◌, ◌≤◌, position, length, take, slice_index, Some, MatchOption, IfSome, IsNone, IsTrue};
 ghost use Rattle.std.specs.Prelude.{◌==◌, if◌then◌else◌};
 ghost use Rattle.hex.specs.Hex.{encode_lower, lower_digits};
 ghost use Rattle.page_source.specs.Calls.{Puts};
 ghost use Rattle.row_text.specs.Values.{IsPlain, is_escaped, escape_letter, escaped_text, quoted, hex_text};
 ghost use Rattle.row_text.specs.Values.{hex_or_empty};
 
+use crate::pieces::put_enclosed;
 use page_source::{ByteSink, Failed, put_pieces};
 
 /// How many bytes are turned to digits, or to a text with escapes, at a time.
 const CHUNK: usize = 256;
 
-/// How many bytes of a text are looked at together.
+/// How many bytes of a text are looked at together, and where fewer are left.
 const RUN: usize = 32;
+
+const SHORT_RUN: usize = 8;
+
+/// How many bytes of a text with escapes are copied together.
+const GROUP: usize = 16;
 
 /// The letter of each byte's escape, 0 where the byte stands for itself.
 pub static LETTERS: [u8; 256] = [
@@ -72,6 +78,7 @@ fn is_special(byte: u8) -> bool
 
 /// Whether each byte of a run stands for itself. All are looked at, without a way out at the first that doesn't, so
 /// that a compiler makes wide vectors of the loop.
+#[inline(always)]
 fn is_plain(run: &[u8]) -> bool
     ensures { IsTrue result → IsPlain run.now }
 {
@@ -82,22 +89,48 @@ fn is_plain(run: &[u8]) -> bool
     found == 0
 }
 
-/// How many bytes at the front of a text were found to stand for themselves, by whole runs.
-pub(crate) fn plain_front(text: &[u8]) -> usize
+/// How many bytes at the front of a text were found to stand for themselves, by runs of so many bytes. It is inlined,
+/// so that the size of a run is known where the loop is.
+#[inline(always)]
+fn front_by(size: usize, text: &[u8]) -> usize
+    requires { 1 ≤ size }
     ensures within { result ≤ length text.now }
     ensures plain { IsPlain (take result text.now) }
 {
     let mut rest = text;
     let mut front = 0;
-    while rest.len() >= RUN {
-        let (run, more) = rest.split_at(RUN);
+    while rest.len() >= size {
+        let (run, more) = rest.split_at(size);
         if !is_plain(run) {
             return front;
         }
-        front += RUN;
+        front += size;
         rest = more;
     }
     front
+}
+
+/// The same, where so many were found before.
+#[inline(always)]
+fn front_behind(size: usize, text: &[u8], found: usize) -> usize
+    requires some { 1 ≤ size }
+    requires inside { found ≤ length text.now }
+    requires before { IsPlain (take found text.now) }
+    ensures within { result ≤ length text.now }
+    ensures plain { IsPlain (take result text.now) }
+{
+    let (_, rest) = text.split_at(found);
+    found + front_by(size, rest)
+}
+
+/// How many bytes at the front of a text were found to stand for themselves, by runs that become shorter.
+pub(crate) fn plain_front(text: &[u8]) -> usize
+    ensures within { result ≤ length text.now }
+    ensures plain { IsPlain (take result text.now) }
+{
+    let chunks = front_by(CHUNK, text);
+    let runs = front_behind(RUN, text, chunks);
+    front_behind(SHORT_RUN, text, runs)
 }
 
 /// Where the first byte lies that doesn't stand for itself, one after another.
@@ -148,10 +181,96 @@ fn width_of(letter: u8) -> usize
     if letter == 0 { 1 } else { 2 }
 }
 
+/// How many bytes at the front of a group stand for themselves. All are looked at, so that a compiler can make it of
+/// many bytes at once.
+#[inline(always)]
+fn plain_bytes(group: &[u8]) -> usize
+    requires { length group.now ≡ 16 }
+    ensures within { result ≤ 16 }
+    ensures plain { IsPlain (take result group.now) }
+    ensures found { result < 16 → escape_letter (slice_index group.now result) ≢ 0 }
+{
+    let mut first = 16u8;
+    for i in 0..group.len() {
+        let here = if is_special(group[i]) { i as u8 } else { 16 };
+        first = first.min(here);
+    }
+    usize::from(first)
+}
+
+/// Copies bytes to the front of the room.
+#[inline(always)]
+fn copy_front(room: &mut [u8], bytes: &[u8])
+    requires { length bytes.now ≤ length room.old }
+    ensures size { length room.new ≡ length room.old }
+    ensures front { take (length bytes.now) room.new ≡ bytes.now }
+{
+    room[..bytes.len()].copy_from_slice(bytes);
+}
+
+/// Writes the front of a text with its escapes into the room: a group of bytes, or those up to its first escape.
+#[inline(always)]
+fn write_group(text: &[u8], room: &mut [u8]) -> Written
+    requires text { 16 ≤ length text.now }
+    requires room { 32 ≤ length room.old }
+    ensures some { 1 ≤ result.read }
+    ensures read { result.read ≤ 16 }
+    ensures few { result.written ≤ 2 * result.read }
+    ensures fits { result.written ≤ length room.new }
+    ensures text { take result.written room.new ≡ escaped_text (take result.read text.now) }
+{
+    let group = &text[..GROUP];
+    let plain = plain_bytes(group);
+    copy_front(room, group);
+    if plain == GROUP {
+        return Written {
+            read: GROUP,
+            written: GROUP,
+        };
+    }
+    room[plain] = b'\\';
+    room[plain + 1] = letter_of(text[plain]);
+    Written {
+        read: plain + 1,
+        written: plain + 2,
+    }
+}
+
+/// Writes a text with its escapes into the room, as far as groups go.
+fn write_groups(text: &[u8], room: &mut [u8]) -> Written
+    requires { 2 * length text.now ≤ length room.old }
+    ensures read { result.read ≤ length text.now }
+    ensures few { result.written ≤ 2 * result.read }
+    ensures text { take result.written room.new ≡ escaped_text (take result.read text.now) }
+{
+    let mut done = Written {
+        read: 0,
+        written: 0,
+    };
+    while done.read + GROUP <= text.len() {
+        let (_, rest) = text.split_at(done.read);
+        let more = write_group(rest, &mut room[done.written..]);
+        done.read += more.read;
+        done.written += more.written;
+    }
+    done
+}
+
+/// Writes a text with its escapes into the room, and answers how many bytes that takes.
+fn write_escaped(text: &[u8], room: &mut [u8]) -> usize
+    requires { 2 * length text.now ≤ length room.old }
+    ensures most { result ≤ length room.new }
+    ensures text { take result room.new ≡ escaped_text text.now }
+{
+    let groups = write_groups(text, room);
+    let (_, rest) = text.split_at(groups.read);
+    groups.written + write_rest(rest, &mut room[groups.written..])
+}
+
 /// Writes a text with its escapes into the room, and answers how many bytes that takes. Two bytes are written for each
 /// byte, the second of which the next one may overwrite, so that no way depends on the text.
-fn write_escaped(text: &[u8], room: &mut [u8]) -> usize
-    requires { length room.old ≡ 2 * length text.now }
+fn write_rest(text: &[u8], room: &mut [u8]) -> usize
+    requires { 2 * length text.now ≤ length room.old }
     ensures most { result ≤ length room.new }
     ensures text { take result room.new ≡ escaped_text text.now }
 {
@@ -165,9 +284,16 @@ fn write_escaped(text: &[u8], room: &mut [u8]) -> usize
     n
 }
 
+/// How many bytes of a text were read, and how many were written for them.
+#[derive(Clone, Copy)]
+struct Written {
+    read: usize,
+    written: usize,
+}
+
 /// Puts a part of a text with its escapes, in one piece. It is made in the room.
 fn put_chunk<O: ByteSink>(sink: &mut O, chunk: &[u8], room: &mut [u8]) -> Result<(), Failed>
-    requires { length room.old ≡ 2 * length chunk.now }
+    requires { 2 * length chunk.now ≤ length room.old }
     ensures puts { Puts O.ByteSink sink.old sink.new (escaped_text chunk.now) result }
     ensures same { length room.new ≡ length room.old }
 {
@@ -215,10 +341,27 @@ fn put_between<O: ByteSink>(sink: &mut O, text: &[u8]) -> Result<(), Failed>
     sink.put(rest)
 }
 
+/// Whether each byte of a text stands for itself.
+pub(crate) fn is_plain_text(text: &[u8]) -> bool
+    ensures { IsTrue result → IsPlain text.now }
+{
+    first_escaped(text).is_none()
+}
+
+/// Whether a text is short, and each of its bytes stands for itself.
+fn is_short_plain(text: &[u8]) -> bool
+    ensures { IsTrue result → IsPlain text.now }
+{
+    text.len() < CHUNK && is_plain_text(text)
+}
+
 /// Puts a text in quotes.
 pub(crate) fn put_quoted<O: ByteSink>(sink: &mut O, text: &[u8]) -> Result<(), Failed>
     ensures { Puts O.ByteSink sink.old sink.new (quoted (escaped_text text.now)) result }
 {
+    if is_short_plain(text) {
+        return put_enclosed(sink, b"'", text, b"'");
+    }
     sink.put(b"'")?;
     put_escaped(sink, text)?;
     sink.put(b"'")

@@ -7,6 +7,7 @@ mod digits;
 mod ends;
 mod lanes;
 pub mod laws;
+mod pieces;
 mod read;
 mod read_bytes;
 mod read_decimals;
@@ -22,6 +23,7 @@ mod row;
 #[cfg(test)]
 mod tests;
 mod values;
+mod whole;
 mod write;
 mod writer;
 

@@ -12,6 +12,7 @@ ghost use Rattle.row_text.specs.Values.{timestamp_text, value_text};
 use crate::bytes::{put_bytes, put_hex_number, put_quoted};
 use crate::calendar::date_of_day;
 use crate::digits::{four_digits, two_digits, write_last_digits};
+use crate::whole::put_whole;
 use column_values::laws::spellings_are_unique;
 use column_values::{ColumnType, Value, decode_number, ten_to, trimmed};
 use itoa::Buffer;
@@ -244,6 +245,7 @@ fn put_number<O: ByteSink>(sink: &mut O, kind: &ColumnType, bytes: &[u8]) -> Res
 }
 
 /// Puts the value that the bytes spell.
+#[inline]
 pub(crate) fn put_spelled<O: ByteSink>(
     sink: &mut O,
     kind: &ColumnType,
@@ -264,8 +266,8 @@ pub(crate) fn put_spelled<O: ByteSink>(
         ColumnType::Binary { .. } | ColumnType::Varbinary { .. } | ColumnType::Blob { .. } => {
             put_raw(sink, kind, bytes)
         }
-        ColumnType::Int { .. }
-        | ColumnType::Date
+        ColumnType::Int { width, signed } => put_whole(sink, width, signed, bytes),
+        ColumnType::Date
         | ColumnType::DateTime { .. }
         | ColumnType::Timestamp { .. }
         | ColumnType::Year

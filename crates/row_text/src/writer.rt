@@ -1,6 +1,6 @@
 //! A row's line that is written in pieces.
 
-ghost use Rattle.std.specs.Prelude.{◌≡◌, ◌+◌, ◌-◌, ◌<◌, ◌≤◌, ◌++◌, codes, length, true, IfOk, OnOk};
+ghost use Rattle.std.specs.Prelude.{◌≡◌, ◌+◌, ◌-◌, ◌<◌, ◌≤◌, ◌++◌, codes, length, true, IsTrue, IfOk, OnOk};
 ghost use Rattle.page_source.specs.Calls.{Puts};
 ghost use Rattle.column_values.specs.declared.value.Value.{Value};
 ghost use Rattle.column_values.specs.Types.{IsColumnType};
@@ -9,7 +9,8 @@ ghost use Rattle.row_text.specs.Values.{value_text};
 ghost use Rattle.row_text.specs.Writer.{Writer, line_open, line_close, before_value, with_value, is_long, is_text};
 ghost use Rattle.row_text.specs.Writer.{long_open, long_part, long_close};
 
-use crate::bytes::{put_escaped, put_hex};
+use crate::bytes::{is_plain_text, put_escaped, put_hex};
+use crate::pieces::put_enclosed;
 use crate::values::put_spelled;
 use column_values::ColumnType;
 use page_source::{ByteSink, Failed, put_pieces};
@@ -34,6 +35,7 @@ impl Model for RowWriter {
 
 impl RowWriter {
     /// Adds the line up to its opening parenthesis.
+    #[inline]
     pub fn begin<O: ByteSink>(sink: &mut O, schema: &Schema) -> Result<RowWriter, Failed>
         ensures puts { Puts O.ByteSink sink.old sink.new (line_open schema.now) result }
         ensures fresh { IfOk result (λ writer. writer ≡ record { came = 0; lacks = 0 }) }
@@ -50,17 +52,20 @@ impl RowWriter {
     }
 
     /// Adds a value that is null, one of at most 64.
+    #[inline]
     pub fn null<O: ByteSink>(&mut self, sink: &mut O) -> Result<(), Failed>
         requires { self.old.came < 64 }
         ensures puts { Puts O.ByteSink sink.old sink.new (before_value self.old.came ++ codes "NULL") result }
         ensures counts { OnOk result (self.new ≡ with_value self.old self.old.lacks) }
     {
-        put_pieces(sink, &[self.comma(), b"NULL"])?;
+        put_comma(sink, self.came)?;
+        sink.put(b"NULL")?;
         self.came += 1;
         Ok(())
     }
 
     /// Adds the value that the bytes spell, one of at most 64.
+    #[inline]
     pub fn value<O: ByteSink>(
         &mut self,
         sink: &mut O,
@@ -74,7 +79,7 @@ impl RowWriter {
             → Puts O.ByteSink sink.old sink.new (before_value self.old.came ++ value_text kind.now value) result }
         ensures counts { OnOk result (self.new ≡ with_value self.old self.old.lacks) }
     {
-        put_pieces(sink, &[self.comma()])?;
+        put_comma(sink, self.came)?;
         put_spelled(sink, kind, bytes)?;
         self.came += 1;
         Ok(())
@@ -127,6 +132,23 @@ impl RowWriter {
         Ok(())
     }
 
+    /// Whether the text of the next bytes of a long value is known to be these bytes, which are counted then: so that
+    /// they may be added as they are. Else nothing changes, and `part` adds their text.
+    pub fn is_as_it_is(&mut self, kind: &ColumnType, bytes: &[u8]) -> bool
+        requires long { is_long kind.now ≡ true }
+        requires lacks { length bytes.now ≤ self.old.lacks }
+        ensures same { IsTrue result → long_part kind.now bytes.now ≡ bytes.now }
+        ensures counts { IsTrue result
+            → self.new ≡ record self.old { lacks = self.old.lacks - length bytes.now } }
+        ensures kept { ¬ (IsTrue result) → self.new ≡ self.old }
+    {
+        if !is_text(kind) || !is_plain_text(bytes) {
+            return false;
+        }
+        self.lacks -= bytes.len() as u64;
+        true
+    }
+
     /// Adds what stands behind the bytes of a long value of `length` bytes.
     pub fn end_long<O: ByteSink>(
         &mut self,
@@ -144,10 +166,11 @@ impl RowWriter {
     }
 
     /// Adds the end of the line, with its LF.
+    #[inline]
     pub fn end<O: ByteSink>(self, sink: &mut O) -> Result<(), Failed>
         ensures { Puts O.ByteSink sink.old sink.new line_close result }
     {
-        put_pieces(sink, &[b");\n"])
+        sink.put(b");\n")
     }
 }
 
@@ -155,7 +178,15 @@ impl RowWriter {
 pub(crate) fn put_open<O: ByteSink>(sink: &mut O, schema: &Schema) -> Result<(), Failed>
     ensures { Puts O.ByteSink sink.old sink.new (line_open schema.now) result }
 {
-    put_pieces(sink, &[b"INSERT INTO `", schema.table(), b"` VALUES ("])
+    put_enclosed(sink, b"INSERT INTO `", schema.table(), b"` VALUES (")
+}
+
+/// Puts what stands before the value that comes after so many others.
+#[inline(always)]
+pub(crate) fn put_comma<O: ByteSink>(sink: &mut O, came: u32) -> Result<(), Failed>
+    ensures { Puts O.ByteSink sink.old sink.new (before_value came) result }
+{
+    if came == 0 { Ok(()) } else { sink.put(b",") }
 }
 
 /// Whether the bytes of a long value are a text.

@@ -1,7 +1,8 @@
 //! Text on its way to the sink.
 
-ghost use Rattle.std.specs.Prelude.{◌≡◌, ◌<◌, ◌≤◌, [], Some, length, take, vec_len, vec_capacity, IfOk, OnOk};
+ghost use Rattle.std.specs.Prelude.{◌≡◌, ◌+◌, ◌-◌, ◌++◌, ◌<◌, ◌≤◌, [], Some, length, take, IfOk, OnOk};
 ghost use Rattle.page_source.specs.Calls.{Puts};
+ghost use Rattle.page_source.specs.Faults.{Rose};
 ghost use Rattle.sql_dump.specs.Buffer.{Held};
 
 use page_source::{ByteSink, Failed, NoMemory};
@@ -15,17 +16,29 @@ const ROOM: usize = 65_536;
 /// line, and is full once it refused a piece.
 #[derive(Debug, Drop)]
 pub struct Buffer {
-    bytes: Vec<u8>,
+    /// The text, and behind it bytes of no meaning.
+    room: Vec<u8>,
+    used: usize,
     refused: u64,
 }
 
 impl Model for Buffer {
     ghost Value = { Held };
 
-    ghost view = { λ buffer. record { bytes = buffer.bytes.items; refused = buffer.refused } };
+    ghost view = { λ buffer. record { bytes = take buffer.used buffer.room.items; refused = buffer.refused } };
 
-    ghost invariant = { λ buffer. (vec_len buffer.bytes ≤ 65536) × (65536 ≤ vec_capacity buffer.bytes)
-        × (0 < buffer.refused → vec_len buffer.bytes ≡ 65536) };
+    ghost invariant = { λ buffer. (length buffer.room.items ≡ 65536) × (buffer.used ≤ 65536)
+        × (0 < buffer.refused → buffer.used ≡ 65536) };
+}
+
+/// Writes a piece into the room from `at` on. It is inlined, so that a piece of known length is a store or two.
+#[inline(always)]
+fn paste(room: &mut [u8], at: usize, piece: &[u8])
+    requires { at + length piece.now ≤ length room.old }
+    ensures size { length room.new ≡ length room.old }
+    ensures text { take (at + length piece.now) room.new ≡ take at room.old ++ piece.now }
+{
+    room[at..at + piece.len()].copy_from_slice(piece);
 }
 
 impl Buffer {
@@ -34,7 +47,8 @@ impl Buffer {
         ensures { IfOk result (λ buffer. buffer ≡ record { bytes = []; refused = 0 }) }
     {
         Ok(Buffer {
-            bytes: Vec::with_capacity(alloc, ROOM)?,
+            room: Vec::from_elem(alloc, 0, ROOM)?,
+            used: 0,
             refused: 0,
         })
     }
@@ -44,14 +58,14 @@ impl Buffer {
         ensures count { result ≡ length self.now.bytes }
         ensures full { 0 < self.now.refused → result ≡ 65536 }
     {
-        self.bytes.len()
+        self.used
     }
 
     /// Those bytes.
     pub fn bytes(&self) -> &[u8]
         ensures { result.now ≡ self.now.bytes }
     {
-        &self.bytes
+        &self.room[..self.used]
     }
 
     /// Forgets all but the first bytes, and what it refused.
@@ -59,7 +73,7 @@ impl Buffer {
         ensures bytes { self.new.bytes ≡ take len self.old.bytes }
         ensures refused { self.new.refused ≡ 0 }
     {
-        self.bytes.truncate(len);
+        self.used = self.used.min(len);
         self.refused = 0;
     }
 
@@ -68,9 +82,24 @@ impl Buffer {
         ensures puts { Puts O.ByteSink sink.old sink.new self.old.bytes result }
         ensures empty { OnOk result (self.new.bytes ≡ []) }
     {
-        sink.put(&self.bytes)?;
+        sink.put(self.bytes())?;
         self.truncate(0);
         Ok(())
+    }
+
+    /// Takes as much of a piece as there is room for, which is less than all of it.
+    #[cold]
+    #[inline(never)]
+    fn refuse(&mut self, piece: &[u8])
+        requires { 65536 ≤ length self.old.bytes + length piece.now }
+        ensures bytes { self.new.bytes ≡ self.old.bytes ++ take (65536 - length self.old.bytes) piece.now }
+        ensures refused { self.old.refused ≤ self.new.refused }
+        ensures rose { Rose self.old.refused self.new.refused }
+    {
+        let left = ROOM - self.used;
+        paste(&mut self.room, self.used, &piece[..left]);
+        self.used = ROOM;
+        self.refused = self.refused.saturating_add(1);
     }
 }
 
@@ -79,14 +108,14 @@ impl ByteSink for Buffer {
 
     ghost faults = { λ buffer. buffer.refused };
 
+    #[inline(always)]
     fn put(&mut self, piece: &[u8]) -> Result<(), Failed> {
-        let room = ROOM - self.bytes.len();
-        if piece.len() > room {
-            self.bytes.extend_from_slice(&piece[..room]).unwrap();
-            self.refused = self.refused.saturating_add(1);
+        if piece.len() > ROOM - self.used {
+            self.refuse(piece);
             return Err(Failed);
         }
-        self.bytes.extend_from_slice(piece).unwrap();
+        paste(&mut self.room, self.used, piece);
+        self.used += piece.len();
         Ok(())
     }
 }

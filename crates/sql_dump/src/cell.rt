@@ -50,6 +50,7 @@ impl Cell<'_> {
     }
 
     /// Whether it may be written: it is null, its local bytes spell a value, or a longer one fits its type.
+    #[inline]
     pub fn is_sound(&self) -> bool
         ensures { IsTrue result ↔ IsSound self.now }
     {
@@ -66,6 +67,7 @@ impl Cell<'_> {
 }
 
 /// Puts the value of a column.
+#[inline]
 pub(crate) fn put_value<S: PageSource, O: ByteSink, L: Ledger>(
     source: &mut S,
     sink: &mut O,

@@ -99,6 +99,9 @@ fn put_part<O: ByteSink>(
     ensures puts { Puts O.ByteSink sink.old sink.new (long_part kind.now bytes.now) result }
     ensures counts { writer.new ≡ record writer.old { lacks = writer.old.lacks - length bytes.now } }
 {
+    if writer.is_as_it_is(kind, bytes) {
+        return sink.put(bytes);
+    }
     part_text(writer, text, kind, bytes);
     sink.put(text.bytes())
 }

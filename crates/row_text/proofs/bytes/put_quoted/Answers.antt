@@ -1,6 +1,8 @@
-use Rattle.std.proofs.Common.{[], ◌∷◌}
+use Rattle.std.proofs.Common.{ℕ, List, [], ◌∷◌, ◌++◌, subst, sym}
+use Rattle.page_source.specs.Calls.{Puts}
 use Rattle.row_text.specs.Values.{escaped_text}
 use Rattle.page_source.proofs.Texts.{HasPut, put_none, put_more, put_last, put_cut}
+use Rattle.row_text.proofs.Escapes.{escaped_plain}
 use Rattle.row_text.proofs.bytes.put_quoted.Goals as goal
 
 pub returns-in_err-put_escaped : goal.returns-in_err-put_escaped
@@ -29,3 +31,9 @@ returns g c =
     put_last s c.args.sink.now c.put_escaped.new.sink c.put-2.new.self (39 ∷ escaped_text c.args.text.now) (39 ∷ [])
     c.put-2.result text
     (record { ok = last.ok; failed = last.failed; cause = last.cause })
+
+pub returns-then-is_short_plain : goal.returns-then-is_short_plain
+returns-then-is_short_plain g c =
+    subst (λ (t : List ℕ). Puts g.O.ByteSink c.args.sink.now c.put_enclosed.new.sink
+    (39 ∷ t ++ 39 ∷ []) c.put_enclosed.result)
+    (sym (escaped_plain c.args.text.now (c.is_short_plain.ensures c.if-is_short_plain.true))) c.put_enclosed.ensures

@@ -1,29 +1,12 @@
-use Rattle.std.proofs.Common.{◌+◌, ◌∙◌, refl, ap, set, List, ℕ, arith}
-use Rattle.std.proofs.lemmas.List.{length-set, take_all}
+use Rattle.std.proofs.Common.{List, ℕ, ap, ◌∙◌, arith}
 use Rattle.row_text.specs.Values.{escaped_text}
-use Rattle.row_text.proofs.Escapes.{escape_written}
+use Rattle.row_text.proofs.Groups.{written_rest}
 use Rattle.row_text.proofs.bytes.write_escaped.Goals as goal
-
-pub loop-i-init : goal.loop-i-init
-unfolding escaped_text
-loop-i-init c = record { size = c.requires; few = omega arith; done = refl }
-
-pub loop-i-preserved : goal.loop-i-preserved
-loop-i-preserved c =
-    let so = c.loop-i.invariant in
-    record {
-      size = omega (
-        arith,
-        so.size,
-        length-set c.loop-i.room c.loop-i.n c.front_of.result,
-        length-set (set c.loop-i.room c.loop-i.n c.front_of.result) (c.loop-i.n + 1) c.letter_of-letter.result,
-      );
-      few = omega (arith, so.few, c.width_of-n.ensures.few);
-      done = escape_written c.args.text.now c.loop-i.room c.loop-i.i c.loop-i.n c.letter_of-letter.result
-          c.front_of.result c.width_of-n.result (omega arith) (omega (arith, so.size, so.few))
-          c.letter_of-letter.ensures c.front_of.ensures c.width_of-n.ensures.value so.done;
-    }
 
 pub returns-clause-text : goal.returns-clause-text
 returns-clause-text c =
-    c.loop-i.invariant.done ∙ ap (λ (t : List ℕ). escaped_text t) (take_all c.loop-i.i c.args.text.now (omega arith))
+    let front = c.write_groups-groups in
+    written_rest c.args.text.now front.new.room c.write_rest.new.room _ front.result.read front.result.written
+    c.write_rest.result (omega (arith, front.ensures.few, front.ensures.read, front.auto.room, c.requires))
+    c.write_rest.ensures.most front.ensures.text
+    (c.write_rest.ensures.text ∙ ap (λ (t : List ℕ). escaped_text t) c.split_at.ensures.back)

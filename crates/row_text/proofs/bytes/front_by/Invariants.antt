@@ -1,6 +1,6 @@
 use Rattle.std.proofs.Common.{◌≡◌, ◌+◌, length, take, drop}
 use Rattle.row_text.specs.Values.{IsPlain}
-use Rattle.row_text.proofs.bytes.plain_front.Given as goal
+use Rattle.row_text.proofs.bytes.front_by.Given as goal
 
 abbrev pub invariant-loop-rest : goal.invariant-loop-rest
 invariant-loop-rest l =
