@@ -1,9 +1,9 @@
 -- The row that was found can be read, along the chains that were checked.
-use Rattle.std.proofs.Common.{◌≡◌, ℕ, zero, suc, ◌+◌, ◌-◌, ◌==◌, ◌<◌, ◌≤◌, Bool, true, false, cond, List, [], ◌∷◌, ◌++◌}
-use Rattle.std.proofs.Common.{length, take, get_or, drop, None, refl, sym, ap, ◌∙◌, subst, inl, inr, arith, length-append}
+use Rattle.std.proofs.Common.{◌≡◌, ℕ, zero, suc, ◌+◌, ◌-◌, ◌<◌, ◌≤◌, Bool, true, false, List, [], ◌∷◌, ◌++◌}
+use Rattle.std.proofs.Common.{length, take, get_or, None, refl, sym, ap, ◌∙◌, subst, arith, length-append}
 use Rattle.std.proofs.Common.{append_assoc}
 use Rattle.std.proofs.Math.Seq.{take-append_seam, get_or-append_seam}
-use Rattle.std.proofs.lemmas.Bool.{ne_eqb, false≢true, cases_lt}
+use Rattle.std.proofs.lemmas.Bool.{ne_eqb, false≢true}
 use Rattle.std.proofs.lemmas.List.{length-take-le}
 use Rattle.std.proofs.lemmas.List.Sums.{sum_by-append, sum_by-cons}
 use Rattle.page_source.specs.Pages.{page_of, page_count}
@@ -13,7 +13,7 @@ use Rattle.column_values.specs.declared.field.FieldType.{FieldType}
 use Rattle.column_values.specs.declared.field.FieldType.TheVariants.{Column}
 use Rattle.column_values.specs.declared.value.Value.{Value}
 use Rattle.column_values.specs.declared.value.Value.TheVariants.{Null}
-use Rattle.column_values.specs.Types.{Fields, field_at}
+use Rattle.column_values.specs.Types.{Fields}
 use Rattle.column_values.specs.Spell.{Spell, IsSpelling}
 use Rattle.compact_record.specs.declared.places.Place.{Place}
 use Rattle.compact_record.specs.Reading.{place_of}
@@ -28,10 +28,10 @@ use Rattle.row_text.specs.Writer.{is_long}
 use Rattle.schema_text.specs.TableDef.{TableDef, column_at}
 use Rattle.schema_text.specs.Grammar.{IsTable}
 use Rattle.schema_text.specs.IndexFields.{field_of_column, leaf_fields}
-use Rattle.table_check.specs.Values.{bytes_at, front_of, FitsKind, IsTextBehind, pages_of_part, pages_of_record}
+use Rattle.table_check.specs.Values.{bytes_at, front_of, IsTextBehind, pages_of_part, pages_of_record}
 use Rattle.table_check.specs.Values.{ValueChecksBy, FieldChecksBy, RecordChecksBy}
 use Rattle.sql_dump.specs.Long.{chain_bytes, stated_length}
-use Rattle.sql_dump.specs.Cells.{IsWholeLong, ReadsValue, ReadsRow, CanReadRow, row_on, cell_of_column}
+use Rattle.sql_dump.specs.Cells.{IsWholeLong, ReadsValue, ReadsRow, CanReadRow, row_on}
 use Rattle.schema_text.proofs.ColumnFields.{holds_column}
 use Rattle.sql_dump.proofs.RowPages.{place_is, columns_within}
 use Rattle.sql_dump.proofs.Soundness.{bytes_due, long_spells, external_is_long, values_up_to}
