@@ -1,12 +1,9 @@
 -- The row that was found can be read, along the chains that were checked.
-use Rattle.std.proofs.Common.{◌≡◌, ℕ, zero, suc, ◌+◌, ◌-◌, ◌<◌, ◌≤◌, Bool, true, false, List, [], ◌∷◌, ◌++◌}
-use Rattle.std.proofs.Common.{length, take, get_or, None, refl, sym, ap, ◌∙◌, subst, arith, length-append}
-use Rattle.std.proofs.Common.{append_assoc}
-use Rattle.std.proofs.Math.Seq.{take-append_seam, get_or-append_seam}
-use Rattle.std.proofs.lemmas.Bool.{ne_eqb, false≢true}
+use Rattle.std.proofs.Common.{◌≡◌, ℕ, ◌-◌, ◌<◌, ◌≤◌, Bool, true, false, List, ◌++◌}
+use Rattle.std.proofs.Common.{length, get_or, None, refl, sym, ◌∙◌, subst, arith, length-append}
+use Rattle.std.proofs.lemmas.Bool.{false≢true}
 use Rattle.std.proofs.lemmas.List.{length-take-le}
-use Rattle.std.proofs.lemmas.List.Sums.{sum_by-append, sum_by-cons}
-use Rattle.page_source.specs.Pages.{page_of, page_count}
+use Rattle.page_source.specs.Pages.{page_count}
 use Rattle.page_source.specs.Verdict.{AllBefore}
 use Rattle.column_values.specs.declared.kind.ColumnType.{ColumnType}
 use Rattle.column_values.specs.declared.field.FieldType.{FieldType}
@@ -21,8 +18,8 @@ use Rattle.space_header.specs.Header.{size_of}
 use Rattle.space_audit.specs.Marks.{seen}
 use Rattle.offpage_chain.specs.declared.reference.Reference.{Reference}
 use Rattle.offpage_chain.specs.Reference.{reference_of}
-use Rattle.offpage_chain.specs.Chain.{part_length, next_part, pages_from, chain_pages, bytes_on, total_on}
-use Rattle.offpage_chain.specs.ChainChecks.{UnauditedPlace, PartCheck, ChainChecksBy, IsChainPart}
+use Rattle.offpage_chain.specs.Chain.{chain_pages, bytes_on}
+use Rattle.offpage_chain.specs.ChainChecks.{UnauditedPlace, PartCheck, ChainChecksBy}
 use Rattle.offpage_chain.specs.Reader.{GoesOn}
 use Rattle.offpage_chain.proofs.Links.{links_go_on}
 use Rattle.offpage_chain.proofs.Whole.{links_all}
