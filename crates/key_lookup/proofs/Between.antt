@@ -1,6 +1,6 @@
 -- The keys of the rows below a page lie between its separators.
-use Rattle.std.proofs.Common.{◌≡◌, ℕ, zero, suc, ◌+◌, ◌-◌, ◌<◌, ◌≤◌, Bool, true, false, ◌&&◌, cond, Option, None, Some}
-use Rattle.std.proofs.Common.{List, [], ◌∷◌, ◌++◌, length, get_or, map, All, flat_map, refl, sym, ap, ◌∙◌, subst}
+use Rattle.std.proofs.Common.{◌≡◌, ℕ, zero, suc, ◌-◌, ◌<◌, Bool, true, false, ◌&&◌, cond, Option, None, Some}
+use Rattle.std.proofs.Common.{List, [], ◌∷◌, length, get_or, All, flat_map, refl, sym, ◌∙◌, subst}
 use Rattle.std.proofs.Common.{inl, inr, arith}
 use Rattle.std.specs.List.{AllPairs}
 use Rattle.std.proofs.lemmas.Bool.{false≢true, cases_lt, ne_eqb, and_parts}
@@ -9,12 +9,12 @@ use Rattle.std.proofs.lemmas.List.Elements.{All-head, All-tail, All-nil, All-con
 use Rattle.column_values.specs.declared.field.FieldType.{FieldType}
 use Rattle.column_values.specs.Types.{Fields}
 use Rattle.column_values.specs.Order.{Key, IsBelow}
-use Rattle.column_values.proofs.KeyOrder.{is_strict, is_transitive, splits}
+use Rattle.column_values.proofs.KeyOrder.{is_transitive, splits}
 use Rattle.compact_record.specs.Reading.{key_of, key_kinds}
 use Rattle.index_page.specs.Header.{records_of, record_count}
 use Rattle.index_page.specs.Page.{KeysRise, is_lowest_first}
 use Rattle.index_page.specs.Laws.{KeysRiseThroughout}
-use Rattle.tree_walk.specs.Index.{Index, Row, page_in, fields_on, rows_on, child_of, children, key_in, no_row}
+use Rattle.tree_walk.specs.Index.{Index, Row, page_in, fields_on, rows_on, child_of, children, key_in}
 use Rattle.tree_walk.specs.Place.{is_leaf_level, HasLow, HasLastBelow}
 use Rattle.tree_walk.specs.Descent.{rows_below, Bounded, key_after, bounds, kids, IsNode, IsTree}
 use Rattle.tree_walk.specs.Laws.{row_key}

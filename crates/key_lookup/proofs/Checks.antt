@@ -1,7 +1,7 @@
 -- In a sound file the checks on the way to a key find nothing, nor do those of a row.
-use Rattle.std.proofs.Common.{◌≡◌, ◌↔◌, ℕ, zero, suc, ◌+◌, ◌-◌, ◌==◌, ◌<◌, ◌≤◌, Bool, true, false, cond, Option, None, Some}
-use Rattle.std.proofs.Common.{List, [], ◌∷◌, length, get_or, take, All, Contains, refl, sym, ap, ◌∙◌, subst, inl, inr, arith}
-use Rattle.std.proofs.lemmas.Bool.{false≢true, true≢false, ne_eqb}
+use Rattle.std.proofs.Common.{◌≡◌, ℕ, zero, suc, ◌+◌, ◌-◌, ◌==◌, ◌<◌, Bool, true, false, cond, None}
+use Rattle.std.proofs.Common.{List, get_or, take, refl, arith}
+use Rattle.std.proofs.lemmas.Bool.{true≢false}
 use Rattle.std.proofs.lemmas.List.Elements.{All-contains}
 use Rattle.page_source.specs.Pages.{page_of}
 use Rattle.fil_frame.specs.Kinds.{index_kind, blob_kind}
@@ -15,8 +15,6 @@ use Rattle.column_values.specs.Order.{Key}
 use Rattle.compact_record.specs.declared.places.Place.{Place}
 use Rattle.compact_record.specs.Reading.{place_of}
 use Rattle.index_page.specs.Header.{records_of, index_id_of}
-use Rattle.index_page.specs.Page.{IsIndexPage}
-use Rattle.index_page.specs.PageChecks.{PageChecks}
 use Rattle.index_page.specs.Laws.{ChecksAreIndexPage, KeysRiseThroughout}
 use Rattle.space_audit.specs.Audit.{IsSoundSpace}
 use Rattle.space_audit.specs.Marks.{is_in, seen}

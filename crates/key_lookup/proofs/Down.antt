@@ -1,18 +1,15 @@
 -- One step down the way: the chosen node pointer, and the separators of the page below it.
-use Rattle.std.proofs.Common.{◌≡◌, ◌⊎◌, ℕ, zero, suc, ◌+◌, ◌-◌, ◌==◌, ◌<◌, ◌≤◌, Bool, true, false, IsTrue, not, cond, ◌&&◌}
-use Rattle.std.proofs.Common.{List, [], ◌∷◌, length, get_or, All, filter, Option, Some, None, inl, inr, refl, sym, ap, ◌∙◌}
-use Rattle.std.proofs.Common.{subst, arith, add-one}
-use Rattle.std.proofs.lemmas.Bool.{cases_lt, ne_eqb, lt-ltb, le-ltb}
-use Rattle.std.proofs.lemmas.List.{length-map, get_or-map, get_or_default}
-use Rattle.std.proofs.lemmas.List.Elements.{All-head, All-tail}
-use Rattle.std.specs.Ordering.{is_gt}
+use Rattle.std.proofs.Common.{◌≡◌, ℕ, ◌+◌, ◌<◌, ◌≤◌, Bool, IsTrue}
+use Rattle.std.proofs.Common.{List, get_or, Option, Some, inl, inr, refl, sym, ap, ◌∙◌}
+use Rattle.std.proofs.Common.{subst, arith}
+use Rattle.std.proofs.lemmas.Bool.{cases_lt, lt-ltb, le-ltb}
 use Rattle.column_values.specs.Types.{Fields}
-use Rattle.column_values.specs.Order.{Key, key_cmp}
+use Rattle.column_values.specs.Order.{Key}
 use Rattle.compact_record.specs.Header.{next_origin}
-use Rattle.compact_record.specs.Reading.{IsSpelled, Reading, IsReading, record_end, key_of, key_kinds}
+use Rattle.compact_record.specs.Reading.{IsSpelled, Reading, IsReading, record_end, key_of}
 use Rattle.index_page.specs.Header.{records_of, record_count}
-use Rattle.tree_walk.specs.Records.{IsRecord, IsHeld, PageFacts, record_key}
-use Rattle.tree_walk.proofs.Records.{length-records, more_record, next_after, record_at}
+use Rattle.tree_walk.specs.Records.{IsRecord, IsHeld, PageFacts}
+use Rattle.tree_walk.proofs.Records.{more_record, next_after, record_at}
 use Rattle.key_lookup.specs.Way.{high_behind}
 
 -- a record that was read is held

@@ -1,5 +1,5 @@
 -- The checks of the head, and then those of the look-up.
-use Rattle.std.proofs.Common.{◌≡◌, ℕ, ◌+◌, ◌*◌, ◌≤◌, List, length, Option, None, Some, inl, inr, sym, ap, ◌∙◌, subst, arith}
+use Rattle.std.proofs.Common.{◌≡◌, ℕ, ◌+◌, ◌≤◌, List, length, Option, None, Some, inl, inr, ap, ◌∙◌, subst, arith}
 use Rattle.page_source.specs.declared.objects.PageSource.{Ghosts as FileOf}
 use Rattle.page_source.specs.declared.rule.Fault.{Fault}
 use Rattle.page_source.specs.declared.checks.Halt.{Halt}

@@ -1,5 +1,5 @@
 -- The line of the row that was found.
-use Rattle.std.proofs.Common.{◌≡◌, ℕ, ◌+◌, ◌<◌, ◌≤◌, false, List, [], ◌++◌, length, take, get_or, Option, Some, None, Result, Ok, Err}
+use Rattle.std.proofs.Common.{◌≡◌, ℕ, ◌≤◌, false, List, length, get_or, Option, Some, None, Result, Ok, Err}
 use Rattle.std.proofs.Common.{refl, sym, ap, ◌∙◌, subst, arith}
 use Rattle.std.proofs.lemmas.List.{append-nil}
 use Rattle.page_source.specs.declared.objects.PageSource.{Ghosts as FileOf}
@@ -7,7 +7,7 @@ use Rattle.page_source.specs.declared.checks.Stop.{Stop}
 use Rattle.page_source.specs.declared.checks.Stop.TheVariants as stops
 use Rattle.page_source.specs.Checks.{Stops}
 use Rattle.page_source.specs.declared.objects.ByteSink.{Ghosts as SinkOf}
-use Rattle.page_source.specs.Calls.{OfFile, StopsOver}
+use Rattle.page_source.specs.Calls.{StopsOver}
 use Rattle.page_source.specs.Objects.{GrowsBy, GrowsByPart}
 use Rattle.page_source.specs.Pages.{page_count}
 use Rattle.page_source.proofs.Told.{told1}
@@ -21,7 +21,7 @@ use Rattle.row_text.specs.Line.{line_of}
 use Rattle.schema_text.specs.TableDef.{TableDef, column_at}
 use Rattle.schema_text.specs.Grammar.{IsTable}
 use Rattle.schema_text.specs.IndexFields.{field_of_column, leaf_fields}
-use Rattle.tree_walk.specs.Index.{Index, Row, page_in}
+use Rattle.tree_walk.specs.Index.{Index, Row}
 use Rattle.table_check.specs.Trees.{index_in, clustered_tree}
 use Rattle.table_check.specs.Values.{pages_of_record}
 use Rattle.table_check.specs.First.{TakesSteps}
@@ -30,7 +30,7 @@ use Rattle.sql_dump.specs.declared.stop.WriteStop.TheVariants as writes
 use Rattle.sql_dump.specs.Stops.{Writes, WritesOver}
 use Rattle.sql_dump.specs.Cells.{ReadsRow, CanReadRow, row_on}
 use Rattle.key_lookup.specs.declared.look_up.Found.{Found}
-use Rattle.key_lookup.specs.Record.{HasFoundValue, found_row, found_pages, IsFoundRow}
+use Rattle.key_lookup.specs.Record.{HasFoundValue, found_pages, IsFoundRow}
 use Rattle.key_lookup.specs.GetFirst.{FoundRecordChecks, FoundRowChecks, GetFirst}
 use Rattle.key_lookup.specs.declared.stop.GetStop.{GetStop}
 use Rattle.key_lookup.specs.declared.stop.GetStop.TheVariants as gets

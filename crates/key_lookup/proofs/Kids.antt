@@ -1,11 +1,10 @@
 -- The child of a page that the way goes on to, by the number of its node pointer.
-use Rattle.std.proofs.Common.{◌≡◌, ◌⊎◌, ℕ, zero, suc, ◌+◌, ◌-◌, ◌==◌, ◌<◌, ◌≤◌, Bool, true, false, not, cond, ◌&&◌, List, []}
-use Rattle.std.proofs.Common.{◌∷◌, length, get_or, drop, All, filter, Option, Some, None, inl, inr, refl, sym, ap, ◌∙◌, subst, arith}
+use Rattle.std.proofs.Common.{◌≡◌, ◌⊎◌, ℕ, zero, suc, ◌+◌, ◌-◌, ◌==◌, ◌<◌, Bool, true, false, not, cond, ◌&&◌, List, []}
+use Rattle.std.proofs.Common.{◌∷◌, length, get_or, drop, filter, Option, Some, None, inl, inr, refl, ap, ◌∙◌, subst, arith}
 use Rattle.std.proofs.Common.{add-one}
 use Rattle.std.proofs.Math.Seq.{drop-cons}
-use Rattle.std.proofs.lemmas.Bool.{cases_lt, ne_eqb, lt-ltb, le-ltb, true≢false}
+use Rattle.std.proofs.lemmas.Bool.{cases_lt, ne_eqb, lt-ltb, le-ltb}
 use Rattle.std.proofs.lemmas.List.{length-map, get_or-map, get_or_default, drop_all}
-use Rattle.std.proofs.lemmas.List.Elements.{All-head, All-tail}
 use Rattle.std.specs.Ordering.{is_gt}
 use Rattle.page_source.specs.declared.rule.Rule.TheVariants.{ChildPlace}
 use Rattle.page_source.specs.declared.rule.Fault.{Fault}
@@ -16,14 +15,14 @@ use Rattle.compact_record.specs.Reading.{key_of, key_kinds}
 use Rattle.index_page.specs.Header.{records_of, record_count}
 use Rattle.tree_walk.specs.declared.cursor.Next.{Next}
 use Rattle.tree_walk.specs.declared.walk.Walk.{Walk}
-use Rattle.tree_walk.specs.Index.{Index, Row, page_in, rows_on, child_of, key_in, no_row, root_level}
+use Rattle.tree_walk.specs.Index.{Index, Row, page_in, rows_on, child_of, key_in, no_row}
 use Rattle.tree_walk.specs.Place.{Spot}
 use Rattle.tree_walk.specs.Records.{held_key}
-use Rattle.tree_walk.specs.Descent.{Bounded, key_after, bounds, kids, spot_on}
+use Rattle.tree_walk.specs.Descent.{Bounded, key_after, bounds, kids}
 use Rattle.tree_walk.proofs.Records.{length-records}
 use Rattle.key_lookup.specs.declared.choose.Chosen.{Chosen}
 use Rattle.key_lookup.specs.declared.way.Due.{Due}
-use Rattle.key_lookup.specs.Path.{is_up_to, pages_up_to, page_for, next_down, way}
+use Rattle.key_lookup.specs.Path.{is_up_to, page_for, next_down, way}
 use Rattle.key_lookup.specs.Choice.{IsLast}
 use Rattle.key_lookup.specs.Way.{IsDue, high_held, high_behind}
 use Rattle.key_lookup.proofs.Lists.{filter_none, last_or, last_cons}

@@ -1,8 +1,8 @@
 -- Members of lists that are put together.
-use Rattle.std.proofs.Common.{◌≡◌, ℕ, zero, suc, ◌+◌, ◌-◌, ◌<◌, Bool, true, false, cond, List, [], ◌∷◌, ◌++◌, length}
-use Rattle.std.proofs.Common.{get_or, map, All, Contains, filter, flat_map, refl, sym, ap, ◌∙◌, subst, inl, inr, arith}
+use Rattle.std.proofs.Common.{◌≡◌, suc, ◌-◌, Bool, false, List, [], ◌∷◌, length}
+use Rattle.std.proofs.Common.{get_or, map, All, Contains, filter, flat_map, refl, sym, ap, subst, inl, inr, arith}
 use Rattle.std.proofs.lemmas.List.{get_or_default}
-use Rattle.std.proofs.lemmas.List.Elements.{All-head, All-tail, Contains-append_cases, Contains-append_left}
+use Rattle.std.proofs.lemmas.List.Elements.{All-head, All-tail, Contains-append_left}
 use Rattle.std.proofs.lemmas.List.Elements.{Contains-append_right}
 use Rattle.page_source.proofs.Members.{contains_none, contains_here, contains_there, contains_cases}
 

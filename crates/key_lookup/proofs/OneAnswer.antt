@@ -5,7 +5,7 @@ use Rattle.page_source.proofs.Unique.{IsUnique, Clear-unique, Check-unique, Then
 use Rattle.column_values.specs.Order.{Key}
 use Rattle.offpage_chain.specs.Fetched.{FramedChecks}
 use Rattle.offpage_chain.specs.ChainChecks.{UnauditedPlace}
-use Rattle.tree_walk.specs.Index.{Index, Row, root_level}
+use Rattle.tree_walk.specs.Index.{Index, Row}
 use Rattle.schema_text.specs.Formats.{flags_of}
 use Rattle.schema_text.specs.TableDef.{TableDef}
 use Rattle.table_check.specs.Trees.{clustered_tree}

@@ -1,19 +1,16 @@
 -- The row that was found can be read, along the chains that were checked.
-use Rattle.std.proofs.Common.{◌≡◌, ℕ, zero, suc, ◌+◌, ◌-◌, ◌==◌, ◌<◌, ◌≤◌, Bool, true, false, cond, List, [], ◌∷◌, ◌++◌}
-use Rattle.std.proofs.Common.{length, take, get_or, drop, None, refl, sym, ap, ◌∙◌, subst, inl, inr, arith, length-append}
-use Rattle.std.proofs.Common.{append_assoc}
-use Rattle.std.proofs.Math.Seq.{take-append_seam, get_or-append_seam}
-use Rattle.std.proofs.lemmas.Bool.{ne_eqb, false≢true, cases_lt}
+use Rattle.std.proofs.Common.{◌≡◌, ℕ, ◌-◌, ◌<◌, ◌≤◌, Bool, true, false, List, ◌++◌}
+use Rattle.std.proofs.Common.{length, get_or, None, refl, sym, ◌∙◌, subst, arith, length-append}
+use Rattle.std.proofs.lemmas.Bool.{false≢true}
 use Rattle.std.proofs.lemmas.List.{length-take-le}
-use Rattle.std.proofs.lemmas.List.Sums.{sum_by-append, sum_by-cons}
-use Rattle.page_source.specs.Pages.{page_of, page_count}
+use Rattle.page_source.specs.Pages.{page_count}
 use Rattle.page_source.specs.Verdict.{AllBefore}
 use Rattle.column_values.specs.declared.kind.ColumnType.{ColumnType}
 use Rattle.column_values.specs.declared.field.FieldType.{FieldType}
 use Rattle.column_values.specs.declared.field.FieldType.TheVariants.{Column}
 use Rattle.column_values.specs.declared.value.Value.{Value}
 use Rattle.column_values.specs.declared.value.Value.TheVariants.{Null}
-use Rattle.column_values.specs.Types.{Fields, field_at}
+use Rattle.column_values.specs.Types.{Fields}
 use Rattle.column_values.specs.Spell.{Spell, IsSpelling}
 use Rattle.compact_record.specs.declared.places.Place.{Place}
 use Rattle.compact_record.specs.Reading.{place_of}
@@ -21,80 +18,34 @@ use Rattle.space_header.specs.Header.{size_of}
 use Rattle.space_audit.specs.Marks.{seen}
 use Rattle.offpage_chain.specs.declared.reference.Reference.{Reference}
 use Rattle.offpage_chain.specs.Reference.{reference_of}
-use Rattle.offpage_chain.specs.Chain.{part_length, next_part, pages_from, chain_pages, bytes_on, total_on}
-use Rattle.offpage_chain.specs.ChainChecks.{UnauditedPlace, PartCheck, ChainChecksBy, IsChainPart}
+use Rattle.offpage_chain.specs.Chain.{chain_pages, bytes_on}
+use Rattle.offpage_chain.specs.ChainChecks.{UnauditedPlace, PartCheck, ChainChecksBy}
 use Rattle.offpage_chain.specs.Reader.{GoesOn}
+use Rattle.offpage_chain.proofs.Links.{links_go_on}
+use Rattle.offpage_chain.proofs.Whole.{links_all}
 use Rattle.row_text.specs.Writer.{is_long}
 use Rattle.schema_text.specs.TableDef.{TableDef, column_at}
 use Rattle.schema_text.specs.Grammar.{IsTable}
 use Rattle.schema_text.specs.IndexFields.{field_of_column, leaf_fields}
-use Rattle.table_check.specs.Values.{bytes_at, front_of, FitsKind, IsTextBehind, pages_of_part, pages_of_record}
+use Rattle.table_check.specs.Values.{bytes_at, front_of, IsTextBehind, pages_of_part, pages_of_record}
 use Rattle.table_check.specs.Values.{ValueChecksBy, FieldChecksBy, RecordChecksBy}
 use Rattle.sql_dump.specs.Long.{chain_bytes, stated_length}
-use Rattle.sql_dump.specs.Cells.{IsWholeLong, ReadsValue, ReadsRow, CanReadRow, row_on, cell_of_column}
+use Rattle.sql_dump.specs.Cells.{IsWholeLong, ReadsValue, ReadsRow, CanReadRow, row_on}
 use Rattle.schema_text.proofs.ColumnFields.{holds_column}
 use Rattle.sql_dump.proofs.RowPages.{place_is, columns_within}
 use Rattle.sql_dump.proofs.Soundness.{bytes_due, long_spells, external_is_long, values_up_to}
 use Rattle.key_lookup.specs.Record.{HasFoundValue}
 use Rattle.key_lookup.specs.GetFirst.{FoundRecordChecks}
 
-total_more : (file before : List ℕ) (n : ℕ)
-    → total_on file (before ++ n ∷ []) ≡ total_on file before + part_length (page_of file n)
-unfolding total_on
-total_more file before n =
-    let sums = sum_by-append (λ m. part_length (page_of file m)) before (n ∷ []) in
-    let last = sum_by-cons (λ m. part_length (page_of file m)) n [] in
-    omega (arith, sums, last)
-
-no_total : (file : List ℕ) → total_on file [] ≡ 0
-unfolding total_on
-no_total file = refl
-
 module _ (file : List ℕ) (size : size_of file ≤ page_count file) (holder : ℕ) (reference : Reference) (taken : ℕ → Bool)
     (checks : AllBefore (chain_pages file reference) (PartCheck file (UnauditedPlace file) holder reference taken)
     (length (chain_pages file reference))) where
-  abbrev pages : List ℕ
-  pages = chain_pages file reference
-
-  -- the check of the page behind these ones
-  check_at : (before rest : List ℕ) (n : ℕ) → pages ≡ before ++ n ∷ rest
-      → PartCheck file (UnauditedPlace file) holder reference taken before n None
-  check_at before rest n split =
-      let within : length before < length pages = omega (arith, ap length split, length-append before (n ∷ rest)) in
-      let check = checks (length before) 0 within in
-      let front : take (length before) pages ≡ before =
-      ap (take (length before)) split ∙ take-append_seam before (n ∷ rest) in
-      let page : get_or pages (length before) 0 ≡ n =
-      ap (λ (t : List ℕ). get_or t (length before) 0) split ∙ get_or-append_seam before n rest 0 in
-      let one = subst (λ (b : List ℕ). PartCheck file (UnauditedPlace file) holder reference taken b (get_or pages (length before) 0)
-      None) front check in
-      subst (λ (m : ℕ). PartCheck file (UnauditedPlace file) holder reference taken before m None) page one
-
-  goes_from : (fuel n left : ℕ) (before : List ℕ) → pages ≡ before ++ pages_from file fuel n left
-      → total_on file before + left ≡ reference.length → left ≤ fuel → GoesOn file n left (pages_from file fuel n left)
-  goes_from zero n left before split total enough = omega arith
-  goes_from (suc fuel) n zero before split total enough = refl
-  goes_from (suc fuel) n (suc less) before split total enough =
-      let left : ℕ = suc less in
-      let page = page_of file n in
-      let some = ne_eqb left 0 (λ e. omega arith) in
-      let rest = pages_from file fuel (next_part page) (left - part_length page) in
-      let here : pages_from file (suc fuel) n left ≡ n ∷ rest = rw some refl in
-      let cut : pages ≡ before ++ n ∷ rest = split ∙ ap (λ (t : List ℕ). before ++ t) here in
-      let check = check_at before rest n cut in
-      let part = check.1 in
-      let lacks : reference.length - total_on file before ≡ left = omega arith in
-      let part_here = subst (λ (l : ℕ). IsChainPart page l) lacks part in
-      let more = total_more file before n in
-      let below = check.0.0.below in
-      let tail = goes_from fuel (next_part page) (left - part_length page) (before ++ n ∷ [])
-      (cut ∙ sym (append_assoc before (n ∷ []) rest))
-      (let w = part_here.within in omega arith) (let p = part_here.part.0 in omega arith) in
-      subst (GoesOn file n left) (sym here) (refl, omega arith, part_here, tail)
-
-  pub goes : GoesOn file reference.page reference.length pages
-  unfolding chain_pages
-  goes = goes_from reference.length reference.page reference.length [] refl (omega (arith, no_total file)) (omega arith)
+  -- the value goes on along the pages whose checks hold
+  goes : GoesOn file reference.page reference.length (chain_pages file reference)
+  goes =
+      links_go_on file reference.page reference.length (chain_pages file reference)
+      (links_all file reference (λ j d h. (checks j d h).1))
+      (λ j d h. let below = (checks j d h).0.0.below in omega (arith, below, size))
 
 module _ (file : List ℕ) (size : size_of file ≤ page_count file) (leaf : ℕ) (kind : ColumnType) where
   -- a value that goes on elsewhere and whose checks hold

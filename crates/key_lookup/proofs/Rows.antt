@@ -1,20 +1,19 @@
 -- The row that is found is the one with the key.
-use Rattle.std.proofs.Common.{◌≡◌, ◌↔◌, ◌⊎◌, ℕ, zero, suc, ◌+◌, ◌<◌, ◌==◌, Bool, true, Option, None, Some, List, [], ◌∷◌, length}
-use Rattle.std.proofs.Common.{get_or, All, Contains, filter, refl, sym, ap, ◌∙◌, subst, inl, inr, arith}
+use Rattle.std.proofs.Common.{◌≡◌, ◌↔◌, ◌==◌, true, Some, List, [], ◌∷◌}
+use Rattle.std.proofs.Common.{get_or, Contains, filter, refl, sym, ap, ◌∙◌, subst, inl, inr, arith}
 use Rattle.std.specs.List.{AllPairs, slice_get}
 use Rattle.std.specs.declared.cmp.Ordering.{Ordering}
 use Rattle.std.specs.declared.cmp.Ordering.TheVariants.{Less, Equal, Greater}
 use Rattle.std.specs.Ordering.{is_eq}
 use Rattle.std.proofs.lemmas.Bool.{false≢true, cases_lt}
 use Rattle.std.proofs.lemmas.List.{get_or_default}
-use Rattle.column_values.specs.declared.field.FieldType.{FieldType}
 use Rattle.column_values.specs.Order.{Key, key_cmp, IsBelow, AreEqualKeys}
 use Rattle.column_values.proofs.KeyOrder.{agrees, symmetric, is_strict}
 use Rattle.compact_record.specs.Reading.{key_kinds}
 use Rattle.index_page.specs.Laws.{KeysRiseThroughout}
 use Rattle.page_source.proofs.Members.{contains_none, contains_here, contains_filter, filter_contains}
 use Rattle.tree_walk.specs.Index.{Index, Row, rows_on, leaf_rows, root_level, is_live_row}
-use Rattle.tree_walk.specs.Descent.{rows_below, tree_rows, Bounded, IsTreeByDescent}
+use Rattle.tree_walk.specs.Descent.{rows_below, tree_rows, IsTreeByDescent}
 use Rattle.tree_walk.specs.Laws.{row_key}
 use Rattle.tree_walk.proofs.Descents.{rows_law}
 use Rattle.table_check.specs.Values.{live_rows}

@@ -1,18 +1,16 @@
 -- In a sound file the look-up finds the row with the key.
-use Rattle.std.proofs.Common.{◌≡◌, ◌↔◌, ℕ, ◌<◌, ◌≤◌, Option, None, Some, List, length, get_or, take, Contains, All, refl, subst}
+use Rattle.std.proofs.Common.{◌≡◌, ◌↔◌, ℕ, Option, None, Some, List, take, Contains, refl, subst}
 use Rattle.std.proofs.Common.{arith}
 use Rattle.std.proofs.lemmas.List.Elements.{All-contains}
 use Rattle.column_values.specs.Types.{AreOfOneIndex}
 use Rattle.column_values.specs.Order.{Key}
 use Rattle.column_values.specs.declared.value.Value.{Value}
-use Rattle.compact_record.specs.Reading.{key_kinds}
 use Rattle.extent_map.specs.Head.{HeadChecks}
 use Rattle.index_page.specs.Laws.{ChecksAreIndexPage, KeysRiseThroughout}
 use Rattle.schema_text.specs.Formats.{flags_of}
 use Rattle.schema_text.specs.TableDef.{TableDef}
 use Rattle.schema_text.specs.Grammar.{IsTable}
 use Rattle.schema_text.specs.IndexFields.{leaf_fields, node_fields}
-use Rattle.space_header.specs.Header.{size_of}
 use Rattle.space_audit.specs.Audit.{IsSoundSpace, OwnerChecks}
 use Rattle.space_audit.specs.Marks.{is_in, seen}
 use Rattle.offpage_chain.specs.Laws.{HasOneChain}
@@ -26,7 +24,7 @@ use Rattle.table_check.specs.First.{First}
 use Rattle.table_check.specs.Valid.{HasWholeTree, IsSoundRow, IsValid}
 use Rattle.table_check.specs.Laws.{ChecksAreValidity}
 use Rattle.key_lookup.specs.Record.{found_row, IsFoundRow}
-use Rattle.key_lookup.specs.GetFirst.{FoundRowChecks, AllWayChecks, GetFirst}
+use Rattle.key_lookup.specs.GetFirst.{FoundRowChecks, GetFirst}
 use Rattle.key_lookup.specs.Laws.{IsRowWith, FindsRow, FindsInValid}
 use Rattle.key_lookup.proofs.Between.{HasOneKind}
 use Rattle.key_lookup.proofs.Rows.{finds_row}

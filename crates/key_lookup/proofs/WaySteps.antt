@@ -1,12 +1,12 @@
 -- The checks of the page that is due, one after another.
-use Rattle.std.proofs.Common.{◌≡◌, ℕ, ◌+◌, ◌-◌, ◌==◌, ◌<◌, ◌≤◌, true, List, Option, Some, None, inl, inr, refl, sym, ap, ◌∙◌, subst}
+use Rattle.std.proofs.Common.{◌≡◌, ℕ, ◌+◌, ◌-◌, ◌==◌, ◌<◌, ◌≤◌, true, List, Option, Some, None, inl, inr, ap, ◌∙◌, subst}
 use Rattle.std.proofs.Common.{arith}
 use Rattle.std.proofs.lemmas.Bool.{cases_lt}
 use Rattle.page_source.specs.declared.rule.Fault.{Fault}
 use Rattle.page_source.specs.declared.checks.Halt.{Halt}
 use Rattle.page_source.specs.declared.checks.Halt.TheVariants.{Broken, Source}
 use Rattle.page_source.specs.Checks.{HaltsAt}
-use Rattle.page_source.specs.Verdict.{AllBelow, Each}
+use Rattle.page_source.specs.Verdict.{AllBelow}
 use Rattle.fil_frame.specs.Kinds.{index_kind}
 use Rattle.space_header.specs.declared.header.SpaceHeader.{SpaceHeader}
 use Rattle.space_header.specs.Header.{header_of, size_of}

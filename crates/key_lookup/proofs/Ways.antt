@@ -1,28 +1,27 @@
 -- The way to a key leads to the rows with the key.
-use Rattle.std.proofs.Common.{◌≡◌, ◌⊎◌, ℕ, zero, suc, ◌+◌, ◌-◌, ◌==◌, ◌<◌, ◌≤◌, Bool, true, false, not, cond, Option, None}
-use Rattle.std.proofs.Common.{Some, List, [], ◌∷◌, ◌++◌, length, get_or, map, All, Contains, filter, flat_map, refl, sym}
-use Rattle.std.proofs.Common.{ap, ◌∙◌, subst, inl, inr, arith}
-use Rattle.std.specs.List.{AllPairs}
+use Rattle.std.proofs.Common.{◌≡◌, ◌⊎◌, ℕ, zero, suc, ◌+◌, ◌-◌, ◌==◌, ◌<◌, Bool, true, false, cond, Option, None}
+use Rattle.std.proofs.Common.{Some, List, [], ◌∷◌, length, get_or, All, Contains, flat_map, refl, sym}
+use Rattle.std.proofs.Common.{ap, ◌∙◌, inl, inr, arith}
 use Rattle.std.specs.declared.cmp.Ordering.{Ordering}
 use Rattle.std.specs.declared.cmp.Ordering.TheVariants.{Less, Equal, Greater}
-use Rattle.std.specs.Ordering.{is_gt, ordering_reverse}
+use Rattle.std.specs.Ordering.{ordering_reverse}
 use Rattle.std.proofs.lemmas.Bool.{false≢true, true≢false, cases_lt, ne_eqb}
 use Rattle.std.proofs.lemmas.List.{append-nil, length-map}
 use Rattle.std.proofs.lemmas.List.Elements.{All-head, All-tail, All-contains, Contains-append_cases, Contains-get_or, All-cons, All-nil}
 use Rattle.column_values.specs.Order.{Key, key_cmp, IsBelow, AreEqualKeys}
 use Rattle.column_values.proofs.KeyOrder.{key_total, agrees, symmetric, is_strict, is_transitive}
 use Rattle.compact_record.specs.Reading.{key_kinds}
-use Rattle.index_page.specs.Header.{records_of, record_count}
+use Rattle.index_page.specs.Header.{records_of}
 use Rattle.index_page.specs.Laws.{KeysRiseThroughout}
-use Rattle.page_source.proofs.Members.{contains_none, contains_here, contains_there, contains_filter, filter_contains}
-use Rattle.tree_walk.specs.Index.{Index, Row, page_in, rows_on, rows_of, child_of, children, key_in, pages_at, root_level}
-use Rattle.tree_walk.specs.Descent.{children_at, rows_below, tree_rows, Bounded, bounded_root, key_after, bounds, kids}
+use Rattle.page_source.proofs.Members.{contains_none, contains_here, contains_there, filter_contains}
+use Rattle.tree_walk.specs.Index.{Index, Row, page_in, rows_on, child_of, children, key_in, pages_at, root_level}
+use Rattle.tree_walk.specs.Descent.{children_at, rows_below, tree_rows, Bounded, key_after, bounds, kids}
 use Rattle.tree_walk.specs.Descent.{IsNode, IsTree, IsTreeByDescent}
 use Rattle.tree_walk.specs.Laws.{row_key}
 use Rattle.tree_walk.proofs.Descents.{children_down}
 use Rattle.key_lookup.specs.Path.{is_up_to, pages_up_to, page_for, next_down, way}
-use Rattle.key_lookup.proofs.Lists.{contains_flat_map, contains_map, filter_none, last_or, last_cons}
-use Rattle.key_lookup.proofs.Between.{IsFrom, IsUnder, IsBetween, Fits, kids_fit, AreBetween, AllBehind, Spans, kids_between, PairsBehind, HasOneKind}
+use Rattle.key_lookup.proofs.Lists.{contains_flat_map, filter_none, last_or, last_cons}
+use Rattle.key_lookup.proofs.Between.{IsFrom, IsUnder, IsBetween, Fits, kids_fit, AreBetween, Spans, kids_between, PairsBehind, HasOneKind}
 use Rattle.key_lookup.proofs.Between.{spans, between, rises}
 
 -- one of the pages is chosen, where there is one

@@ -4,7 +4,7 @@ use Rattle.std.specs.Ordering.{is_gt}
 use Rattle.column_values.specs.Types.{Fields}
 use Rattle.column_values.specs.Order.{Key, key_cmp}
 use Rattle.compact_record.specs.Reading.{key_kinds}
-use Rattle.index_page.specs.Header.{records_of, record_count}
+use Rattle.index_page.specs.Header.{records_of}
 use Rattle.tree_walk.specs.Records.{record_key}
 use Rattle.key_lookup.specs.declared.choose.Chosen.{Chosen}
 

@@ -1,5 +1,5 @@
 -- The steps of the way, as they are taken.
-use Rattle.std.specs.Prelude.{◌≡◌, ℕ, ◌+◌, ◌==◌, ◌<◌, nat_lt, if◌then◌else◌, List, Option, Some, None}
+use Rattle.std.specs.Prelude.{◌≡◌, ℕ, ◌+◌, ◌==◌, nat_lt, if◌then◌else◌, List, Option, Some, None}
 use Rattle.page_source.specs.declared.rule.Fault.{Fault}
 use Rattle.page_source.specs.declared.rule.Rule.TheVariants.{IndexId}
 use Rattle.page_source.specs.Verdict.{AllBelow, Then}

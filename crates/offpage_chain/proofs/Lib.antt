@@ -4,8 +4,8 @@ mod Alongs
 pub mod Feeds
 mod Stages
 mod Places
-mod Links
-mod Whole
+pub mod Links
+pub mod Whole
 mod Writes
 mod PartPages
 mod ValueChains

@@ -77,7 +77,8 @@ pub record HoldsAll (file : List ℕ) (segment holder : ℕ) (reference : Refere
   pub distinct : AreDistinct (chain_pages file reference)
   pub new : All (λ n. taken n ≡ false) (chain_pages file reference)
 
-links_all : (file : List ℕ) (reference : Reference)
+-- where each page has its part, the value goes on along them
+pub links_all : (file : List ℕ) (reference : Reference)
     → ((j d : ℕ) → j < length (chain_pages file reference)
     → IsChainPart (page_of file (get_or (chain_pages file reference) j d))
     (reference.length - total_on file (take j (chain_pages file reference))))

@@ -1,5 +1,5 @@
 -- The checks of a file against a schema have an answer.
-use Rattle.std.proofs.Common.{◌≡◌, ◌-◌, ℕ, ◌+◌, ◌<◌, ◌≤◌, ◌⊎◌, Bool, true, false, List, ◌++◌, length, get_or, Option, refl, sym, ap}
+use Rattle.std.proofs.Common.{◌≡◌, ◌-◌, ℕ, ◌+◌, ◌<◌, Bool, true, false, List, ◌++◌, length, get_or, sym, ap}
 use Rattle.std.proofs.Common.{subst}
 use Rattle.page_source.specs.Pages.{page_of, fil_null}
 use Rattle.page_source.proofs.Decided.{IsDecided, same_decided, both_decided, three_decided, either_decided, given_decided}
@@ -16,13 +16,13 @@ use Rattle.space_header.specs.Header.{size_of}
 use Rattle.space_audit.specs.Owners.{owner_of, IsUsedBy}
 use Rattle.offpage_chain.specs.declared.reference.Reference.{Reference}
 use Rattle.offpage_chain.specs.Reference.{reference_of}
-use Rattle.offpage_chain.specs.Chain.{chain_pages, part_length, next_part, bytes_on, total_on, RefersHere}
+use Rattle.offpage_chain.specs.Chain.{chain_pages, part_length, next_part, bytes_on, total_on}
 use Rattle.offpage_chain.specs.ChainChecks.{AuditedPlace, IsChainPlace, IsChainPart, PartCheck, ChainChecksBy, ChainChecks}
 use Rattle.tree_walk.specs.Index.{Index, Row}
 use Rattle.schema_text.specs.Formats.{flags_of}
 use Rattle.schema_text.specs.TableDef.{TableDef}
 use Rattle.table_check.specs.Trees.{leaf_segments}
-use Rattle.table_check.specs.Values.{front_of, FitsKind, IsTextBehind, ValueChecks, FieldChecks, RecordChecks, RecordChecksBy, RowCheck}
+use Rattle.table_check.specs.Values.{front_of, IsTextBehind, ValueChecks, FieldChecks, RecordChecks, RecordChecksBy, RowCheck}
 use Rattle.table_check.specs.Values.{RowChecks, live_rows}
 use Rattle.table_check.specs.First.{is_unreached, IsLeftOver, TableTreeChecks, ValueChecksOf, UnreachedCheck}
 use Rattle.table_check.specs.First.{UnreachedChecks, TableValueChecks, TableChecks, First}

@@ -1,4 +1,4 @@
-use Rattle.std.proofs.Common.{◌≡◌, ◌+◌, List, ℕ, length, map, false, Option, Some, [], ◌∷◌, ◌++◌, sym, ap, ◌∙◌}
+use Rattle.std.proofs.Common.{◌+◌, List, ℕ, length, map, false, Option, Some, [], ◌∷◌, ◌++◌, ap, ◌∙◌}
 use Rattle.compact_record.specs.declared.places.Place.{Place}
 use Rattle.compact_record.specs.Reading.{cell_at}
 use Rattle.key_lookup.proofs.Keys.{key_more}
