@@ -1,14 +1,14 @@
 -- A text in quotes that is read piece by piece.
 use Rattle.std.proofs.Common.{◌≡◌, ◌≢◌, ℕ, ◌+◌, ◌-◌, ◌<◌, ◌≤◌, List, [], ◌∷◌, ◌++◌, length, take, drop}
-use Rattle.std.proofs.Common.{set, subst, refl, sym, ap, ◌∙◌, arith, append_assoc, length-append}
+use Rattle.std.proofs.Common.{set, get_or, subst, refl, sym, ap, ◌∙◌, arith, append_assoc, length-append}
 use Rattle.std.proofs.lemmas.List.{drop_at, drop-drop, length-drop, length-set, length-take-le, take_more_set, take-append-drop}
-use Rattle.std.proofs.lemmas.List.{take-take}
+use Rattle.std.proofs.lemmas.List.{take-take, drop_more}
 use Rattle.std.proofs.lemmas.Slice.{take-put_mid}
 use Rattle.std.proofs.Math.Seq.{take-append-add}
 use borrow.Rule.Slice.PartMut.{mid_of, put_mid, mid_len, same_len_mid}
-use Rattle.row_text.specs.Values.{escaped, escaped_text, quoted, IsPlain}
+use Rattle.row_text.specs.Values.{escape_letter, escaped, escaped_text, quoted, IsPlain}
 use Rattle.row_text.specs.calls.Texts.{LeadsByte, LeadsNoByte, IsWritten, TakesText}
-use Rattle.row_text.proofs.Escapes.{escaped_append, escaped_plain, alone}
+use Rattle.row_text.proofs.Escapes.{escaped_append, escaped_plain, alone, itself, behind_backslash}
 use Rattle.row_text.proofs.Quotes.{left_of}
 
 take_behind : (front run : List ℕ) (n k : ℕ) → n ≡ length front + k → take n (front ++ run) ≡ front ++ take k run
@@ -46,6 +46,34 @@ written_more text room rest n at byte size more up lt is left leads e f =
     subst (λ (k : ℕ). IsWritten text (set room n byte) k up) e
     (subst (λ (k : ℕ). IsWritten text (set room n byte) (n + 1) k) f
     (written_byte text room rest n at byte size lt is left leads))
+
+-- a byte that stands for itself at a place of a text, and one behind a backslash
+pub leads_plain : (text : List ℕ) (k byte : ℕ) → k < length text → byte ≡ get_or text k 0 → escape_letter byte ≡ 0
+    → LeadsByte byte 1 (drop k text)
+leads_plain text k byte inside is plain =
+    let first : drop k text ≡ byte ∷ drop (k + 1) text =
+    drop_more text k 0 inside ∙ ap (λ (b : ℕ). b ∷ drop (k + 1) text) (sym is) in record {
+      spelled = first ∙ ap (λ (t : List ℕ). byte ∷ t) (sym (drop-drop 1 k text))
+          ∙ ap (λ (t : List ℕ). t ++ drop 1 (drop k text)) (sym (itself byte plain));
+      some = omega arith;
+      within = omega (arith, inside, length-drop k text);
+    }
+
+pub leads_escaped : (text : List ℕ) (k byte : ℕ) → k + 2 ≤ length text → get_or text k 0 ≡ 92
+    → escape_letter byte ≡ get_or text (k + 1) 0 → get_or text (k + 1) 0 ≢ 0 → LeadsByte byte 2 (drop k text)
+leads_escaped text k byte inside slash letter some =
+    let other : escape_letter byte ≢ 0 = λ none. some (sym letter ∙ none) in
+    let two : k + 1 + 1 ≡ k + 2 = omega arith in
+    let first : drop k text ≡ 92 ∷ escape_letter byte ∷ drop (k + 2) text =
+    drop_more text k 0 (omega (arith, inside)) ∙ ap (λ (b : ℕ). b ∷ drop (k + 1) text) slash
+    ∙ ap (λ (t : List ℕ). 92 ∷ t) (drop_more text (k + 1) 0 (omega (arith, inside))
+    ∙ ap (λ (l : ℕ). l ∷ drop (k + 1 + 1) text) (sym letter)
+    ∙ ap (λ (j : ℕ). escape_letter byte ∷ drop j text) two) in record {
+      spelled = first ∙ ap (λ (t : List ℕ). 92 ∷ escape_letter byte ∷ t) (sym (drop-drop 2 k text))
+          ∙ ap (λ (t : List ℕ). t ++ drop 2 (drop k text)) (sym (behind_backslash byte other));
+      some = omega arith;
+      within = omega (arith, inside, length-drop k text);
+    }
 
 pub written_at : (text room : List ℕ) (n at more up : ℕ) → IsWritten text room n at → n ≡ more → at ≡ up
     → IsWritten text room more up

@@ -1,8 +1,8 @@
 //! The bytes that a text begins with, written into a room: runs of those that stand for themselves, and of escapes.
 
-ghost use Rattle.std.specs.Prelude.{◌≡◌, ◌≢◌, ℕ, ◌+◌, ◌*◌, ◌≤◌, length, MatchOption, IfSome};
+ghost use Rattle.std.specs.Prelude.{◌≡◌, ◌≢◌, ℕ, ◌+◌, ◌*◌, ◌<◌, ◌≤◌, length, slice_index, MatchOption, IfSome};
 ghost use Rattle.row_text.specs.Values.{escape_letter};
-ghost use Rattle.row_text.specs.calls.Texts.{LeadsByte, IsWritten, byte_of};
+ghost use Rattle.row_text.specs.calls.Texts.{IsWritten, byte_of};
 
 use crate::bytes::is_escaped;
 use crate::lanes::{LANES, plain_length};
@@ -53,24 +53,30 @@ pub(crate) fn byte_of(letter: u8) -> Option<u8>
     Some(byte)
 }
 
-/// The byte that a text begins with, where it stands for itself.
-fn plain_byte(text: &[u8]) -> Option<u8>
-    ensures { IfSome result (λ byte. LeadsByte byte 1 text.now) }
+/// The byte of a text at this place, where it stands for itself.
+#[inline(always)]
+fn plain_at(text: &[u8], at: usize) -> Option<u8>
+    requires { at < length text.now }
+    ensures { IfSome result (λ byte. (byte ≡ slice_index text.now at) × (escape_letter byte ≡ 0)) }
 {
-    if text.is_empty() || is_escaped(text[0]) {
+    let byte = text[at];
+    if is_escaped(byte) {
         return None;
     }
-    Some(text[0])
+    Some(byte)
 }
 
-/// The byte that a text begins with, where it stands behind a backslash.
-fn escaped_byte(text: &[u8]) -> Option<u8>
-    ensures { IfSome result (λ byte. LeadsByte byte 2 text.now) }
+/// The byte that stands behind a backslash at this place.
+#[inline(always)]
+fn escaped_at(text: &[u8], at: usize) -> Option<u8>
+    requires { at + 2 ≤ length text.now }
+    ensures { IfSome result (λ byte. (slice_index text.now at ≡ 92) × (escape_letter byte ≡ slice_index text.now (at + 1))
+        × (slice_index text.now (at + 1) ≢ 0)) }
 {
-    if text.len() < 2 || text[0] != b'\\' {
+    if text[at] != b'\\' {
         return None;
     }
-    byte_of(text[1])
+    byte_of(text[at + 1])
 }
 
 /// Goes on writing into the room, from its place `n`, the bytes of the text from `at` on, as long as they stand for
@@ -85,8 +91,7 @@ fn write_plain(text: &[u8], at: usize, room: &mut [u8], n: usize, most: usize) -
     ensures most { result ≤ most }
 {
     for i in 0..most {
-        let (_, rest) = text.split_at(at + i);
-        let Some(byte) = plain_byte(rest) else {
+        let Some(byte) = plain_at(text, at + i) else {
             return i;
         };
         room[n + i] = byte;
@@ -136,8 +141,7 @@ fn write_escapes(text: &[u8], at: usize, room: &mut [u8], n: usize) -> usize
 {
     let most = ((text.len() - at) / 2).min(room.len() - n);
     for i in 0..most {
-        let (_, rest) = text.split_at(at + 2 * i);
-        let Some(byte) = escaped_byte(rest) else {
+        let Some(byte) = escaped_at(text, at + 2 * i) else {
             return i;
         };
         room[n + i] = byte;

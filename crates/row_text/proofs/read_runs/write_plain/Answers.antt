@@ -1,6 +1,6 @@
-use Rattle.std.proofs.Common.{◌+◌, ◌<◌, length, arith, ◌∙◌}
+use Rattle.std.proofs.Common.{drop, refl, ◌+◌, ◌<◌, length, arith, ◌∙◌}
 use Rattle.std.proofs.lemmas.List.{length-set}
-use Rattle.row_text.proofs.Unquoted.{written_more}
+use Rattle.row_text.proofs.Unquoted.{leads_plain, written_more}
 use Rattle.row_text.proofs.read_runs.write_plain.Goals as goal
 
 pub loop-i-preserved : goal.loop-i-preserved
@@ -12,7 +12,8 @@ loop-i-preserved c =
     let at = c.args.at + i in
     let here : n < length room = omega (arith, c.loop-i-test.true, c.requires.room, so.same) in
     record {
-      written = written_more c.args.text.now room c.split_at.result.1.now n at c.in-Some.byte 1 _ _ here so.written
-          c.split_at.ensures.back c.in-Some.ensures (omega arith) (omega arith);
+      written = written_more c.args.text.now room (drop at c.args.text.now) n at c.in-Some.byte 1 _ _ here so.written
+          refl (leads_plain c.args.text.now at c.in-Some.byte (omega (arith, c.loop-i-test.true, c.requires.text)) c.in-Some.ensures.0 c.in-Some.ensures.1)
+          (omega arith) (omega arith);
       same = length-set room n c.in-Some.byte ∙ so.same;
     }
