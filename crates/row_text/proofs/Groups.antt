@@ -1,18 +1,26 @@
 -- A text with its escapes, a group of bytes at a time.
-use Rattle.std.proofs.Common.{◌≡◌, ◌≢◌, ℕ, suc, ◌+◌, ◌*◌, ◌<◌, ◌≤◌, List, [], ◌∷◌, ◌++◌, Bool, true, false, min, length}
-use Rattle.std.proofs.Common.{take, drop, set, cond, get_or, refl, sym, ap, ◌∙◌, subst, arith, append_assoc}
-use Rattle.std.proofs.Common.{length-take-le}
-use Rattle.std.proofs.lemmas.List.{get_or-take, take_more, take-take, take-append-le, take-append-drop}
+use Rattle.std.proofs.Common.{◌≡◌, ◌≢◌, ℕ, ◌+◌, ◌<◌, ◌≤◌, List, [], ◌∷◌, ◌++◌, length, take, drop, set, get_or}
+use Rattle.std.proofs.Common.{slice_index, position, Some, sym, ap, ◌∙◌, subst, arith, length-take, length-take-le}
+use Rattle.std.proofs.lemmas.Bool.{eqb-true, eqb-false, not-true, not-false}
+use Rattle.std.proofs.lemmas.List.{get_or-take, get_or_default, take_more, take-take, take-append-le, take-append-drop}
+use Rattle.std.proofs.lemmas.List.Quantifiers.{position-Some}
 use Rattle.std.proofs.Math.Seq.{take-add, take-append-add}
 use Rattle.hex.proofs.Pairs.{take-two_writes}
-use Rattle.row_text.specs.Values.{escape_letter, escaped, escaped_text, is_escaped, IsPlain}
+use Rattle.row_text.specs.Values.{escape_letter, escaped_text, is_escaped, IsPlain}
 use Rattle.row_text.proofs.Escapes.{escaped_append, escaped_plain, alone, behind_backslash}
 
--- of the first i bytes of a group those before `first` stand for themselves, and the byte there doesn't
-pub record FirstPlain (group : List ℕ) (i first : ℕ) : Type 0 where
-  pub within : first ≤ 16
-  pub plain : (k d : ℕ) → k < i → k < first → escape_letter (get_or group k d) ≡ 0
-  pub found : first < 16 → (first < i) × (escape_letter (get_or group first 0) ≢ 0)
+-- the bytes before the first that doesn't stand for itself
+pub found_front : (group : List ℕ) (at : ℕ) → position is_escaped group ≡ Some at → IsPlain (take at group)
+found_front group at found k d below =
+    let place = position-Some is_escaped group at 0 found in
+    let inside : k < at = omega (arith, below, length-take at group) in
+    ap escape_letter (get_or-take at group k d inside ∙ get_or_default group k d 0 (omega (arith, inside, place.0)))
+    ∙ eqb-true _ _ (not-false _ (place.2 k inside))
+
+-- and that byte
+pub found_letter : (group : List ℕ) (at : ℕ) → position is_escaped group ≡ Some at
+    → escape_letter (slice_index group at) ≢ 0
+found_letter group at found = eqb-false _ _ (not-true _ (position-Some is_escaped group at 0 found).1)
 
 -- a group that was copied
 pub copied_group : (text room : List ℕ) → 16 ≤ length text

@@ -1,9 +1,11 @@
 //! Texts and bytes as they stand in a line.
 
 ghost use Rattle.std.specs.Prelude.{◌≡◌, ◌≢◌, ◌*◌, ◌<◌, ◌≤◌, position, length, take, slice_index, Some, MatchOption, IfSome, IsNone, IsTrue};
-ghost use Rattle.std.specs.Prelude.{◌==◌, if◌then◌else◌};
+ghost use Rattle.std.specs.Prelude.{◌==◌, if◌then◌else◌, map};
 ghost use Rattle.hex.specs.Hex.{encode_lower, lower_digits};
 ghost use Rattle.page_source.specs.Calls.{Puts};
+ghost use Rattle.page_source.specs.Pages.{AreBytes};
+ghost use Rattle.row_text.specs.calls.Bytes.{halves, half_digit};
 ghost use Rattle.row_text.specs.Values.{IsPlain, is_escaped, escape_letter, escaped_text, quoted, hex_text};
 ghost use Rattle.row_text.specs.Values.{hex_or_empty};
 
@@ -181,8 +183,7 @@ fn width_of(letter: u8) -> usize
     if letter == 0 { 1 } else { 2 }
 }
 
-/// How many bytes at the front of a group stand for themselves. All are looked at, so that a compiler can make it of
-/// many bytes at once.
+/// How many bytes at the front of a group stand for themselves.
 #[inline(always)]
 fn plain_bytes(group: &[u8]) -> usize
     requires { length group.now ≡ 16 }
@@ -190,12 +191,10 @@ fn plain_bytes(group: &[u8]) -> usize
     ensures plain { IsPlain (take result group.now) }
     ensures found { result < 16 → escape_letter (slice_index group.now result) ≢ 0 }
 {
-    let mut first = 16u8;
-    for i in 0..group.len() {
-        let here = if is_special(group[i]) { i as u8 } else { 16 };
-        first = first.min(here);
+    match first_by_bytes(group) {
+        Some(at) => at,
+        None => GROUP,
     }
-    usize::from(first)
 }
 
 /// Copies bytes to the front of the room.
@@ -368,6 +367,7 @@ pub(crate) fn put_quoted<O: ByteSink>(sink: &mut O, text: &[u8]) -> Result<(), F
 }
 
 /// The digit of a number below 16, by comparison, so that a compiler can make it of many numbers at once.
+#[inline(always)]
 fn digit(number: u8) -> u8
     requires { number < 16 }
     ensures { result ≡ slice_index lower_digits number }
@@ -379,15 +379,35 @@ fn digit(number: u8) -> u8
     }
 }
 
-/// Fills the room with the two digits of each byte.
+/// Fills the room with the two halves of each byte.
+fn write_halves(bytes: &[u8], room: &mut [u8])
+    requires { length room.old ≡ 2 * length bytes.now }
+    ensures halves { room.new ≡ halves bytes.now }
+    ensures bytes { AreBytes bytes.now }
+{
+    for i in 0..bytes.len() {
+        room[2 * i] = bytes[i] / 16;
+        room[2 * i + 1] = bytes[i] % 16;
+    }
+}
+
+/// Turns each half of a byte to its digit.
+fn write_digits(room: &mut [u8])
+    ensures { room.new ≡ map half_digit room.old }
+{
+    for i in 0..room.len() {
+        room[i] = digit(room[i] % 16);
+    }
+}
+
+/// Fills the room with the two digits of each byte. All halves come before the first digit, so that a compiler makes
+/// wide vectors of the digits.
 fn write_hex(bytes: &[u8], room: &mut [u8])
     requires { length room.old ≡ 2 * length bytes.now }
     ensures { room.new ≡ encode_lower bytes.now }
 {
-    for i in 0..bytes.len() {
-        room[2 * i] = digit(bytes[i] / 16);
-        room[2 * i + 1] = digit(bytes[i] % 16);
-    }
+    write_halves(bytes, room);
+    write_digits(room);
 }
 
 /// Puts the two digits of each byte.

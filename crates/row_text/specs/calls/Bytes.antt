@@ -1,9 +1,17 @@
 -- Bytes in hexadecimal digits.
-use Rattle.std.specs.Prelude.{◌≡◌, ◌≢◌, ℕ, ◌<◌, Bool, true, false, List, [], ◌∷◌, ◌++◌}
-use Rattle.hex.specs.Hex.{encode_lower}
+use Rattle.std.specs.Prelude.{◌≡◌, ◌≢◌, ℕ, ◌<◌, ◌%◌, slice_index, Bool, true, false, List, [], ◌∷◌, ◌++◌}
+use Rattle.std.specs.List.{range_with_len}
+use Rattle.hex.specs.Hex.{encode_lower, encode_with, lower_digits}
 use Rattle.page_source.specs.Pages.{AreBytes}
 use Rattle.column_values.specs.declared.kind.ColumnType.{ColumnType}
 use Rattle.column_values.specs.declared.kind.ColumnType.TheVariants.{Binary}
+
+-- the two halves of each byte, the high one first; and the digit of a half
+abbrev pub halves : List ℕ → List ℕ
+halves bytes = encode_with (range_with_len 0 16) bytes
+
+abbrev pub half_digit : ℕ → ℕ
+half_digit half = slice_index lower_digits (half % 16)
 
 -- bytes of fixed length
 abbrev pub is_binary : ColumnType → Bool
