@@ -1,7 +1,7 @@
 -- All secondary indexes, one after another, and then the whole answer.
 use Rattle.std.proofs.Common.{◌≡◌, ℕ, ◌+◌, ◌*◌, ◌^◌, ◌<◌, ◌≤◌, min, List, [], ◌∷◌, ◌++◌, length, get_or, drop}
 use Rattle.std.proofs.Common.{Some, None, Ok, Err}
-use Rattle.std.proofs.Common.{refl, sym, ap, ◌∙◌, subst, inl, inr, arith}
+use Rattle.std.proofs.Common.{sym, ap, ◌∙◌, subst, inl, inr, arith}
 use Rattle.std.specs.Prelude.{◌-◌, sum_by}
 use Rattle.std.specs.List.{range_with_len}
 use Rattle.std.proofs.lemmas.Bool.{cases_lt}
@@ -9,13 +9,12 @@ use Rattle.std.proofs.lemmas.List.Sums.{sum_by-append, sum_by-drop_more}
 use Rattle.page_source.specs.Verdict.{AllBelow, Each}
 use Rattle.schema_text.specs.TableDef.{TableDef}
 use Rattle.page_source.specs.declared.objects.PageSource.{Ghosts as FileOf}
-use Rattle.page_source.specs.Calls.{OfFile}
+use Rattle.page_source.specs.Calls.{AsksNoMore, OfFile}
 use Rattle.page_source.specs.Pages.{page_count}
 use Rattle.page_source.proofs.Told.{told1}
 use Rattle.tree_walk.specs.declared.ends.TreeEnds.{TreeEnds}
-use Rattle.table_check.specs.First.{TakesSteps, dump_steps}
+use Rattle.table_check.specs.First.{TakesSteps, AsksAtMost, dump_steps}
 use Rattle.table_check.specs.Taken.{leaves_of}
-use Rattle.schema_text.proofs.FieldLemmas.{range_more}
 use Rattle.table_check.specs.Trees.{index_count}
 use Rattle.cross_index.specs.declared.crossed.CrossStop.{CrossStop}
 use Rattle.cross_index.specs.declared.crossed.CrossStop.TheVariants as stops
@@ -24,19 +23,21 @@ use Rattle.cross_index.specs.Differ.{Difference, Missing, Extra, IndexDiffers, S
 use Rattle.cross_index.specs.Cross.{entries_of}
 use Rattle.cross_index.specs.calls.Compare.{Compares}
 use Rattle.cross_index.specs.calls.Indexes.{ComparesAll}
+use Rattle.cross_index.proofs.KeptSteps.{range_more}
+
+-- the pages that a file was asked for, where the steps have a bound
+pub asks_at_most : {S : Type 0} {g : FileOf S} {old : S} {most : ℕ → ℕ} {steps spent : ℕ} (new : S)
+    → TakesSteps g old most steps spent → AsksNoMore g old new steps spent → AsksAtMost g old new most
+asks_at_most {g = g} {old = old} new takes asked = record {
+  told = told1 (g.content old) (λ file few. omega (arith, asked, few)) takes.told;
+  always = omega (arith, asked, takes.always);
+}
 
 -- the secondary indexes before index j have the keys of the rows, and so many entries
 pub record HaveMatched (file : List ℕ) (table : TableDef) (j entries : ℕ) : Type 0 where
   pub same : AllBelow (SecondaryDiffers file table) (j - 1)
   pub counted : entries ≡ entries_of file table (j - 1)
   pub few : entries ≤ j * 2 ^ 47
-
-pub none_before : (file : List ℕ) (table : TableDef) → HaveMatched file table 1 0
-none_before file table = record {
-  same = λ k below. absurd (omega (arith, below));
-  counted = refl;
-  few = omega arith;
-}
 
 entries_more : (file : List ℕ) (table : TableDef) (j : ℕ) → 1 ≤ j
     → entries_of file table (j + 1 - 1) ≡ entries_of file table (j - 1) + length (entries_in file table j)

@@ -1,5 +1,5 @@
 -- The entries of an index beside the rows in the order of their keys, one by one.
-use Rattle.std.proofs.Common.{◌≡◌, ℕ, ◌+◌, ◌<◌, ◌≤◌, List, [], length, get_or, All, Contains, sym, ap}
+use Rattle.std.proofs.Common.{◌≡◌, ℕ, ◌+◌, ◌<◌, ◌≤◌, List, [], length, get_or, map, All, Contains, sym, ap}
 use Rattle.std.proofs.Common.{◌∙◌}
 use Rattle.std.proofs.Common.{subst, arith, Option, Some, None, Result, Ok, Err}
 use Rattle.std.specs.Ordering.{ordering_reverse}
@@ -7,7 +7,10 @@ use Rattle.std.specs.declared.cmp.Ordering.{Ordering}
 use Rattle.std.specs.declared.cmp.Ordering.TheVariants.{Less, Equal, Greater}
 use Rattle.std.proofs.lemmas.List.{get_or_default, get_or-map, length-map}
 use Rattle.std.proofs.lemmas.List.Elements.{All-contains}
+use Rattle.std.specs.List.{range_with_len}
+use Rattle.std.proofs.lemmas.Simd.{map-map}
 use Rattle.std.proofs.lemmas.List.FromFn.{get_or-map-range_with_len, length-map-range_with_len}
+use Rattle.std.proofs.lemmas.List.FromFn.{take-map-range_with_len}
 use Rattle.page_source.specs.declared.checks.Halt.{Halt}
 use Rattle.page_source.specs.declared.checks.Halt.TheVariants as halts
 use Rattle.page_source.proofs.Members.{filter_contains}
@@ -16,9 +19,9 @@ use Rattle.column_values.specs.Types.{Fields}
 use Rattle.column_values.specs.Order.{Key, key_cmp, IsBelow, AreEqualKeys}
 use Rattle.column_values.proofs.KeyOrder.{key_total, symmetric}
 use Rattle.compact_record.specs.declared.places.Place.{Place}
-use Rattle.compact_record.specs.Reading.{Reading, IsReading, key_of, key_kinds}
+use Rattle.compact_record.specs.Reading.{Reading, IsReading, field_count, cell_at, place_of, places_of, key_of}
+use Rattle.compact_record.specs.Reading.{key_kinds}
 use Rattle.compact_record.specs.Keys.{key_at, LiesBelow}
-use Rattle.compact_record.proofs.KeySteps.{key_is, count_of_places}
 use Rattle.schema_text.specs.TableDef.{TableDef}
 use Rattle.schema_text.specs.IndexFields.{leaf_fields}
 use Rattle.tree_walk.specs.declared.leaves.leaf.Leaf.{Leaf}
@@ -44,6 +47,20 @@ use Rattle.cross_index.proofs.Merge.{in_order_size, in_order_at, place_within, o
 use Rattle.cross_index.proofs.Merge.{least_beside}
 use Rattle.cross_index.proofs.Merge.{same_in_order}
 
+-- a record has a place for each field, and its key is that of the first ones
+pub count_of_places : (page : List ℕ) (origin : ℕ) (fields : Fields)
+    → length (places_of page origin fields) ≡ field_count fields
+unfolding places_of
+count_of_places page origin fields = length-map-range_with_len (place_of page origin fields) 0 (field_count fields)
+
+key_is : (page : List ℕ) (origin : ℕ) (fields : Fields) → fields.keys ≤ length fields.fields
+    → key_at page fields (places_of page origin fields) ≡ key_of page origin fields
+unfolding key_at places_of key_of
+key_is page origin fields few =
+    ap (λ (ps : List Place). map (cell_at page) ps)
+    (take-map-range_with_len (place_of page origin fields) 0 (field_count fields) fields.keys few)
+    ∙ map-map (cell_at page) (place_of page origin fields) (range_with_len 0 fields.keys)
+
 -- the key of a record that was read and ends on its page
 pub read_key : (page : List ℕ) (origin : ℕ) (fields : Fields) (reading : Reading)
     → fields.keys ≤ length fields.fields → IsReading page origin fields reading
@@ -64,9 +81,6 @@ module _ (kinds : List FieldType) (cells : Key) (width : ℕ) (slots order : Lis
   keys_size : length keys ≡ length order
   unfolding kept_keys
   keys_size = length-map-range_with_len (kept_key cells width slots) 0 (length order)
-
-  pub sorted_size : length (in_order keys order) ≡ length order
-  sorted_size = in_order_size kinds keys order is ∙ keys_size
 
   pub order_below : All (λ k. k < length order) order
   order_below k d inside =
@@ -108,17 +122,6 @@ pub record HasMatched (file : List ℕ) (table : TableDef) (i : ℕ) (keys : Lis
     (entries : LiveView) (next : ℕ) : Type 0 where
   pub gives : HasGivenLive (index_in file table i) entries next
   pub matched : AreMatched (entry_kinds table i) (in_order keys order) (entry_keys file table i) next
-
-pub none_matched : (file : List ℕ) (table : TableDef) (i : ℕ) (keys : List Key) (order : List ℕ) (entries : LiveView)
-    → CanCompare file table i entries keys → HasMatched file table i keys order entries 0
-none_matched file table i keys order entries can = record {
-  gives = can.start;
-  matched = record {
-    few = omega arith;
-    other_few = omega arith;
-    each = λ k less. absurd (omega (arith, less));
-  };
-}
 
 -- the rows can be read on
 pub can_give : (file : List ℕ) (table : TableDef) (i : ℕ) (entries start : LiveView) (keys : List Key) (order : List ℕ)

@@ -16,7 +16,7 @@ use Rattle.tree_walk.specs.declared.ends.TreeEnds.{TreeEnds}
 use Rattle.tree_walk.specs.Index.{Index, Row, page_in, rows_on, leaf_pages, leaf_rows, is_live_row}
 use Rattle.tree_walk.specs.Leaf.{IsWalked}
 use Rattle.tree_walk.specs.Walk.{IsEndsOf}
-use Rattle.tree_walk.proofs.LeafFacts.{leaf_facts}
+use Rattle.tree_walk.specs.Laws.{LeavesAreSound}
 use Rattle.table_check.specs.Trees.{index_in, index_count}
 use Rattle.table_check.specs.Values.{live_rows}
 use Rattle.table_check.specs.Live.{LiveView, HasGivenLive}
@@ -95,21 +95,22 @@ few_in_all f (x ∷ xs) few =
     let rest = few_in_all f xs (All-tail (λ x. length (f x) ≤ 32768) x xs few) in
     omega (arith, here, rest, length-append (f x) (flat_map f xs))
 
-few_on : (index : Index) → IsWalked index → All (λ n. length (rows_on index n) ≤ 32768) (leaf_pages index)
-few_on index walked k d below =
+few_on : LeavesAreSound → (index : Index) → IsWalked index
+    → All (λ n. length (rows_on index n) ≤ 32768) (leaf_pages index)
+few_on sound index walked k d below =
     let n = get_or (leaf_pages index) k d in
-    let facts = (leaf_facts index walked).sound k d below in
+    let facts = (sound index walked).sound k d below in
     let size : length (rows_on index n) ≡ length (records_of (page_in index n)) =
     length-map {B = Row} (records_of (page_in index n)) (λ origin. record { page = n; origin = origin }) in
     omega (arith, size, facts.is_chain.counted, facts.header.heap)
 
 -- so an index has fewer than 2 ^ 47 entries
-pub few_entries : (index : Index) (ends : TreeEnds) → IsWalked index → IsEndsOf index ends → ends.leaves < 2 ^ 32
-    → length (live_rows index) ≤ 2 ^ 47
+few_entries : LeavesAreSound → (index : Index) (ends : TreeEnds) → IsWalked index → IsEndsOf index ends
+    → ends.leaves < 2 ^ 32 → length (live_rows index) ≤ 2 ^ 47
 unfolding live_rows
-few_entries index ends walked has few =
+few_entries sound index ends walked has few =
     let pages : length (leaf_pages index) ≤ 4294967296 = omega (arith, has.count, few) in
-    let all = few_in_all (rows_on index) (leaf_pages index) (few_on index walked) in
+    let all = few_in_all (rows_on index) (leaf_pages index) (few_on sound index walked) in
     omega (
       arith,
       pages,
@@ -118,14 +119,14 @@ few_entries index ends walked has few =
       count_by-le-length (is_live_row index) (leaf_rows index),
     )
 
-pub few_counted : TreesAreWalked → (file : List ℕ) (table : TableDef) (i : ℕ) (ends : TreeEnds) (found : Gathered)
-    (result : Result ℕ CrossStop) → i < index_count table → ends.leaves < 2 ^ 32
+pub few_counted : TreesAreWalked → LeavesAreSound → (file : List ℕ) (table : TableDef) (i : ℕ) (ends : TreeEnds)
+    (found : Gathered) (result : Result ℕ CrossStop) → i < index_count table → ends.leaves < 2 ^ 32
     → CanCompareIndex file table i ends found → Compares file table i result
     → IfOk result (λ count. count ≤ 2 ^ 47)
-few_counted law file table i ends found (Ok count) within leaves can compares =
+few_counted law sound file table i ends found (Ok count) within leaves can compares =
     omega (
       arith,
       compares.1,
-      few_entries (index_in file table i) ends (law file table can.valid i within) can.has_ends leaves,
+      few_entries sound (index_in file table i) ends (law file table can.valid i within) can.has_ends leaves,
     )
-few_counted law file table i ends found (Err stop) within leaves can compares = tt
+few_counted law sound file table i ends found (Err stop) within leaves can compares = tt

@@ -1,6 +1,6 @@
 -- The fields of the columns of an entry, one by one.
-use Rattle.std.proofs.Common.{◌≡◌, ℕ, ◌+◌, ◌<◌, Bool, true, false, not, cond, List, [], ◌∷◌, ◌++◌, length, get_or, map}
-use Rattle.std.proofs.Common.{take}
+use Rattle.std.proofs.Common.{◌≡◌, ℕ, zero, suc, ◌+◌, ◌<◌, Bool, true, false, not, cond, List, [], ◌∷◌, ◌++◌}
+use Rattle.std.proofs.Common.{length, get_or, map, take}
 use Rattle.std.proofs.Common.{filter, refl, sym, ap, ◌∙◌, arith, append_assoc}
 use Rattle.std.specs.Prelude.{◌==◌}
 use Rattle.std.specs.List.{list_any}
@@ -11,13 +11,33 @@ use Rattle.std.specs.List.{range_with_len}
 use Rattle.std.proofs.lemmas.Bool.{eqb-true}
 use Rattle.std.proofs.lemmas.Bool.Decides.{nat_tests}
 use Rattle.std.proofs.lemmas.List.Concat.{flat_map-append}
-use Rattle.schema_text.proofs.FieldLemmas.{range_more}
+use Rattle.std.proofs.lemmas.List.FromFn.{get_or-map-range_with_len, length-map-range_with_len}
 use Rattle.std.proofs.lemmas.List.Elements.{All-head, All-tail, All-filter, filter-append}
 use Rattle.schema_text.specs.TableDef.{TableDef, index_at}
 use Rattle.schema_text.specs.IndexFields.{positions_without, field_of_column, clustered_positions}
 use Rattle.schema_text.specs.IndexFields.{fields_of_columns}
-use Rattle.sql_dump.proofs.Cells.{field_at_column}
 use Rattle.cross_index.specs.Entries.{entry_fields, entry_columns, hidden_fields}
+
+-- the fields of columns
+pub field_at_column : (table : TableDef) (at : List ℕ) (c d : ℕ) → at ≡ fields_of_columns table
+    → c < length table.columns → get_or at c d ≡ field_of_column table c
+field_at_column table at c d are within =
+    ap (λ (xs : List ℕ). get_or xs c d) are
+    ∙ get_or-map-range_with_len (field_of_column table) 0 (length table.columns) c c d within (omega arith)
+
+pub length_fields : (table : TableDef) (at : List ℕ) → at ≡ fields_of_columns table → length at ≡ length table.columns
+length_fields table at are =
+    ap length are ∙ length-map-range_with_len (field_of_column table) 0 (length table.columns)
+
+-- a range and one number more
+pub range_more : (a n : ℕ) → range_with_len a (n + 1) ≡ range_with_len a n ++ (a + n) ∷ []
+range_more a zero = ap (λ (k : ℕ). k ∷ []) (let e : a ≡ a + 0 = omega arith in e)
+range_more a (suc n) =
+    let next : suc n + 1 ≡ suc (n + 1) = omega arith in
+    let last : a + 1 + n ≡ a + suc n = omega arith in
+    ap (range_with_len a) next
+    ∙ ap (λ (rest : List ℕ). a ∷ rest)
+    (range_more (a + 1) n ∙ ap (λ (k : ℕ). range_with_len (a + 1) n ++ k ∷ []) last)
 
 module _ (at columns others old now : List ℕ) (n d place : ℕ) (within : n < length columns)
     (is : place ≡ get_or columns n d)

@@ -3,7 +3,7 @@ use Rattle.std.proofs.Common.{◌≡◌, ℕ, ◌+◌, ◌<◌, ◌≤◌, List,
 use Rattle.std.proofs.Common.{sym, ap, ◌∙◌}
 use Rattle.std.proofs.Common.{subst, arith, append_assoc}
 use Rattle.std.specs.Prelude.{sum_by}
-use Rattle.std.proofs.lemmas.List.{append-nil, map_more, take_more, take_all, take-append-drop, get_or_default}
+use Rattle.std.proofs.lemmas.List.{append-nil, map_more, take_more, take-append-drop, get_or_default}
 use Rattle.std.proofs.lemmas.List.Sums.{sum_by-append}
 use Rattle.column_values.specs.Order.{Key}
 use Rattle.compact_record.specs.declared.places.Place.{Place}
@@ -69,13 +69,3 @@ module _ (file page : List ℕ) (places : List Place) (kept : List ℕ) (n d : �
         ∙ sym (map_more f kept n 0 within));
     used = omega (arith, so.used, pages_more, used);
   }
-
--- all were added
-pub row_all : (file page : List ℕ) (places : List Place) (kept : List ℕ) (old now : Key) (most left n : ℕ)
-    → RowSoFar file page places kept old now most left n → length kept ≤ n
-    → (now ≡ old ++ cells_of file page places kept) × (left + pages_of_fields file page places kept ≡ most)
-row_all file page places kept old now most left n so past =
-    let all = take_all n kept past in (
-      subst (λ (list : List ℕ). now ≡ old ++ cells_of file page places list) all so.grown,
-      subst (λ (list : List ℕ). left + pages_of_fields file page places list ≡ most) all so.used,
-    )

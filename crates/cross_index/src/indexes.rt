@@ -21,7 +21,7 @@ use std::sync::ledger::Ledger;
 use table_check::laws::{live_rows_rise, trees_are_walked};
 use table_check::{EndsList, LiveRows};
 use tree_walk::TreeEnds;
-use tree_walk::laws::rows_can_be_read;
+use tree_walk::laws::{leaves_are_sound, rows_can_be_read};
 
 /// A number of this type, as that of a tree's leaves, is below 2^32.
 fn has_32_bits(number: u32)
@@ -53,6 +53,7 @@ fn compare_index<S: PageSource, L: Ledger>(
     live_rows_rise();
     rows_can_be_read();
     trees_are_walked();
+    leaves_are_sound();
     has_32_bits(ends.leaves);
     let _ = schema.indexes();
     let fields = schema.fields(alloc, index, true)?;

@@ -1,6 +1,6 @@
 -- The used pages of an extent, by the bits of its descriptor.
 use Rattle.std.proofs.Common.{◌≡◌, ℕ, zero, suc, ◌+◌, ◌-◌, ◌*◌, ◌/◌, ◌%◌, ◌^◌, ◌<◌, ◌≤◌, ◌↔◌, IsTrue, Bool, true, false}
-use Rattle.std.proofs.Common.{cond, nat_lt, List, ◌∷◌, length, get_or, All, Contains, filter, refl, sym, ◌∙◌, ap, inl}
+use Rattle.std.proofs.Common.{cond, eqb, nat_lt, List, ◌∷◌, length, get_or, All, Contains, filter, refl, sym, ◌∙◌, ap, inl}
 use Rattle.std.proofs.Common.{inr, arith}
 use Rattle.std.specs.List.{range_with_len}
 use Rattle.std.specs.Int.RustNames.{count_ones}
@@ -15,6 +15,7 @@ use Rattle.extent_map.specs.declared.extent.Extent.{Extent}
 use Rattle.extent_map.specs.Extents.{is_bit_clear, used_mask, extent_at, extent_of, extent_count, descriptor_page}
 use Rattle.extent_map.specs.Extents.{descriptor_byte, is_used, IsUsed, extent_pages, used_in, used_count, IsDescribed}
 use Rattle.extent_map.specs.Descriptors.{FitsUse}
+use Rattle.extent_map.specs.Laws.{BitsAreUsedPages}
 use Rattle.std.proofs.Math.Nat.{pow-succ'}
 use Rattle.extent_map.proofs.Masks.{bit, mask, mask_sum, mask_same, mask_is_list, mask_below, below_mask, mask_full}
 use Rattle.extent_map.proofs.Masks.{mask_bit, bit_set}
@@ -39,6 +40,19 @@ used_is_bit file e j below inside =
     let place : (64 * e + j) % 64 ≡ j = omega arith in
     let limit : 64 * e + j < limit_of file = omega arith in
     rw (below_test (64 * e + j) (limit_of file) limit, extent, place) refl
+
+-- a test by its bit
+bit_test : (b : Bool) (n : ℕ) → n ≡ bit b → b ≡ eqb n 1
+bit_test true n is = sym (ap (λ (k : ℕ). eqb k 1) is)
+bit_test false n is = sym (ap (λ (k : ℕ). eqb k 1) is)
+
+pub bits_are_used : BitsAreUsedPages
+bits_are_used file e j below inside =
+    let x = extent_of file e in
+    let number : x.used ≡ mask (use_of file e) 64 = used_is_mask file e x record { same = refl; below = below } in
+    used_is_bit file e j below inside
+    ∙ bit_test (use_of file e j) (x.used / 2 ^ j % 2)
+    (ap (λ (n : ℕ). n / 2 ^ j % 2) number ∙ mask_bit (use_of file e) 64 j inside)
 
 -- the pages of an extent that pass a test, counted
 none_pass : (q : ℕ → Bool) (a n : ℕ) → ((j : ℕ) → j < n → q (a + j) ≡ false)

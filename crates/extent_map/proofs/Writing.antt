@@ -8,12 +8,15 @@ use Rattle.std.proofs.lemmas.List.FromFn.{length-map-range_with_len, get_or-map-
 use Rattle.page_source.specs.Pages.{num, be_bytes, with_bytes}
 use Rattle.page_source.proofs.Written.{get_or-with_bytes_before, get_or-with_bytes_at, num_from_bytes, with_bytes-next}
 use Rattle.page_source.proofs.Written.{length-with_bytes}
+use Rattle.page_source.proofs.Numbers.{num-with_bytes}
 use Rattle.space_header.specs.declared.address.Node.{Node}
 use Rattle.space_header.specs.Header.{address_at, node_at}
 use Rattle.space_header.specs.Writing.{node_bytes, address_bytes}
 use Rattle.extent_map.specs.declared.extent.Extent.{Extent}
 use Rattle.extent_map.specs.Extents.{is_bit_clear, used_mask, extent_at}
-use Rattle.extent_map.specs.Writing.{bitmap_byte, bitmap_bytes, extent_bytes}
+use Rattle.space_header.specs.Laws.{WrittenFieldsAreRead}
+use Rattle.extent_map.specs.Writing.{FitsExtent, bitmap_byte, bitmap_bytes, extent_bytes}
+use Rattle.extent_map.specs.Laws.{WrittenExtentsAreRead}
 use Rattle.extent_map.proofs.Masks.{bit, mask, mask_same, mask_sum}
 
 -- a part of a quotient by a power of 2
@@ -178,3 +181,16 @@ extent_read page at x inside fits id node state =
     ∙ node_before one (at + 20) (be_bytes 4 x.state) (at + 8) (omega (arith, one_size)) (omega arith) ∙ node)
     (num_before two (at + 24) last (at + 20) 4 (omega (arith, two_size)) (omega arith) ∙ state)
     (used_read two (at + 24) x.used (omega (arith, two_size)) fits)
+
+pub extent_back : WrittenFieldsAreRead → WrittenExtentsAreRead
+extent_back fields page at x inside fits =
+    let first = with_bytes page at (be_bytes 8 x.id) in
+    let first_size : length first ≡ length page = length-with_bytes page at (be_bytes 8 x.id) (omega arith) in
+    let second = with_bytes first (at + 8) (node_bytes x.node) in
+    let second_size : length second ≡ length first =
+    length-with_bytes first (at + 8) (node_bytes x.node) (omega (arith, node_size x.node, first_size)) in
+    ap (λ (p : List ℕ). extent_at p at) (sym (extent_written page at x inside))
+    ∙ extent_read first at x (omega (arith, first_size)) fits.used
+    (num-with_bytes page at 8 x.id (omega arith) fits.id)
+    (fields.node first (at + 8) x.node (omega (arith, first_size)) fits.node)
+    (num-with_bytes second (at + 20) 4 x.state (omega (arith, first_size, second_size)) fits.state)

@@ -1,7 +1,10 @@
 //! Laws of the definitions.
 
 ghost use Rattle.extent_map.specs.Laws.{DescriptorChecksAreSound, FlagsAreFragmentPages};
-ghost use Rattle.extent_map.specs.Laws.{HeadChecksAreSound, UsedPagesAreOfExtents};
+ghost use Rattle.extent_map.specs.Laws.{HeadChecksAreSound, UsedPagesAreOfExtents, BitsAreUsedPages};
+ghost use Rattle.extent_map.specs.Laws.{WrittenExtentsAreRead};
+
+use space_header::laws::written_fields_are_read;
 
 /// The checks of the head find nothing exactly where it is that of a tablespace with these flags.
 pub fn head_checks_are_sound()
@@ -22,3 +25,15 @@ pub fn used_pages_are_of_extents()
 pub fn flags_are_fragment_pages()
     ensures { FlagsAreFragmentPages }
 {}
+
+/// The bits of a descriptor's number say which pages of its extent are used.
+pub fn bits_are_used_pages()
+    ensures { BitsAreUsedPages }
+{}
+
+/// A descriptor that was written is read again.
+pub fn written_extents_are_read()
+    ensures { WrittenExtentsAreRead }
+{
+    written_fields_are_read();
+}

@@ -1,9 +1,15 @@
-//! What the entries of the tables are. Table 0 goes by the bits, each further one by table 0 and the
-//! table before it.
+//! What a sealed page is, and what the entries of the tables are. Table 0 goes by the bits, each further one by table
+//! 0 and the table before it.
 
+ghost use Rattle.fil_frame.specs.Laws.{SealedPagesAreWhole};
 ghost use Rattle.fil_frame.specs.Tables.{IsTable};
 
 use crate::tables::{TABLE_0, TABLE_1, TABLE_2, TABLE_3, TABLE_4, TABLE_5, TABLE_6, TABLE_7};
+
+/// A sealed page is whole, and its frame is right.
+pub fn sealed_pages_are_whole()
+    ensures { SealedPagesAreWhole }
+{}
 
 /// The states after a byte.
 pub fn table_0()

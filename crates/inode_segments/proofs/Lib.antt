@@ -1,4 +1,5 @@
 pub mod Writing
+pub mod Written
 pub mod Used
 pub mod Checked
 pub mod Alongs

@@ -1,7 +1,7 @@
 -- The bytes of an inode (fsp0fsp).
-use Rattle.std.specs.Prelude.{ℕ, List, ◌++◌, flat_map}
+use Rattle.std.specs.Prelude.{◌≡◌, ℕ, ◌<◌, ◌^◌, List, ◌++◌, length, flat_map, All}
 use Rattle.page_source.specs.Pages.{be_bytes}
-use Rattle.space_header.specs.Writing.{base_bytes}
+use Rattle.space_header.specs.Writing.{FitsBase, base_bytes}
 use Rattle.inode_segments.specs.declared.inode.Inode.{Inode}
 
 -- the bytes of fragment slots, four each
@@ -13,3 +13,14 @@ unfoldable pub inode_bytes : Inode → List ℕ
 inode_bytes inode =
     be_bytes 8 inode.id ++ be_bytes 4 inode.not_full_used ++ base_bytes inode.free ++ base_bytes inode.not_full
     ++ base_bytes inode.full ++ be_bytes 4 inode.magic ++ slots_bytes inode.slots
+
+-- the numbers of an inode fit the bytes of their fields
+pub record FitsInode (inode : Inode) : Type 0 where
+  pub id : inode.id < 2 ^ 64
+  pub used : inode.not_full_used < 2 ^ 32
+  pub free : FitsBase inode.free
+  pub not_full : FitsBase inode.not_full
+  pub full : FitsBase inode.full
+  pub magic : inode.magic < 2 ^ 32
+  pub count : length inode.slots ≡ 32
+  pub slots : All (λ slot. slot < 2 ^ 32) inode.slots

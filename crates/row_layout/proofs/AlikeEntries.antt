@@ -1,13 +1,27 @@
 -- Numbers of pages change no lengths.
-use Rattle.std.proofs.Common.{true, false, ◌==◌, cond, length}
+use Rattle.std.proofs.Common.{true, false, ◌==◌, cond, List, [], ◌∷◌, length, refl}
 use Rattle.std.specs.List.{AllZip}
-use Rattle.tree_layout.specs.Entries.{AreAlike}
-use Rattle.tree_layout.proofs.Held.{alike_all}
+use Rattle.compact_record.specs.declared.parts.Part.{Part}
+use Rattle.compact_record.specs.declared.parts.Part.TheVariants.{Null, Bytes}
+use Rattle.tree_layout.specs.Entries.{Entry, IsAlike, AreAlike}
 use Rattle.row_layout.specs.StoredRow.{stored_at, part_of_field, parts_of_row}
 use Rattle.row_layout.specs.HoldsValues.{stored_in, clustered_entry, clustered_entries}
 use Rattle.row_layout.specs.SecondaryEntries.{secondary_entries}
 use Rattle.row_layout.specs.EntryLaws.{EntriesAreAlike}
 use Rattle.row_layout.proofs.Short.{part_alike, zip_ranges}
+
+-- entries are like themselves
+alike_part : (part : Part) → IsAlike part part
+alike_part Null = tt
+alike_part (Bytes bytes external) = (refl, refl)
+
+alike_entry : (entry : Entry) → AreAlike entry entry
+alike_entry [] = tt
+alike_entry (part ∷ parts) = (alike_part part, alike_entry parts)
+
+alike_all : (entries : List Entry) → AllZip AreAlike entries entries
+alike_all [] = tt
+alike_all (entry ∷ entries) = (alike_entry entry, alike_all entries)
 
 pub alike_law : EntriesAreAlike
 unfolding clustered_entries parts_of_row

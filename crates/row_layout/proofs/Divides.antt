@@ -14,7 +14,7 @@ use Rattle.schema_text.specs.IndexFields.{leaf_fields, node_fields}
 use Rattle.schema_text.specs.Laws.{ListsAreOfOneIndex}
 use Rattle.tree_layout.specs.Entries.{Entry, EntriesAscend}
 use Rattle.tree_layout.specs.Division.{CanDivide, divided, divided_from, has_room_for}
-use Rattle.tree_layout.specs.DivisionLaws.{PointersAreSmall, RecordsAreSmall}
+use Rattle.tree_layout.specs.DivisionLaws.{PointersAreSmall, RecordsAreSmall, AlikeRecordsHaveOneSize}
 use Rattle.tree_layout.specs.Sorted.{SortingRises}
 use Rattle.row_layout.specs.StoredRow.{Stored}
 use Rattle.row_layout.specs.HoldsValues.{AreFitted, clustered_entries}
@@ -59,7 +59,8 @@ can_divide lists table j entries short rise few =
       few = let pages = pages_few leaf [] entries in omega arith;
     }
 
-module _ (spells : SpellingSpells) (small : PointersAreSmall) (records : RecordsAreSmall) (lists : ListsAreOfOneIndex)
+module _ (spells : SpellingSpells) (small : PointersAreSmall) (records : RecordsAreSmall)
+    (sizes : AlikeRecordsHaveOneSize) (lists : ListsAreOfOneIndex)
     (sorts : SortingRises) (table : TableDef) (rows : List (List Value)) (stored : List (List Stored))
     (number : ℕ → ℕ → ℕ → ℕ) (is : IsTable table) (are : AreFitted table rows stored)
     (few : length rows < 281474976710656) (rise : RowsRise table rows) where
@@ -69,7 +70,7 @@ module _ (spells : SpellingSpells) (small : PointersAreSmall) (records : Records
       let count = entries_count table stored number in
       let same = are.count in
       can_divide lists table 0 (clustered_entries table.format number stored)
-      (rows_short spells small lists table rows stored number is are)
+      (rows_short spells small sizes lists table rows stored number is are)
       (rise_law spells table rows stored number is are few rise) (omega arith)
 
   count_entries : (j : ℕ) → length (row_entries table j rows) ≡ length rows
@@ -101,7 +102,8 @@ module _ (spells : SpellingSpells) (small : PointersAreSmall) (records : Records
       (cond b (clustered_entries table.format number stored) (secondary_entries table (suc j) rows))) (sym other)
       (secondary_divides (suc j) (omega arith) known)
 
-pub divide_law : SpellingSpells → PointersAreSmall → RecordsAreSmall → ListsAreOfOneIndex → SortingRises
+pub divide_law : SpellingSpells → PointersAreSmall → RecordsAreSmall → AlikeRecordsHaveOneSize → ListsAreOfOneIndex
+    → SortingRises
     → EntriesCanDivide
-divide_law spells small records lists sorts table rows stored number j is are few rise known =
-    divides spells small records lists sorts table rows stored number is are few rise j known
+divide_law spells small records sizes lists sorts table rows stored number j is are few rise known =
+    divides spells small records sizes lists sorts table rows stored number is are few rise j known

@@ -23,12 +23,10 @@ use Rattle.schema_text.specs.IndexFields.{roll_pointer_field, leaving_at, other_
 use Rattle.schema_text.specs.Laws.{ListsAreOfOneIndex}
 use Rattle.compact_record.specs.declared.parts.Part.{Part}
 use Rattle.compact_record.specs.declared.parts.Part.TheVariants as parts
-use Rattle.compact_record.specs.Writing.{local_bytes, size_of_record, FitFields, FitsField}
+use Rattle.compact_record.specs.Writing.{local_bytes, value_bytes, size_of_record, FitFields, FitsField}
 use Rattle.tree_layout.specs.Entries.{Entry, IsAlike}
 use Rattle.tree_layout.specs.Division.{FitsAlone, HasSmallPointers}
-use Rattle.tree_layout.specs.DivisionLaws.{PointersAreSmall}
-use Rattle.tree_layout.proofs.Alike.{size_same}
-use Rattle.tree_layout.proofs.PointerSizes.{size_is}
+use Rattle.tree_layout.specs.DivisionLaws.{PointersAreSmall, AlikeRecordsHaveOneSize}
 use Rattle.row_layout.specs.StoredRow.{Stored, stored_at, part_of_field, parts_of_row, off_local, size_of_row}
 use Rattle.row_layout.specs.StoredRow.{kept_prefix, reference_to}
 use Rattle.row_layout.specs.HoldsValues.{AreFitted, stored_in, clustered_entry, clustered_entries}
@@ -72,10 +70,15 @@ zip_ranges R f g from zero each = tt
 zip_ranges R f g from (suc count) each = (each from, zip_ranges R f g (from + 1) count each)
 
 -- each part is no longer than the record
+values_within : (fields : Fields) (entry : Entry)
+    → length (flat_map local_bytes entry) ≤ size_of_record fields entry
+unfolding size_of_record value_bytes
+values_within fields entry = omega arith
+
 pub part_within : (fields : Fields) (entry : Entry) (i : ℕ) → i < length entry
     → length (local_bytes (get_or entry i parts.Null)) ≤ size_of_record fields entry
 part_within fields entry i within =
-    let size = size_is fields entry in
+    let size = values_within fields entry in
     let all = length-flat_map local_bytes entry in
     let here = get_or-le-sum_by (λ part. length (local_bytes part)) entry i parts.Null within in
     omega arith
@@ -106,8 +109,9 @@ unfolding leaf_fields
 key_within table =
     let size = length-append (clustered_key table) (clustered_rest table) in omega arith
 
-module _ (spells : SpellingSpells) (small : PointersAreSmall) (lists : ListsAreOfOneIndex) (table : TableDef)
-    (is : IsTable table) (rows : List (List Value)) (stored : List (List Stored)) (are : AreFitted table rows stored)
+module _ (spells : SpellingSpells) (small : PointersAreSmall) (sizes : AlikeRecordsHaveOneSize)
+    (lists : ListsAreOfOneIndex) (table : TableDef) (is : IsTable table) (rows : List (List Value))
+    (stored : List (List Stored)) (are : AreFitted table rows stored)
     (number : ℕ → ℕ → ℕ → ℕ) (r : ℕ) (within : r < length rows) where
   abbrev entry : Entry
   entry = clustered_entry table.format number stored r
@@ -137,7 +141,7 @@ module _ (spells : SpellingSpells) (small : PointersAreSmall) (lists : ListsAreO
   size_now : size_of_record leaf entry ≡ size_of_row table (stored_in stored r)
   unfolding parts_of_row
   size_now =
-      size_same leaf entry (parts_of_row table.format (λ i. 0) (stored_in stored r))
+      sizes leaf entry (parts_of_row table.format (λ i. 0) (stored_in stored r))
       (zip_ranges IsAlike (λ i. part_of_field table.format (number r i 0) (stored_at (stored_in stored r) i))
       (λ i. part_of_field table.format 0 (stored_at (stored_in stored r) i)) 0 (length (stored_in stored r))
       (λ i. part_alike table.format (number r i 0) 0 (stored_at (stored_in stored r) i)))
@@ -200,9 +204,9 @@ module _ (spells : SpellingSpells) (small : PointersAreSmall) (lists : ListsAreO
   pub short : IsShort leaf (node_fields table 0) entry
   short = record { fit = fits; alone = short_alone leaf entry size_short; pointers = pointers }
 
-pub rows_short : SpellingSpells → PointersAreSmall → ListsAreOfOneIndex → RowsAreShort
+pub rows_short : SpellingSpells → PointersAreSmall → AlikeRecordsHaveOneSize → ListsAreOfOneIndex → RowsAreShort
 unfolding clustered_entries
-rows_short spells small lists table rows stored number is are =
+rows_short spells small sizes lists table rows stored number is are =
     All-from_get_or (IsShort (leaf_fields table 0) (node_fields table 0))
     (clustered_entries table.format number stored) []
     (λ r below.
@@ -212,4 +216,4 @@ rows_short spells small lists table rows stored number is are =
     subst (IsShort (leaf_fields table 0) (node_fields table 0))
     (sym (get_or-map-range_with_len (clustered_entry table.format number stored) 0 (length stored) r r [] (omega arith)
     (omega arith)))
-    (short spells small lists table is rows stored are number r within))
+    (short spells small sizes lists table is rows stored are number r within))

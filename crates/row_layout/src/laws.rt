@@ -9,7 +9,9 @@ ghost use Rattle.row_layout.specs.EntryLaws.{EntriesDiffer, EntriesAreAlike, Ent
 use column_values::laws::spellings_are_unique;
 use offpage_chain::laws::has_one_chain;
 use schema_text::laws::lists_are_of_one_index;
-use tree_layout::laws::{pointers_are_small, records_are_small, sorting_rises};
+use tree_layout::laws::{
+    alike_records_have_one_size, pointers_are_small, records_are_small, sorting_rises,
+};
 use tree_walk::laws::levels_have_the_pages;
 
 /// Of a row that is too long the longest columns that may go do so, until it isn't too long or none may go.
@@ -58,6 +60,7 @@ pub fn rows_are_short()
 {
     spellings_are_unique();
     pointers_are_small();
+    alike_records_have_one_size();
     lists_are_of_one_index();
 }
 
@@ -104,6 +107,7 @@ pub fn entries_can_divide()
     spellings_are_unique();
     pointers_are_small();
     records_are_small();
+    alike_records_have_one_size();
     lists_are_of_one_index();
     sorting_rises();
 }

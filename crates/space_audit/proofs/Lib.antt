@@ -2,6 +2,7 @@ pub mod Fragments
 pub mod AtHome
 pub mod Claims
 pub mod OwnerFacts
+pub mod AllClaims
 pub mod Sound
 pub mod HomeNumbers
 pub mod ListSteps

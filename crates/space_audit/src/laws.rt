@@ -1,6 +1,7 @@
 //! Laws of the definitions.
 
 ghost use Rattle.space_audit.specs.Laws.{AuditIsSoundness, ClaimsArePartition, OwnersAreClaims};
+ghost use Rattle.space_audit.specs.Laws.{FragmentClaimsAreEnough};
 
 use extent_map::laws::{
     descriptor_checks_are_sound, head_checks_are_sound, used_pages_are_of_extents,
@@ -34,5 +35,13 @@ pub fn owners_are_claims()
     head_checks_are_sound();
     descriptor_checks_are_sound();
     inode_checks_are_sound();
+    used_pages_are_of_extents();
+}
+
+/// Where each used page of a fragment extent is claimed once, all claims are a partition, and a segment uses exactly the
+/// used pages that it claims.
+pub fn fragment_claims_are_enough()
+    ensures { FragmentClaimsAreEnough }
+{
     used_pages_are_of_extents();
 }

@@ -22,11 +22,11 @@ use Rattle.space_builder.specs.declared.space.Space.{Space}
 use Rattle.space_builder.specs.declared.plan.PlanStop.TheVariants as plans
 use Rattle.space_builder.specs.build.BadLine.{RootOrderChecks}
 use Rattle.space_builder.specs.build.Build.{AreRowsRead, Builds, BuildsWithCause, LacksHead}
-use Rattle.space_builder.specs.build.Plan.{AreOrders, FindsPlan}
+use Rattle.space_builder.specs.calls.Plan.{AreOrders, FindsPlan}
 use Rattle.space_builder.specs.build.ReadRows.{AreReadRows, FindsRows}
-use Rattle.space_builder.specs.build.Space.{IsSpaceOf, PutsSpace, LeavesSpace}
-use Rattle.space_builder.specs.build.StoredRows.{AreStoredRows}
-use Rattle.space_builder.specs.build.Stops.{stop_of_put, stop_of_plan}
+use Rattle.space_builder.specs.calls.Space.{IsSpaceOf, PutsSpace, LeavesSpace}
+use Rattle.space_builder.specs.calls.StoredRows.{AreStoredRows}
+use Rattle.space_builder.specs.calls.Stops.{stop_of_put, stop_of_plan}
 use Rattle.space_builder.specs.layout.Laws.{CanBuild}
 use Rattle.space_builder.specs.layout.Layout.{Rows, FitsSpace, layout_size, stored_rows}
 

@@ -15,9 +15,9 @@ use Rattle.space_layout.specs.ValuePlaces.{pages_before_row}
 use Rattle.row_layout.specs.StoredRow.{Stored, stored_at, off_bytes}
 use Rattle.row_layout.specs.HoldsValues.{pages_of_stored, stored_in}
 use Rattle.space_builder.specs.layout.ValuePage.{page_counts, value_page_bytes}
-use Rattle.space_builder.specs.build.Picked.{first_page_in}
-use Rattle.space_builder.specs.build.Room.{AreFirstPages, AreKept, KeepsRow, first_page, first_page_behind, first_pages}
-use Rattle.space_builder.specs.build.Room.{row_first_pages, row_pages, row_number, row_counts, number_behind}
+use Rattle.space_builder.specs.calls.Picked.{first_page_in}
+use Rattle.space_builder.specs.calls.Room.{AreFirstPages, AreKept, KeepsRow, first_page, first_page_behind, first_pages}
+use Rattle.space_builder.specs.calls.Room.{row_first_pages, row_pages, row_number, row_counts, number_behind}
 use Rattle.space_builder.proofs.ValuePuts.{row_number_is}
 
 -- lists that begin alike

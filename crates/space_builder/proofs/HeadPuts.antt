@@ -10,7 +10,7 @@ use Rattle.space_layout.specs.HeadPages.{bitmap_page, inode_page}
 use Rattle.space_layout.specs.NumberedPages.{Numbered}
 use Rattle.space_builder.specs.declared.built.PutStop.TheVariants as stops
 use Rattle.space_builder.specs.build.Puts.{PutsPages}
-use Rattle.space_builder.specs.build.Room.{TakesPages}
+use Rattle.space_builder.specs.calls.Room.{TakesPages}
 use Rattle.space_builder.specs.layout.Layout.{system_pages}
 use Rattle.space_builder.proofs.Puts.{ArePut, among_left, among_right, both_put, none_put, one_failed, stopped_behind}
 use Rattle.space_builder.proofs.SpacePuts.{only_member}

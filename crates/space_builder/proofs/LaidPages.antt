@@ -16,9 +16,9 @@ use Rattle.tree_layout.specs.Places.{is_leaf_row, segment_for, place_for}
 use Rattle.tree_layout.specs.PlaceLaws.{StandApart}
 use Rattle.space_builder.specs.declared.tree_plan.TreePlan.{TreePlan}
 use Rattle.space_builder.specs.build.Puts.{numbers_of, CanPutAt}
-use Rattle.space_builder.specs.build.PutLaws.{PutLaws}
-use Rattle.space_builder.specs.build.TreePlan.{width_in, number_in, first_numbers, HasPage, spot_in, packed_at}
-use Rattle.space_builder.specs.build.TreePlan.{laid_pages, IsPlan, HasRoomFor}
+use Rattle.space_builder.specs.calls.PutLaws.{PutLaws}
+use Rattle.space_builder.specs.calls.TreePlan.{width_in, number_in, first_numbers, HasPage, spot_in, packed_at}
+use Rattle.space_builder.specs.calls.TreePlan.{laid_pages, IsPlan, HasRoomFor}
 use Rattle.space_builder.proofs.layout.Laid.{contains_mapped}
 use Rattle.space_builder.proofs.Puts.{HaveOtherNumbers, AreAmong}
 

@@ -21,10 +21,10 @@ use Rattle.space_builder.specs.layout.TreeSpot.{page_at_spot}
 use Rattle.space_builder.specs.declared.built.PutStop.{PutStop}
 use Rattle.space_builder.specs.declared.built.PutStop.TheVariants as stops
 use Rattle.space_builder.specs.build.Puts.{PutsPages}
-use Rattle.space_builder.specs.build.MakesRoom.{MakesRoom}
-use Rattle.space_builder.specs.build.PutLaws.{PutLaws}
-use Rattle.space_builder.specs.build.TreePlan.{fields_in, width_in, number_in, spot_in, laid_pages, BeginsWith, BeginAt}
-use Rattle.space_builder.specs.build.TreePlan.{HasPage, CanPutLevel}
+use Rattle.space_builder.specs.calls.MakesRoom.{MakesRoom}
+use Rattle.space_builder.specs.calls.PutLaws.{PutLaws}
+use Rattle.space_builder.specs.calls.TreePlan.{fields_in, width_in, number_in, spot_in, laid_pages, BeginsWith, BeginAt}
+use Rattle.space_builder.specs.calls.TreePlan.{HasPage, CanPutLevel}
 use Rattle.space_builder.proofs.Puts.{ArePut, none_put, both_put, all_put, memory_behind, stopped_behind}
 use Rattle.space_builder.proofs.Turns.{open_page}
 use Rattle.space_builder.proofs.LaidPages.{laid_page, none_laid, laid_push, laid_among, page_among, page_differs}
@@ -284,9 +284,6 @@ module _ (laws : PutLaws) (plan : TreePlan) (l : ℕ) (entries : List Entry) (ca
       level_put new all put =
           subst (λ pages. ArePut g old new (laid_pages plan l pages)) (sym (all_divided all)) (page_put new put)
 
-      pub level_begins : length entries ≤ k → BeginAt entries (divided fields entries) starts
-      level_begins all = subst (λ pages. BeginAt entries pages starts) (sym (all_divided all)) stands.begins
-
       -- one more entry comes
       module _ (below : k < length entries) where
         abbrev entry : Entry
@@ -376,21 +373,6 @@ module _ (laws : PutLaws) (plan : TreePlan) (l : ℕ) (entries : List Entry) (ca
         -- on either
         abbrev room_here : Bool
         room_here = fits_more packing (size_of_record fields entry)
-
-        pub room_next : (new : T) (next : Packing) (more : List ℕ)
-            → MakesRoom g plan l k room_here now new packing next starts more (Ok tt)
-            → fits_more next (size_of_record fields entry) ≡ true
-        room_next new next more made =
-            elim room_here as (λ room. room_here ≡ room → MakesRoom g plan l k room now new packing next starts more
-            (Ok tt)
-            → fits_more next (size_of_record fields entry) ≡ true) [
-              | true ↦ λ room made.
-                  ap (λ (p : Packing). fits_more p (size_of_record fields entry)) made.packed ∙ room
-              | false ↦ λ room made.
-                  let e : 0 + size_of_record fields entry ≡ size_of_record fields entry = omega arith in
-                  let alone : FitsAlone fields entry = can.alone k [] below in
-                  ap (λ (p : Packing). fits_more p (size_of_record fields entry)) made.packed ∙ rw e alone
-            ] refl made
 
         pub stands_next : (new : T) (next : Packing) (more : List ℕ) (mark : Bool)
             → mark ≡ (not (l == 0) && (k == 0))

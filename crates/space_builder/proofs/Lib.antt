@@ -1,12 +1,13 @@
+pub mod Lists
 pub mod layout
 pub mod building
 pub mod Puts
 pub mod LaidPages
 pub mod LevelRuns
+pub mod Firsts
 pub mod TreeRuns
 pub mod Spots
 pub mod Turns
-pub mod IndexPlans
 pub mod PutSteps
 pub mod ValuePuts
 pub mod ValueSteps

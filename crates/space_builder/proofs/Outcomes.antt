@@ -14,7 +14,7 @@ use Rattle.space_builder.specs.layout.Layout.{Rows, FitsSpace, layout_extents}
 use Rattle.space_builder.specs.build.BadLine.{BadRow, RowChecks, RowsChecks, RootOrderChecks, AreRowsOf, row_lines}
 use Rattle.space_builder.specs.build.BadLine.{line_at}
 use Rattle.space_builder.specs.build.Outcome.{ComesTo, RootsHaveOneAnswer, BuildHasOneOutcome, LeavesStore}
-use Rattle.space_builder.specs.build.Stops.{stop_of_put}
+use Rattle.space_builder.specs.calls.Stops.{stop_of_put}
 
 pub roots_once : RootsHaveOneAnswer
 roots_once table =

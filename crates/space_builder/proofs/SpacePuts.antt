@@ -25,8 +25,8 @@ use Rattle.space_layout.specs.NumberedPages.{Numbered, IsNumbered, numbered_page
 use Rattle.space_builder.specs.layout.Layout.{Rows, segment_sizes, segment_pages, system_pages, layout_size, layout_map}
 use Rattle.space_builder.specs.build.Build.{HoldsLayout, HoldsPart, LacksHead}
 use Rattle.space_builder.specs.build.Puts.{numbers_of, IsHeld, HaveOnePage}
-use Rattle.space_builder.specs.build.Room.{TakesPages}
-use Rattle.space_builder.specs.build.Space.{pages_behind_head}
+use Rattle.space_builder.specs.calls.Room.{TakesPages}
+use Rattle.space_builder.specs.calls.Space.{pages_behind_head}
 use Rattle.space_builder.specs.layout.LowerLaws.{LowerLaws}
 use Rattle.space_builder.specs.layout.Laws.{CanBuild}
 use Rattle.space_builder.proofs.layout.Laid.{numbers}

@@ -13,8 +13,8 @@ use Rattle.row_layout.specs.StoredRow.{Stored}
 use Rattle.space_builder.specs.declared.built.PutStop.{PutStop}
 use Rattle.space_builder.specs.declared.space.Space.{Space}
 use Rattle.space_builder.specs.build.Puts.{HaveOnePage, PutsPages}
-use Rattle.space_builder.specs.build.Room.{TakesPages, TakesValues, HasLeafPages, pages_behind, AreFirstPages}
-use Rattle.space_builder.specs.build.Space.{IsSpaceOf, leaves_of, pages_behind_head}
+use Rattle.space_builder.specs.calls.Room.{TakesPages, TakesValues, HasLeafPages, pages_behind, AreFirstPages}
+use Rattle.space_builder.specs.calls.Space.{IsSpaceOf, leaves_of, pages_behind_head}
 use Rattle.space_builder.specs.layout.Layout.{Rows, tree_counts, segment_sizes, value_counts, value_number, value_total}
 use Rattle.space_builder.specs.layout.Layout.{value_pages, trees_pages}
 use Rattle.space_builder.specs.layout.Layout.{segment_pages, system_pages}

@@ -12,8 +12,8 @@ use Rattle.tree_layout.specs.Places.{is_leaf_row, segment_for, place_for, pages_
 use Rattle.space_builder.specs.declared.tree_pages.TreeSpot.{TreeSpot}
 use Rattle.space_builder.specs.declared.tree_plan.TreePlan.{TreePlan}
 use Rattle.space_builder.specs.build.Puts.{CanPutAt}
-use Rattle.space_builder.specs.build.PutLaws.{PutLaws}
-use Rattle.space_builder.specs.build.TreePlan.{number_in, first_numbers, spot_in, IsPlan, HasPage, HasRoomFor}
+use Rattle.space_builder.specs.calls.PutLaws.{PutLaws}
+use Rattle.space_builder.specs.calls.TreePlan.{number_in, first_numbers, spot_in, IsPlan, HasPage, HasRoomFor}
 use Rattle.space_builder.proofs.layout.Sizes.{size_small}
 use Rattle.space_builder.proofs.Puts.{ArePut}
 use Rattle.space_builder.proofs.LaidPages.{apart, can_put}

@@ -1,11 +1,11 @@
 -- A tree is put level by level: the pointers to the pages of a level are the entries of the next one.
 use Rattle.std.proofs.Common.{◌≡◌, ℕ, zero, suc, ◌+◌, ◌-◌, ◌*◌, ◌^◌, ◌<◌, ◌≤◌, cond, false, List, [], ◌∷◌, ◌++◌}
-use Rattle.std.proofs.Common.{length, map, get_or, take, slice_index, Contains, append_assoc, Ok, Err}
+use Rattle.std.proofs.Common.{length, map, get_or, slice_index, Contains, append_assoc, Ok, Err}
 use Rattle.std.proofs.Common.{sym, ap, ◌∙◌, subst, arith, inl, inr}
 use Rattle.std.specs.List.{All, flat_map, range_with_len}
 use Rattle.std.proofs.lemmas.Bool.{ne_eqb, le-leb}
 use Rattle.std.proofs.lemmas.Simd.{map-map}
-use Rattle.std.proofs.lemmas.List.{append-nil, map-append, take_all, take-append-le, length-take, length-map}
+use Rattle.std.proofs.lemmas.List.{append-nil, map-append, length-map}
 use Rattle.std.proofs.lemmas.List.{get_or-map}
 use Rattle.std.proofs.lemmas.List.Elements.{All-from_get_or, Contains-append_cases}
 use Rattle.page_source.specs.Pages.{be_bytes}
@@ -21,22 +21,22 @@ use Rattle.tree_layout.specs.Division.{Level, divided, tree_levels, level_counts
 use Rattle.tree_layout.specs.Division.{pointers_to, FitsAlone, HasSmallPointers}
 use Rattle.tree_layout.specs.DivisionLaws.{AreTheLevels}
 use Rattle.tree_layout.specs.Levels.{level_at, width_at}
-use Rattle.tree_layout.specs.Steps.{StandOnEachOther, AreOnly}
-use Rattle.tree_layout.proofs.Held.{alike_all, length-counts, count_at}
-use Rattle.tree_layout.proofs.Zips.{zip_length}
-use Rattle.row_layout.proofs.Ranges.{all_map}
+use Rattle.tree_layout.specs.Steps.{AreOnly}
+use Rattle.space_builder.proofs.Lists.{all_map, zip_length}
 use Rattle.space_builder.specs.declared.built.PutStop.{PutStop}
 use Rattle.space_builder.specs.declared.built.PutStop.TheVariants as stops
 use Rattle.space_builder.specs.declared.entries.Pointer.{Pointer}
 use Rattle.space_builder.specs.declared.tree_plan.TreePlan.{TreePlan}
 use Rattle.space_builder.specs.layout.TreePage.{tree_page, pages_of_level}
 use Rattle.space_builder.specs.build.Puts.{numbers_of, PutsPages}
-use Rattle.space_builder.specs.build.PutLaws.{PutLaws}
-use Rattle.space_builder.specs.build.Pointing.{pointing, pointer_at, PointInto}
-use Rattle.space_builder.specs.build.TreePlan.{fields_in, width_in, number_in, first_numbers, HasPage, spot_among}
-use Rattle.space_builder.specs.build.TreePlan.{spot_in, packed_at, laid_pages, pointer_in, tree_pages}
-use Rattle.space_builder.specs.build.TreePlan.{BeginAt, CanPutLevel, CanPutTree}
+use Rattle.space_builder.specs.calls.PutLaws.{PutLaws}
+use Rattle.space_builder.specs.calls.Pointing.{pointing, pointer_at, PointInto}
+use Rattle.space_builder.specs.calls.TreePlan.{fields_in, width_in, number_in, first_numbers, HasPage, spot_among}
+use Rattle.space_builder.specs.calls.TreePlan.{spot_in, packed_at, laid_pages, pointer_in, tree_pages}
+use Rattle.space_builder.specs.calls.TreePlan.{BeginAt, CanPutLevel, CanPutTree}
+use Rattle.space_builder.proofs.layout.Sizes.{length-counts, count_at}
 use Rattle.space_builder.proofs.layout.Laid.{contains_flat, contains_mapped, contains_image}
+use Rattle.space_builder.proofs.Firsts.{stand_at, no_pointer, AreFirsts, AreFilled, leaf_firsts, upper_firsts}
 use Rattle.space_builder.proofs.Puts.{ArePut, HaveOtherNumbers, AreAmong, none_put, both_put, puts_all}
 use Rattle.space_builder.proofs.Puts.{memory_behind, stopped_behind}
 use Rattle.space_builder.proofs.LaidPages.{map_same, number_found, number_high, one_page}
@@ -53,32 +53,6 @@ flat_more f from (suc count) =
     ∙ sym (append_assoc (f from) (flat_map f (range_with_len (from + 1) count)) (f (from + 1 + count)))
     ∙ ap (λ n. (f from ++ flat_map f (range_with_len (from + 1) count)) ++ f n) last
 
--- each level has the pointers to the one below it
-stand_at : (node : Fields) (numbers : ℕ → ℕ → ℕ) (levels : List Level) (level l : ℕ)
-    → StandOnEachOther node numbers level levels → l + 1 < length levels
-    → level_at levels (l + 1) ≡ divided node (pointers_to node.keys (level_at levels l) (numbers (level + l)))
-stand_at node numbers [] level l stands inside = absurd (omega arith)
-stand_at node numbers (pages ∷ []) level l stands inside = absurd (omega arith)
-stand_at node numbers (pages ∷ next ∷ rest) level zero stands inside =
-    let here : level ≡ level + 0 = omega arith in
-    stands.1 ∙ ap (λ n. divided node (pointers_to node.keys pages (numbers n))) here
-stand_at node numbers (pages ∷ next ∷ rest) level (suc l) stands inside =
-    let more : suc l + 1 ≡ suc (l + 1) = omega arith in
-    let here : level + 1 + l ≡ level + suc l = omega arith in
-    ap (level_at (pages ∷ next ∷ rest)) more
-    ∙ stand_at node numbers (next ∷ rest) (level + 1) l stands.2 (omega arith)
-    ∙ ap (λ n. divided node (pointers_to node.keys (level_at (next ∷ rest) l) (numbers n))) here
-
-abbrev no_pointer : Pointer
-no_pointer = record { first = 0; page = 0 }
-
--- the pages of a level begin with the keys of these leaf entries
-pub record AreFirsts (keys : ℕ) (leaves : List Entry) (pages : Level) (firsts : List ℕ) : Type 0 where
-  pub count : length firsts ≡ length pages
-  pub below : (k : ℕ) → k < length pages → slice_index firsts k < length leaves
-  pub key : (k : ℕ) → k < length pages
-      → take keys (entry_at (get_or pages k []) 0) ≡ take keys (entry_at leaves (slice_index firsts k))
-
 -- n is the number of a page below level l
 pub record IsNumberBelow (plan : TreePlan) (levels : List Level) (l n : ℕ) : Type 0 where
   pub m : ℕ
@@ -86,62 +60,6 @@ pub record IsNumberBelow (plan : TreePlan) (levels : List Level) (l n : ℕ) : T
   pub low : m < l
   pub within : k < width_at levels m
   pub number : number_in plan m k ≡ n
-
--- no page is empty
-abbrev AreFilled : Level → Type 0
-AreFilled pages = (k : ℕ) → k < length pages → 0 < length (get_or pages k [])
-
-pub leaf_firsts : (keys : ℕ) (leaves : List Entry) (pages : Level) (starts : List ℕ) → AreFilled pages
-    → BeginAt leaves pages starts → AreFirsts keys leaves pages starts
-leaf_firsts keys leaves pages starts filled begins = record {
-  count = begins.count;
-  below = λ k inside. (begins.each k inside (filled k inside)).0;
-  key = λ k inside. ap (take keys) (begins.each k inside (filled k inside)).1;
-}
-
--- the key of a pointer
-key_of_pointing : (keys : ℕ) (entry : Entry) (n : ℕ) → keys ≤ length entry
-    → take keys (pointer_with keys entry n) ≡ take keys entry
-key_of_pointing keys entry n long =
-    let size = length-take keys entry in
-    take-append-le keys (take keys entry) (Bytes (be_bytes 4 n) false ∷ []) (omega arith)
-    ∙ take_all keys (take keys entry) (omega arith)
-
--- the pages above begin with the keys of the pages below
-pub upper_firsts : (keys : ℕ) (leaves : List Entry) (pointers : List Pointer) (pages : Level) (starts firsts : List ℕ)
-    → ((i : ℕ) → i < length leaves → keys ≤ length (entry_at leaves i)) → AreFilled pages → PointInto leaves pointers
-    → BeginAt (map (pointing keys leaves) pointers) pages starts
-    → firsts ≡ map (λ s. (pointer_at pointers s).first) starts → AreFirsts keys leaves pages firsts
-upper_firsts keys leaves pointers pages starts firsts long filled into begins same =
-    let size = length-map starts (λ s. (pointer_at pointers s).first) in
-    let all = ap length same in
-    let count = begins.count in record {
-      count = omega arith;
-      below = λ k inside. subst (λ n. n < length leaves) (sym (first_is k inside)) (low k inside);
-      key = λ k inside.
-          ap (take keys) (begins.each k inside (filled k inside)).1
-          ∙ ap (take keys) (get_or-map (pointing keys leaves) pointers (slice_index starts k) no_pointer []
-          (inner k inside))
-          ∙ key_of_pointing keys (entry_at leaves (pointer_at pointers (slice_index starts k)).first)
-          (pointer_at pointers (slice_index starts k)).page
-          (long (pointer_at pointers (slice_index starts k)).first (low k inside))
-          ∙ ap (λ n. take keys (entry_at leaves n)) (sym (first_is k inside));
-    }
-  where
-    inner : (k : ℕ) → k < length pages → slice_index starts k < length pointers
-    inner k inside =
-        let size = length-map pointers (pointing keys leaves) in
-        let below = (begins.each k inside (filled k inside)).0 in
-        omega arith
-
-    low : (k : ℕ) → k < length pages → (pointer_at pointers (slice_index starts k)).first < length leaves
-    low k inside = into (slice_index starts k) no_pointer (inner k inside)
-
-    first_is : (k : ℕ) → k < length pages → slice_index firsts k ≡ (pointer_at pointers (slice_index starts k)).first
-    first_is k inside =
-        let count = begins.count in
-        ap (λ xs. slice_index xs k) same
-        ∙ get_or-map (λ s. (pointer_at pointers s).first) starts k 0 0 (omega arith)
 
 -- these are the pointers to the pages of level l, above which the tree goes on
 pub record ArePointers (plan : TreePlan) (leaves : List Entry) (l : ℕ) (firsts : List ℕ) (pointers : List Pointer)
@@ -196,13 +114,10 @@ module _ (laws : PutLaws) (plan : TreePlan) (leaves : List Entry) (can : CanPutT
   only = laws.stand leaf node (number_in plan) leaves can.divide
 
   counted : plan.counts.now ≡ level_counts levels
-  counted = can.counted ∙ laws.counts leaf node (λ l k. 0) (number_in plan) leaves leaves (alike_all leaves)
+  counted = can.counted ∙ laws.counts leaf node (λ l k. 0) (number_in plan) leaves
 
   pub height_is : length plan.counts.now ≡ length levels
   height_is = ap length counted ∙ length-counts levels
-
-  pub few_levels : length plan.counts.now ≤ 51
-  few_levels = let few = the_levels.few in let same = height_is in omega arith
 
   pub some_level : 0 < length plan.counts.now
   some_level = let some = the_levels.are_levels.some in let same = height_is in omega arith
@@ -215,16 +130,6 @@ module _ (laws : PutLaws) (plan : TreePlan) (leaves : List Entry) (can : CanPutT
 
   filled_at : (l : ℕ) → 1 < length levels → l < length levels → AreFilled (level_at levels l)
   filled_at l many inside k within = the_levels.are_levels.filled many l k inside within
-
-  -- the leaves may be put
-  pub leaf_level : CanPutLevel plan 0 leaves
-  leaf_level = record {
-    is_plan = can.is_plan;
-    inside = some_level;
-    fit = can.divide.fit;
-    alone = can.divide.alone;
-    width = let some = the_levels.are_levels.some in ap length (sym only.leaves) ∙ sym (width_is 0 some);
-  }
 
   keys_within : (i : ℕ) → i < length leaves → node.keys ≤ length (entry_at leaves i)
   keys_within i inside =

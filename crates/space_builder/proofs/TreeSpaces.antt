@@ -22,13 +22,13 @@ use Rattle.row_layout.specs.StoredRow.{Stored, stored_at, kept_prefix, going_ove
 use Rattle.space_builder.specs.declared.plan.IndexPages.{IndexPages}
 use Rattle.space_builder.specs.declared.space.Space.{Space}
 use Rattle.space_builder.specs.declared.tree_plan.TreePlan.{TreePlan}
-use Rattle.space_builder.specs.build.Picked.{first_page_in, picked_entries, entry_fields}
-use Rattle.space_builder.specs.build.Room.{TakesPages, AreFirstPages, number_behind}
+use Rattle.space_builder.specs.calls.Picked.{first_page_in, picked_entries, entry_fields}
+use Rattle.space_builder.specs.calls.Room.{TakesPages, AreFirstPages, number_behind}
 use Rattle.space_builder.specs.declared.values.FirstPages.{FirstPages}
-use Rattle.space_builder.specs.build.Space.{IsSpaceOf, IsTreeOf, leaves_of}
-use Rattle.space_builder.specs.build.Order.{IsIndexOrder}
-use Rattle.space_builder.specs.build.StoredRows.{NameSamePages, PicksEntries, SamePagesGiveRecords}
-use Rattle.space_builder.specs.build.TreePlan.{IsPlan, CanPutTree, HasRoomFor, number_in, tree_pages}
+use Rattle.space_builder.specs.calls.Space.{IsSpaceOf, IsTreeOf, leaves_of}
+use Rattle.space_builder.specs.calls.Order.{IsIndexOrder}
+use Rattle.space_builder.specs.calls.StoredRows.{NameSamePages, PicksEntries, SamePagesGiveRecords}
+use Rattle.space_builder.specs.calls.TreePlan.{IsPlan, CanPutTree, HasRoomFor, number_in, tree_pages}
 use Rattle.space_builder.specs.layout.Layout.{Rows, stored_rows, tree_counts, value_counts, segment_sizes, value_number}
 use Rattle.space_builder.specs.layout.Layout.{page_number, index_entries, index_levels, index_pages}
 use Rattle.space_builder.specs.layout.LowerLaws.{LowerLaws}

@@ -11,8 +11,8 @@ use Rattle.space_builder.specs.declared.tree_pages.TreeSpot.{TreeSpot}
 use Rattle.space_builder.specs.declared.tree_plan.TreePlan.{TreePlan}
 use Rattle.space_builder.specs.layout.TreeSpot.{page_at_spot}
 use Rattle.space_builder.specs.build.Puts.{PutsPages}
-use Rattle.space_builder.specs.build.TreePlan.{number_in, spot_in}
-use Rattle.space_builder.specs.build.MakesRoom.{TurnsPage, MakesRoom}
+use Rattle.space_builder.specs.calls.TreePlan.{number_in, spot_in}
+use Rattle.space_builder.specs.calls.MakesRoom.{TurnsPage, MakesRoom}
 
 -- the page that is packed
 abbrev pub open_page : TreePlan → ℕ → Packing → List ℕ → Numbered

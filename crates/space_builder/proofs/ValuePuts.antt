@@ -19,12 +19,12 @@ use Rattle.space_layout.specs.NumberedPages.{Numbered}
 use Rattle.space_layout.specs.ValuePlaces.{row_at, pages_before_row, pages_before_field, value_page_count}
 use Rattle.row_layout.specs.StoredRow.{Stored, stored_at}
 use Rattle.row_layout.specs.HoldsValues.{pages_of_stored, stored_in}
-use Rattle.row_layout.proofs.Ranges.{all_map}
+use Rattle.space_builder.proofs.Lists.{all_map}
 use Rattle.space_builder.specs.declared.built.PutStop.TheVariants as stops
 use Rattle.space_builder.specs.layout.ValuePage.{value_page_bytes, pages_of_bytes, page_counts, pages_of_field}
 use Rattle.space_builder.specs.build.Puts.{numbers_of, IsHeld, PutsPages}
-use Rattle.space_builder.specs.build.Room.{TakesPages, HasLeafPages, gone_bytes, row_counts, row_number}
-use Rattle.space_builder.specs.build.Room.{first_page, number_behind}
+use Rattle.space_builder.specs.calls.Room.{TakesPages, HasLeafPages, gone_bytes, row_counts, row_number}
+use Rattle.space_builder.specs.calls.Room.{first_page, number_behind}
 use Rattle.space_builder.proofs.Puts.{ArePut}
 use Rattle.space_builder.proofs.layout.Chains.{chain_pages_law}
 

@@ -16,9 +16,9 @@ use Rattle.space_builder.specs.declared.built.PutStop.{PutStop}
 use Rattle.space_builder.specs.layout.ValuePage.{page_counts, pages_of_bytes, pages_of_field, pages_of_row}
 use Rattle.space_builder.specs.layout.ValuePage.{pages_of_values}
 use Rattle.space_builder.specs.build.Puts.{HaveOnePage, PutsPages}
-use Rattle.space_builder.specs.build.Room.{TakesPages, HasLeafPages, TakesRow, TakesValues, gone_bytes, row_counts}
-use Rattle.space_builder.specs.build.Room.{row_number, row_pages, first_page}
-use Rattle.space_builder.specs.build.Room.{number_behind, pages_behind}
+use Rattle.space_builder.specs.calls.Room.{TakesPages, HasLeafPages, TakesRow, TakesValues, gone_bytes, row_counts}
+use Rattle.space_builder.specs.calls.Room.{row_number, row_pages, first_page}
+use Rattle.space_builder.specs.calls.Room.{number_behind, pages_behind}
 use Rattle.space_builder.proofs.Puts.{ArePut, none_put, all_put, puts_all}
 use Rattle.space_builder.proofs.PutSteps.{next_put, next_failed, some_next, some_one}
 use Rattle.space_builder.proofs.ValuePuts.{field_pages, field_count_is, count_at, counts_at, row_number_is, takes_still}

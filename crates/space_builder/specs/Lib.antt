@@ -1,2 +1,3 @@
 pub mod layout
+pub mod calls
 pub mod build

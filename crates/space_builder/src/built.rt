@@ -1,7 +1,7 @@
 //! What a build answers.
 
 ghost use Rattle.std.specs.Prelude.{◌≡◌};
-ghost use Rattle.space_builder.specs.build.Stops.{stop_of_read, stop_of_row, stop_of_put, stop_of_plan};
+ghost use Rattle.space_builder.specs.calls.Stops.{stop_of_read, stop_of_row, stop_of_put, stop_of_plan};
 
 use crate::plan::PlanStop;
 use page_source::{Failed, NoMemory};

@@ -3,7 +3,7 @@
 ghost use Rattle.std.specs.Prelude.{◌≡◌, ◌<◌, ◌≤◌, ◌∷◌, ◌++◌, [], IfOk, OnOk, length, slice_index, take};
 ghost use Rattle.row_layout.specs.StoredRow.{kept, kept_prefix, off_local};
 ghost use Rattle.row_layout.specs.HoldsValues.{stored_in, clustered_entry};
-ghost use Rattle.space_builder.specs.build.Picked.{first_page_in, clustered_part};
+ghost use Rattle.space_builder.specs.calls.Picked.{first_page_in, clustered_part};
 
 use crate::entries::{Entries, Leaves};
 use crate::stored::StoredRows;

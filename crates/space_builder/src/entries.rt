@@ -2,7 +2,7 @@
 
 ghost use Rattle.std.specs.Prelude.{◌≡◌, ◌<◌, List, IfOk, length, map, take};
 ghost use Rattle.page_packer.specs.Entries.{Entry, entry_at};
-ghost use Rattle.space_builder.specs.build.Pointing.{pointing, pointer_at, PointInto};
+ghost use Rattle.space_builder.specs.calls.Pointing.{pointing, pointer_at, PointInto};
 
 use compact_record::Parts;
 use page_source::NoMemory;
@@ -56,7 +56,7 @@ pub(crate) struct Pointers<'a, E: Leaves> {
 impl<'a, E: Leaves> Model for Pointers<'a, E> {
     ghost use Rattle.std.specs.Prelude.{List, map};
     ghost use Rattle.page_packer.specs.Entries.{Entry};
-    ghost use Rattle.space_builder.specs.build.Pointing.{pointing, PointInto};
+    ghost use Rattle.space_builder.specs.calls.Pointing.{pointing, PointInto};
 
     ghost Value = { List Entry };
 

@@ -6,7 +6,7 @@ ghost use Rattle.column_values.specs.Types.{field_at};
 ghost use Rattle.schema_text.specs.IndexFields.{leaf_fields};
 ghost use Rattle.row_layout.specs.StoredRow.{kept_prefix, going_over, stored_at, going_length, going_lengths, greatest};
 ghost use Rattle.row_layout.specs.StoredRow.{is_too_long, fitted};
-ghost use Rattle.space_builder.specs.build.RowFields.{local_length, length_length, field_sizes, GoesNext};
+ghost use Rattle.space_builder.specs.calls.RowFields.{local_length, length_length, field_sizes, GoesNext};
 
 use crate::row_fields::RowFields;
 use column_values::{Field, FieldList};

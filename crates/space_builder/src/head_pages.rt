@@ -4,7 +4,7 @@ ghost use Rattle.std.specs.Prelude.{◌≢◌, [], ◌∷◌};
 ghost use Rattle.space_layout.specs.HeadPages.{header_page};
 ghost use Rattle.space_builder.specs.layout.Layout.{system_pages};
 ghost use Rattle.space_builder.specs.build.Puts.{PutsPages};
-ghost use Rattle.space_builder.specs.build.Room.{TakesPages};
+ghost use Rattle.space_builder.specs.calls.Room.{TakesPages};
 
 use crate::built::PutStop;
 use page_source::{Page, PageStore};

@@ -6,11 +6,12 @@ ghost use Rattle.space_builder.specs.layout.Laws.{BuildsNoLeftOvers, BuildsValid
 ghost use Rattle.space_builder.specs.layout.LowerLaws.{LowerLaws};
 ghost use Rattle.space_builder.specs.layout.TreeSpot.{PagesArePacked};
 ghost use Rattle.space_builder.specs.layout.ValuePage.{PagesAreOfChains};
-ghost use Rattle.space_builder.specs.build.StoredRows.{PicksEntries, SamePagesGiveRecords};
-ghost use Rattle.space_builder.specs.build.StoredRows.{StoredRowsGiveEntries};
+ghost use Rattle.space_builder.specs.calls.StoredRows.{PicksEntries, SamePagesGiveRecords};
+ghost use Rattle.space_builder.specs.calls.StoredRows.{StoredRowsGiveEntries};
 ghost use Rattle.space_builder.specs.build.Laws.{GoodTextsCanBuild, GoodTextsBuildValid, GoodTextsAreOfRows};
 ghost use Rattle.space_builder.specs.build.Outcome.{RootsHaveOneAnswer, BuildHasOneOutcome};
 
+use fil_frame::laws::sealed_pages_are_whole;
 use offpage_chain::laws::part_pages_are_read;
 use page_packer::laws::{a_page_has_its_numbers, a_page_holds_its_entries, sealing_keeps_the_body};
 use row_layout::laws::{
@@ -20,11 +21,11 @@ use row_layout::laws::{
 use row_text::laws::lines_are_unique;
 use space_layout::laws::{
     file_holds_space, holds_its_segments, holds_sound_space, indexes_have_sizes,
-    numbered_pages_are_held, numbers_differ, values_have_places,
+    numbered_pages_are_found, numbered_pages_are_held, numbers_differ, values_have_places,
 };
 use tree_layout::laws::{
     counts_are_of_sizes, divided_trees_have_rows, division_gives_levels, headers_name_segments,
-    numbers_are_different, sorting_rises,
+    numbers_are_different, pages_fill_places, sorting_rises,
 };
 
 /// What the crates below say of pages, spaces, trees and rows.
@@ -33,18 +34,21 @@ pub(crate) fn laws_below()
 {
     a_page_holds_its_entries();
     a_page_has_its_numbers();
+    sealed_pages_are_whole();
     sealing_keeps_the_body();
     part_pages_are_read();
     indexes_have_sizes();
     numbers_differ();
     values_have_places();
     numbered_pages_are_held();
+    numbered_pages_are_found();
     file_holds_space();
     holds_sound_space();
     holds_its_segments();
     division_gives_levels();
     counts_are_of_sizes();
     numbers_are_different();
+    pages_fill_places();
     headers_name_segments();
     divided_trees_have_rows();
     entries_can_divide();

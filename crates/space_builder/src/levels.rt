@@ -8,12 +8,12 @@ ghost use Rattle.compact_record.specs.Writing.{size_of_record};
 ghost use Rattle.page_packer.specs.Packing.{fits_more};
 ghost use Rattle.tree_layout.specs.Division.{divided};
 ghost use Rattle.space_builder.specs.layout.TreeSpot.{page_at_spot};
-ghost use Rattle.space_builder.specs.build.Pointing.{pointer_at};
-ghost use Rattle.space_builder.specs.build.TreePlan.{IsPlan, HasRoomFor, fields_in, width_in, pointer_in, laid_pages};
-ghost use Rattle.space_builder.specs.build.TreePlan.{BeginAt, CanPutLevel, CanPutTree, tree_pages};
+ghost use Rattle.space_builder.specs.calls.Pointing.{pointer_at};
+ghost use Rattle.space_builder.specs.calls.TreePlan.{IsPlan, HasRoomFor, fields_in, width_in, pointer_in, laid_pages};
+ghost use Rattle.space_builder.specs.calls.TreePlan.{BeginAt, CanPutLevel, CanPutTree, tree_pages};
 ghost use Rattle.space_builder.specs.build.Puts.{CanPutAt, PutsPages};
-ghost use Rattle.space_builder.specs.build.MakesRoom.{HasRoomHere, MakesRoom};
-ghost use Rattle.space_builder.specs.build.PutLaws.{PutLaws};
+ghost use Rattle.space_builder.specs.calls.MakesRoom.{HasRoomHere, MakesRoom};
+ghost use Rattle.space_builder.specs.calls.PutLaws.{PutLaws};
 
 use crate::built::PutStop;
 use crate::entries::{Entries, Leaves, Pointer, Pointers};
@@ -27,7 +27,7 @@ use page_source::{NoMemory, Page, PageStore};
 use space_layout::laws::numbers_differ;
 use std::alloc::Global;
 use tree_layout::laws::{
-    counts_are_of_sizes, division_gives_levels, division_goes_on, levels_stand,
+    counts_need_no_numbers, division_gives_levels, division_goes_on, levels_stand,
     numbers_are_different,
 };
 
@@ -43,7 +43,7 @@ fn put_laws()
     division_goes_on();
     levels_stand();
     division_gives_levels();
-    counts_are_of_sizes();
+    counts_need_no_numbers();
 }
 
 /// Room for one page: its records while it is packed, and its bytes.

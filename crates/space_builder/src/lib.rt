@@ -11,6 +11,7 @@ mod head_pages;
 pub mod laws;
 mod levels;
 mod line_reader;
+mod marks;
 mod next_row;
 mod order;
 mod places;

@@ -2,8 +2,8 @@
 
 ghost use Rattle.std.specs.Prelude.{◌≡◌, ◌≢◌, ℕ, ◌+◌, ◌≤◌, ◌<◌, ◌⊎◌, [], length, take, drop, slice_index, IfOk, IfSome};
 ghost use Rattle.std.specs.Prelude.{OnOk};
-ghost use Rattle.space_builder.specs.build.Lines.{IsFeedPlace, ComeBehind, GrewBehind, IsAtEnd, IsOverlong, FindsLine};
-ghost use Rattle.space_builder.specs.build.Lines.{end_size};
+ghost use Rattle.space_builder.specs.calls.Lines.{IsFeedPlace, ComeBehind, GrewBehind, IsAtEnd, IsOverlong, FindsLine};
+ghost use Rattle.space_builder.specs.calls.Lines.{end_size};
 ghost use Rattle.space_builder.specs.build.ReadRows.{BlamesText};
 
 use crate::built::ReadStop;

@@ -13,8 +13,8 @@ ghost use Rattle.row_text.specs.Line.{FitsColumn, IsTableRow};
 ghost use Rattle.row_layout.specs.StoredRow.{stored_at, stored_value, stored_column, stored_key, stored_row};
 ghost use Rattle.row_layout.specs.HoldsValues.{stored_in};
 ghost use Rattle.space_builder.specs.layout.Layout.{Rows};
-ghost use Rattle.space_builder.specs.build.NextRow.{IsShapeOf, AreWide, HoldsRows, AddsRow, first_cells};
-ghost use Rattle.space_builder.specs.build.NextRow.{IsAfter};
+ghost use Rattle.space_builder.specs.calls.NextRow.{IsShapeOf, AreWide, HoldsRows, AddsRow, first_cells};
+ghost use Rattle.space_builder.specs.calls.NextRow.{IsAfter};
 
 use crate::built::{RowStop, RowsWhy};
 use crate::fitting::{field_at, fit_row};

@@ -10,8 +10,8 @@ ghost use Rattle.schema_text.specs.Grammar.{IsTable};
 ghost use Rattle.schema_text.specs.TableDef.{index_at};
 ghost use Rattle.schema_text.specs.IndexFields.{positions_without, fields_of_columns};
 ghost use Rattle.row_layout.specs.HoldsValues.{stored_in};
-ghost use Rattle.space_builder.specs.build.Picked.{picked_key, entry_fields};
-ghost use Rattle.space_builder.specs.build.Order.{IsKeyOrder, IsIndexOrder};
+ghost use Rattle.space_builder.specs.calls.Picked.{picked_key, entry_fields};
+ghost use Rattle.space_builder.specs.calls.Order.{IsKeyOrder, IsIndexOrder};
 
 use crate::stored::StoredRows;
 use column_values::{Field, FieldList, FieldType, compare};

@@ -7,7 +7,7 @@ ghost use Rattle.tree_layout.specs.Places.{tree_number};
 
 use space_layout::laws::numbers_differ;
 use space_layout::segment_page;
-use tree_layout::laws::numbers_are_different;
+use tree_layout::laws::{numbers_are_different, pages_fill_places};
 
 /// How many pages the levels above one have, by how many each has, from the leaves up.
 pub(crate) fn pages_above(counts: &[u32], l: usize) -> u32
@@ -63,6 +63,7 @@ pub fn tree_number(sizes: &[u32], counts: &[u32], j: usize, l: usize, k: u32) ->
 {
     numbers_differ();
     numbers_are_different();
+    pages_fill_places();
     let segment = segment_for(counts, j, l);
     let place = place_for(counts, l, k);
     segment_page(sizes, segment, place)

@@ -5,9 +5,9 @@ ghost use Rattle.std.specs.Prelude.{sum_by};
 ghost use Rattle.tree_layout.specs.Places.{top_size, leaf_size};
 ghost use Rattle.row_layout.specs.StoredRow.{stored_at};
 ghost use Rattle.row_layout.specs.HoldsValues.{pages_of_stored, stored_in};
-ghost use Rattle.space_builder.specs.build.Order.{IsIndexOrder};
-ghost use Rattle.space_builder.specs.build.Plan.{HaveRows, AreOrders, HasTreeCounts, HasWideLevel, HasValuePages};
-ghost use Rattle.space_builder.specs.build.Plan.{stored_total, FindsPages, FindsPlan};
+ghost use Rattle.space_builder.specs.calls.Order.{IsIndexOrder};
+ghost use Rattle.space_builder.specs.calls.Plan.{HaveRows, AreOrders, HasTreeCounts, HasWideLevel, HasValuePages};
+ghost use Rattle.space_builder.specs.calls.Plan.{stored_total, FindsPages, FindsPlan};
 
 use crate::clustered::{ClusteredEntries, kept_prefix};
 use crate::counts::count_tree;

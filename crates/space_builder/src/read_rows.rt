@@ -2,7 +2,7 @@
 
 ghost use Rattle.std.specs.Prelude.{◌≡◌, ◌+◌, ◌<◌, ◌≤◌, ◌^◌};
 ghost use Rattle.space_builder.specs.build.ReadRows.{ReadsRows, ChecksLine};
-ghost use Rattle.space_builder.specs.build.Stops.{stop_behind};
+ghost use Rattle.space_builder.specs.calls.Stops.{stop_behind};
 
 use crate::built::{BuildStop, RowStop, RowsWhy};
 use crate::line_reader::{LONGEST_LINE, LineReader, NextLine};

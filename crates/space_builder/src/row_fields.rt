@@ -3,9 +3,10 @@
 ghost use Rattle.std.specs.Prelude.{◌≡◌, ◌<◌, ◌≤◌, [], ◌∷◌, ◌++◌, length, false, OnOk};
 ghost use Rattle.row_layout.specs.StoredRow.{stored_at, with_off};
 ghost use Rattle.std.specs.Option.{option_copied};
-ghost use Rattle.space_builder.specs.build.Stored.{AreSpots, spot_at, spot_start, value_of};
+ghost use Rattle.space_builder.specs.calls.Stored.{AreSpots, spot_at, spot_start, value_of};
 
-use crate::stored::{FieldSpot, StoredRows};
+use crate::marks::FieldSpot;
+use crate::stored::StoredRows;
 use page_source::NoMemory;
 use std::alloc::Global;
 use std::marker::Model;
@@ -34,8 +35,8 @@ pub(crate) struct RowFields {
 impl Model for RowFields {
     ghost use Rattle.std.specs.Prelude.{List};
     ghost use Rattle.row_layout.specs.StoredRow.{Stored};
-    ghost use Rattle.space_builder.specs.build.Stored.{row_of};
-    ghost use Rattle.space_builder.specs.build.RowFields.{AreFilled};
+    ghost use Rattle.space_builder.specs.calls.Stored.{row_of};
+    ghost use Rattle.space_builder.specs.calls.RowFields.{AreFilled};
 
     ghost Value = { List Stored };
 
@@ -89,12 +90,21 @@ impl RowFields {
         self.spots.len()
     }
 
+    /// Where field `i` ends, whether it is null, and whether its bytes go off the page.
+    fn spot(&self, i: usize) -> FieldSpot
+        requires { i < length self.now }
+        ensures null { result.null ≡ (stored_at self.now i).null }
+        ensures off { result.off ≡ (stored_at self.now i).off }
+    {
+        self.spots[i]
+    }
+
     /// Whether field `i` is null.
     pub(crate) fn is_null(&self, i: usize) -> bool
         requires { i < length self.now }
         ensures { result ≡ (stored_at self.now i).null }
     {
-        self.spots[i].null
+        self.spot(i).null
     }
 
     /// Whether its bytes go off the page.
@@ -102,7 +112,7 @@ impl RowFields {
         requires { i < length self.now }
         ensures { result ≡ (stored_at self.now i).off }
     {
-        self.spots[i].off
+        self.spot(i).off
     }
 
     /// Its bytes.

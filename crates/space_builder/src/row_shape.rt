@@ -2,7 +2,7 @@
 
 ghost use Rattle.std.specs.Prelude.{◌≡◌, IfOk};
 ghost use Rattle.schema_text.specs.IndexFields.{other_positions};
-ghost use Rattle.space_builder.specs.build.NextRow.{IsShapeOf};
+ghost use Rattle.space_builder.specs.calls.NextRow.{IsShapeOf};
 
 use crate::order::is_among;
 use column_values::FieldList;
@@ -35,7 +35,7 @@ fn other_places(alloc: Global, schema: &Schema) -> Result<Vec<u16>, NoMemory>
 }
 
 impl RowShape {
-    ghost use Rattle.space_builder.specs.build.NextRow.{IsShapeOf};
+    ghost use Rattle.space_builder.specs.calls.NextRow.{IsShapeOf};
 
     /// What the records of the rows of a table have.
     pub(crate) fn of(alloc: Global, schema: &Schema) -> Result<RowShape, NoMemory>

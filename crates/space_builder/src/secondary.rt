@@ -3,7 +3,7 @@
 ghost use Rattle.std.specs.Prelude.{◌≡◌, ◌<◌, ◌≤◌, ◌∷◌, ◌++◌, [], IfOk, OnOk, length, slice_index, take};
 ghost use Rattle.row_layout.specs.StoredRow.{stored_at};
 ghost use Rattle.row_layout.specs.HoldsValues.{stored_in};
-ghost use Rattle.space_builder.specs.build.Picked.{whole_part, picked_entry};
+ghost use Rattle.space_builder.specs.calls.Picked.{whole_part, picked_entry};
 
 use crate::entries::{Entries, Leaves};
 use crate::stored::StoredRows;
@@ -47,7 +47,7 @@ impl SecondaryEntries<'_> {
 }
 
 impl Entries for SecondaryEntries<'_> {
-    ghost use Rattle.space_builder.specs.build.Picked.{picked_entries};
+    ghost use Rattle.space_builder.specs.calls.Picked.{picked_entries};
 
     ghost entries = { λ e. picked_entries e.fields.now e.rows.now e.order.now };
 

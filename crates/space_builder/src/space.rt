@@ -4,9 +4,9 @@ ghost use Rattle.std.specs.Prelude.{◌≡◌, ◌<◌, length};
 ghost use Rattle.page_source.specs.Objects.{IsFresh};
 ghost use Rattle.space_builder.specs.layout.Layout.{index_pages, trees_pages, layout_size};
 ghost use Rattle.space_builder.specs.build.Puts.{PutsPages};
-ghost use Rattle.space_builder.specs.build.Room.{TakesPages};
-ghost use Rattle.space_builder.specs.build.Space.{IsSpace, OfSpace, IsTreeOf, HasFirstPages, PutsSpace};
-ghost use Rattle.space_builder.specs.build.Space.{leaves_of, pages_behind_head};
+ghost use Rattle.space_builder.specs.calls.Room.{TakesPages};
+ghost use Rattle.space_builder.specs.calls.Space.{IsSpace, OfSpace, IsTreeOf, HasFirstPages, PutsSpace};
+ghost use Rattle.space_builder.specs.calls.Space.{leaves_of, pages_behind_head};
 
 use crate::built::PutStop;
 use crate::clustered::ClusteredEntries;

@@ -5,61 +5,13 @@ ghost use Rattle.std.specs.Prelude.{take};
 ghost use Rattle.std.specs.Option.{option_copied};
 ghost use Rattle.row_layout.specs.StoredRow.{stored_at};
 ghost use Rattle.row_layout.specs.HoldsValues.{stored_in};
-ghost use Rattle.space_builder.specs.build.Stored.{AreSpots, row_of, spot_at, spot_start, value_of};
-ghost use Rattle.space_builder.specs.build.Arena.{AreMarked, spot_of, span_of};
+ghost use Rattle.space_builder.specs.calls.Stored.{AreSpots, row_of, spot_at, spot_start, value_of};
+ghost use Rattle.space_builder.specs.calls.Arena.{AreMarked, spot_of, span_of};
 
+use crate::marks::{FieldSpot, Mark, are_marked, end_of, field_start, push_marks};
 use page_source::NoMemory;
 use std::alloc::Global;
 use std::marker::Model;
-
-/// A field of a row that is stored, and where it ends among the bytes of the row. It begins where the one before it
-/// ends.
-#[derive(Clone, Copy, Debug, PartialEq, Eq)]
-pub(crate) struct FieldSpot {
-    /// Whether it has no value.
-    pub(crate) null: bool,
-    /// Whether its bytes go on off the page of the record.
-    pub(crate) off: bool,
-    /// The byte behind its last one.
-    pub(crate) end: usize,
-}
-
-/// The same in four bytes: where it ends, and in the lowest two bits whether it is null and whether it goes off.
-#[derive(Clone, Copy, Debug, PartialEq, Eq)]
-struct Mark {
-    code: u32,
-}
-
-/// No row has so many bytes.
-const MOST: usize = 1_073_741_824;
-
-impl Mark {
-    /// The mark of a field.
-    fn new(spot: FieldSpot) -> Result<Mark, NoMemory>
-        ensures { IfOk result (λ mark. spot_of mark ≡ spot) }
-    {
-        if spot.end >= MOST {
-            return Err(NoMemory);
-        }
-        let null = if spot.null { 2 } else { 0 };
-        let off = if spot.off { 1 } else { 0 };
-        Ok(Mark {
-            code: 4 * spot.end as u32 + null + off,
-        })
-    }
-
-    /// The field.
-    fn spot(self) -> FieldSpot
-        ensures value { result ≡ spot_of self }
-        ensures few { result.end < 1073741824 }
-    {
-        FieldSpot {
-            null: self.code / 2 % 2 == 1,
-            off: self.code % 2 == 1,
-            end: (self.code / 4) as usize,
-        }
-    }
-}
 
 /// Where a row lies: the place of its first byte, by its upper and its lower bits, and of the first of its marks, and
 /// how many it has.
@@ -110,21 +62,6 @@ struct Lists {
 /// Among the marks of so many rows before it those of a row are looked for.
 const RECENT: usize = 8;
 
-/// Whether the marks of these fields stand there.
-fn are_marked(marks: &[Mark], fields: &[FieldSpot], first: usize) -> bool
-    ensures { result ≡ true → AreMarked (map spot_of marks.now) fields.now first }
-{
-    if first > marks.len() || marks.len() - first < fields.len() {
-        return false;
-    }
-    for i in 0..fields.len() {
-        if marks[first + i].spot() != fields[i] {
-            return false;
-        }
-    }
-    true
-}
-
 /// Where the marks of these fields stand, if one of the last rows has them.
 fn recent_marks(marks: &[Mark], spans: &[RowSpan], fields: &[FieldSpot]) -> Option<usize>
     ensures { IfSome result (AreMarked (map spot_of marks.now) fields.now) }
@@ -137,18 +74,6 @@ fn recent_marks(marks: &[Mark], spans: &[RowSpan], fields: &[FieldSpot]) -> Opti
         }
     }
     None
-}
-
-/// Adds the marks of these fields, and answers where they begin.
-fn push_marks(marks: &mut Vec<Mark>, fields: &[FieldSpot]) -> Result<usize, NoMemory>
-    ensures ok { IfOk result (AreMarked (map spot_of marks.new.items) fields.now) }
-    ensures begins { take (length marks.old.items) marks.new.items ≡ marks.old.items }
-{
-    let first = marks.len();
-    for spot in fields {
-        marks.push(Mark::new(*spot)?)?;
-    }
-    Ok(first)
 }
 
 /// Where the marks of these fields stand; adds them if no recent row has them.
@@ -166,27 +91,9 @@ fn marks_for(
     }
 }
 
-/// Where the last field of a row ends.
-fn end_of(fields: &[FieldSpot]) -> usize
-    ensures { result ≡ spot_start fields.now (length fields.now) }
-{
-    match fields.last() {
-        Some(spot) => spot.end,
-        None => 0,
-    }
-}
-
-/// Where field `i` of a row begins.
-fn field_start(marks: &[Mark], i: usize) -> usize
-    requires { i ≤ length marks.now }
-    ensures { result ≡ spot_start (map spot_of marks.now) i }
-{
-    if i == 0 { 0 } else { marks[i - 1].spot().end }
-}
-
 impl Lists {
-    ghost use Rattle.space_builder.specs.build.Arena.{AddsFields, AreRowsIn, Begins, arena_of, bytes_in, span_at};
-    ghost use Rattle.space_builder.specs.build.Arena.{spots_in};
+    ghost use Rattle.space_builder.specs.calls.Arena.{AddsFields, AreRowsIn, Begins, arena_of, bytes_in, span_at};
+    ghost use Rattle.space_builder.specs.calls.Arena.{spots_in};
 
     /// Adds a row; where memory runs out, a part of it may stand there.
     fn add(&mut self, fields: &[FieldSpot], row: &[u8]) -> Result<(), NoMemory>
@@ -274,7 +181,7 @@ pub(crate) struct StoredRows {
 impl Model for StoredRows {
     ghost use Rattle.std.specs.Prelude.{List};
     ghost use Rattle.row_layout.specs.StoredRow.{Stored};
-    ghost use Rattle.space_builder.specs.build.Arena.{AreRowsIn, arena_of, rows_in};
+    ghost use Rattle.space_builder.specs.calls.Arena.{AreRowsIn, arena_of, rows_in};
 
     ghost Value = { List (List Stored) };
 
@@ -322,13 +229,23 @@ impl StoredRows {
         usize::from(self.lists.spans[r].width)
     }
 
+    /// Where field `i` of row `r` ends, whether it has no value, and whether its bytes go off the page of the record.
+    fn spot(&self, r: usize, i: usize) -> FieldSpot
+        requires row { r < length self.now }
+        requires field { i < length (stored_in self.now r) }
+        ensures null { result.null ≡ (stored_at (stored_in self.now r) i).null }
+        ensures off { result.off ≡ (stored_at (stored_in self.now r) i).off }
+    {
+        self.lists.spot(r, i)
+    }
+
     /// Whether field `i` of row `r` has no value.
     pub(crate) fn is_null(&self, r: usize, i: usize) -> bool
         requires row { r < length self.now }
         requires field { i < length (stored_in self.now r) }
         ensures { result ≡ (stored_at (stored_in self.now r) i).null }
     {
-        self.lists.spot(r, i).null
+        self.spot(r, i).null
     }
 
     /// Whether its bytes go on off the page of the record.
@@ -337,7 +254,7 @@ impl StoredRows {
         requires field { i < length (stored_in self.now r) }
         ensures { result ≡ (stored_at (stored_in self.now r) i).off }
     {
-        self.lists.spot(r, i).off
+        self.spot(r, i).off
     }
 
     /// Its bytes.

@@ -2,7 +2,7 @@
 
 ghost use Rattle.std.specs.Prelude.{◌≡◌, ◌<◌};
 ghost use Rattle.tree_walk.specs.TreeChecks.{before, after};
-ghost use Rattle.space_builder.specs.build.TreePlan.{IsPlan, HasPage, fields_in, number_in, numbers_in, spot_in};
+ghost use Rattle.space_builder.specs.calls.TreePlan.{IsPlan, HasPage, fields_in, number_in, numbers_in, spot_in};
 
 use crate::places::tree_number;
 use crate::tree_pages::TreeSpot;
@@ -32,7 +32,7 @@ impl<'a> TreePlan<'a> {
     }
 
     /// The number of page `k` of a level.
-    #[tactic(auto, unfolding(crate::specs::build::TreePlan::number_in))]
+    #[tactic(auto, unfolding(crate::specs::calls::TreePlan::number_in))]
     pub(crate) fn number(&self, level: usize, k: u32) -> u32
         requires plan { IsPlan self.now }
         requires page { HasPage self.now level k }
@@ -71,7 +71,7 @@ impl<'a> TreePlan<'a> {
     }
 
     /// Where page `k` of a level stands.
-    #[tactic(auto, unfolding(crate::specs::build::TreePlan::spot_in))]
+    #[tactic(auto, unfolding(crate::specs::calls::TreePlan::spot_in))]
     pub(crate) fn spot(&self, level: usize, k: u32) -> TreeSpot
         requires plan { IsPlan self.now }
         requires page { HasPage self.now level k }

@@ -9,9 +9,9 @@ ghost use Rattle.row_layout.specs.StoredRow.{kept_prefix, stored_at};
 ghost use Rattle.row_layout.specs.HoldsValues.{stored_in};
 ghost use Rattle.space_builder.specs.layout.ValuePage.{pages_of_bytes};
 ghost use Rattle.space_builder.specs.build.Puts.{PutsPages};
-ghost use Rattle.space_builder.specs.build.Room.{TakesPages, HasLeafPages, gone_bytes, row_counts, row_pages};
-ghost use Rattle.space_builder.specs.build.Room.{first_page, row_first_pages, pages_behind, AreFirstPages};
-ghost use Rattle.space_builder.specs.build.Room.{KeepsRow, TakesRow, TakesValues};
+ghost use Rattle.space_builder.specs.calls.Room.{TakesPages, HasLeafPages, gone_bytes, row_counts, row_pages};
+ghost use Rattle.space_builder.specs.calls.Room.{first_page, row_first_pages, pages_behind, AreFirstPages};
+ghost use Rattle.space_builder.specs.calls.Room.{KeepsRow, TakesRow, TakesValues};
 
 use crate::built::PutStop;
 use crate::stored::StoredRows;

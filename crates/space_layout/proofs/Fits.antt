@@ -1,12 +1,15 @@
 -- The numbers of the header, the descriptors and the inodes fit their fields.
-use Rattle.std.proofs.Common.{ℕ, ◌+◌, ◌-◌, ◌/◌, ◌%◌, ◌^◌, ◌<◌, ◌≤◌, nat_lt, List, length}
+use Rattle.std.proofs.Common.{ℕ, ◌+◌, ◌-◌, ◌/◌, ◌%◌, ◌^◌, ◌<◌, ◌≤◌, List, length}
 use Rattle.std.proofs.Common.{inl, inr, arith, lit<}
+use Rattle.std.proofs.Math.Nat.{pow-le-pow_right}
+use Rattle.std.proofs.lemmas.Nat.{pow_pos}
 use Rattle.std.proofs.lemmas.Bool.{cases_lt, lt-ltb, le-ltb}
 use Rattle.std.proofs.lemmas.Bool.Decides.{eqb_tells}
 use Rattle.std.proofs.lemmas.List.FromFn.{length-map-range_with_len}
 use Rattle.space_header.specs.Header.{extent_address}
 use Rattle.space_header.specs.Writing.{FitsAddress, FitsBase, FitsNode, FitsHeader}
-use Rattle.extent_map.proofs.Masks.{mask_fits}
+use Rattle.extent_map.specs.Writing.{FitsExtent}
+use Rattle.inode_segments.specs.Writing.{FitsInode}
 use Rattle.space_layout.specs.Numbers.{own_of, used_fragments, fragment_extents, extent_start}
 use Rattle.space_layout.specs.Numbers.{size_at, IsShape}
 use Rattle.space_layout.specs.declared.runs.Run.{Run}
@@ -15,8 +18,6 @@ use Rattle.space_layout.specs.Fields.{full_fragments, open_fragments, full_of, o
 use Rattle.space_layout.specs.Fields.{own_descriptor, header, lone_node, slot_of, inode}
 use Rattle.space_layout.proofs.PageNumbers.{extent_counts, own_end, page_high}
 use Rattle.space_layout.proofs.Ranges.{all_from_range}
-use Rattle.space_layout.proofs.Given.{first_bits}
-use Rattle.space_layout.proofs.ReadBack.{FitsExtent, FitsInode}
 
 null_fits : FitsAddress null_address
 null_fits = record { page = lit< tt; offset = lit< tt }
@@ -54,8 +55,8 @@ lone_fits = record { prev = null_fits; next = null_fits }
 
 bits_fit : (count : ℕ) → count ≤ 64 → 2 ^ count - 1 < 2 ^ 64
 bits_fit count few =
-    let p = λ (j : ℕ). nat_lt j count in
-    omega (arith, first_bits 64 count few, mask_fits p 64)
+    let least : 2 ^ count ≤ 2 ^ 64 = pow-le-pow_right (omega arith) few in
+    omega (arith, least, pow_pos count)
 
 described_fits : (id state : ℕ) (run : Run) (count e : ℕ) → id < 256 → state < 256 → count ≤ 64 → e < 256
     → FitsExtent (described id state run count e)

@@ -1,47 +1,51 @@
 -- What is known of an extent from its descriptor, of which the first pages are used.
-use Rattle.std.proofs.Common.{◌≡◌, ℕ, zero, suc, ◌+◌, ◌-◌, ◌*◌, ◌/◌, ◌%◌, ◌^◌, ◌<◌, ◌≤◌, Bool, true, false}
-use Rattle.std.proofs.Common.{nat_lt, List, length, refl, sym, ap, ◌∙◌, arith}
+use Rattle.std.proofs.Common.{◌≡◌, ℕ, zero, suc, ◌+◌, ◌-◌, ◌*◌, ◌/◌, ◌%◌, ◌^◌, ◌<◌, ◌≤◌, ◌==◌, nat_lt}
+use Rattle.std.proofs.Common.{List, length, inl, inr, refl, sym, ap, ◌∙◌, arith}
 use Rattle.std.specs.List.{range_with_len}
-use Rattle.std.proofs.Math.Nat.{pow-succ'}
-use Rattle.std.proofs.lemmas.Bool.{lt-ltb, le-ltb}
+use Rattle.std.proofs.Math.Nat.{pow-succ', div-div-eq-div-mul}
+use Rattle.std.proofs.lemmas.Nat.{pow_pos}
+use Rattle.std.proofs.lemmas.Bool.{cases_lt, lt-ltb, le-ltb}
 use Rattle.std.proofs.lemmas.List.FromFn.{length-range_with_len}
 use Rattle.extent_map.specs.declared.extent.Extent.{Extent}
 use Rattle.extent_map.specs.Extents.{extent_of, extent_count, extent_state, extent_node, extent_pages, is_used, used_in}
 use Rattle.extent_map.specs.Extents.{used_count}
-use Rattle.extent_map.proofs.Masks.{bit, mask, mask_same, mask_bit, below_mask}
-use Rattle.extent_map.proofs.Uses.{use_of, used_is_mask, used_is_bit}
+use Rattle.extent_map.specs.Laws.{BitsAreUsedPages}
 use Rattle.space_layout.specs.declared.runs.Run.{Run}
 use Rattle.space_layout.specs.Runs.{node_of}
 use Rattle.space_layout.specs.Fields.{described}
-use Rattle.space_layout.proofs.Steps.{less_same}
 use Rattle.space_layout.proofs.RunLists.{filter_run}
 
+-- the bits of a number by those of its half
+further : (n j : ℕ) → n / 2 ^ suc j % 2 ≡ n / 2 / 2 ^ j % 2
+further n j =
+    ap (λ (w : ℕ). n / w % 2) (pow-succ' 2 j) ∙ ap (λ (m : ℕ). m % 2) (sym (div-div-eq-div-mul n 2 (2 ^ j)))
+
 -- a number whose lowest bits are set
-pub first_bits : (n c : ℕ) → c ≤ n → mask (λ j. nat_lt j c) n + 1 ≡ 2 ^ c
-unfolding mask
-first_bits n zero l = let none = below_mask (λ j. nat_lt j 0) n 0 (λ j _ _. le-ltb j 0 (omega arith)) in omega arith
-first_bits zero (suc c) l = absurd (omega arith)
-first_bits (suc n) (suc c) l =
-    let first : bit (nat_lt 0 (suc c)) ≡ 1 = ap bit (lt-ltb 0 (suc c) (omega arith)) in
-    let rest : mask (λ j. nat_lt (suc j) (suc c)) n ≡ mask (λ j. nat_lt j c) n =
-    mask_same (λ j. nat_lt (suc j) (suc c)) (λ j. nat_lt j c) n
-    (λ j _. less_same (suc j) (suc c) j c (λ q. omega arith) (λ q. omega arith)) in
-    let before = first_bits n c (omega arith) in
-    omega (arith, first, rest, before, pow-succ' 2 c)
+half_of : (c : ℕ) → (2 ^ suc c - 1) / 2 ≡ 2 ^ c - 1
+half_of c = omega (arith, pow-succ' 2 c, pow_pos c)
 
-same_bit : (a b : Bool) → bit a ≡ bit b → a ≡ b
-same_bit true true e = refl
-same_bit true false e = absurd (omega (arith, e))
-same_bit false true e = absurd (omega (arith, e))
-same_bit false false e = refl
+set_bit : (c j : ℕ) → j < c → (2 ^ c - 1) / 2 ^ j % 2 ≡ 1
+set_bit zero j below = absurd (omega arith)
+set_bit (suc c) zero below = omega (arith, pow-succ' 2 c, pow_pos c)
+set_bit (suc c) (suc j) below =
+    further (2 ^ suc c - 1) j ∙ ap (λ (n : ℕ). n / 2 ^ j % 2) (half_of c) ∙ set_bit c j (omega arith)
 
--- the masks of two tests are the same number only where the tests agree
-mask_tells : (p q : ℕ → Bool) (n : ℕ) → mask p n ≡ mask q n → (j : ℕ) → j < n → p j ≡ q j
-mask_tells p q n e j l =
-    same_bit (p j) (q j) (sym (mask_bit p n j l) ∙ ap (λ (m : ℕ). m / 2 ^ j % 2) e ∙ mask_bit q n j l)
+clear_bit : (c j : ℕ) → c ≤ j → (2 ^ c - 1) / 2 ^ j % 2 ≡ 0
+clear_bit zero zero past = refl
+clear_bit zero (suc j) past = further 0 j ∙ clear_bit zero j (omega arith)
+clear_bit (suc c) zero past = absurd (omega arith)
+clear_bit (suc c) (suc j) past =
+    further (2 ^ suc c - 1) j ∙ ap (λ (n : ℕ). n / 2 ^ j % 2) (half_of c) ∙ clear_bit c j (omega arith)
+
+first_bit : (c j : ℕ) → ((2 ^ c - 1) / 2 ^ j % 2 == 1) ≡ nat_lt j c
+first_bit c j = elim (cases_lt j c) [
+  | inl below ↦ rw (lt-ltb j c below) (ap (λ (n : ℕ). n == 1) (set_bit c j below))
+  | inr past ↦ rw (le-ltb j c past) (ap (λ (n : ℕ). n == 1) (clear_bit c j past))
+]
 
 -- this is the descriptor of extent e, which is a member of this run
 pub record Given (file : List ℕ) (e id state : ℕ) (run : Run) (count : ℕ) : Type 0 where
+  pub bits : BitsAreUsedPages
   pub below : e < extent_count file
   pub same : extent_of file e ≡ described id state run count e
   pub first : run.first ≤ e
@@ -69,11 +73,7 @@ pub given_use : (file : List ℕ) (e id state : ℕ) (run : Run) (count : ℕ) �
     → j < 64 → is_used file (64 * e + j) ≡ nat_lt j count
 unfolding described
 given_use file e id state run count g j small =
-    let whole : mask (use_of file e) 64 ≡ 2 ^ count - 1 =
-    sym (used_is_mask file e (described id state run count e) (record { same = g.same; below = g.below })) in
-    let bits = first_bits 64 count g.few in
-    used_is_bit file e j g.below small
-    ∙ mask_tells (use_of file e) (λ j. nat_lt j count) 64 (whole ∙ omega (arith, bits)) j small
+    g.bits file e j g.below small ∙ ap (λ (x : Extent). x.used / 2 ^ j % 2 == 1) g.same ∙ first_bit count j
 
 pub given_used : (file : List ℕ) (e id state : ℕ) (run : Run) (count : ℕ) → Given file e id state run count → (n : ℕ)
     → n / 64 ≡ e → is_used file n ≡ nat_lt (n % 64) count

@@ -13,18 +13,14 @@ use Rattle.page_source.specs.Sources.{AreWhole}
 use Rattle.page_source.proofs.SparseFiles.{pages_of_file, page_of_file}
 use Rattle.page_source.proofs.Written.{length-with_bytes, get_or-with_bytes_at, get_or-with_bytes_before}
 use Rattle.page_source.proofs.Written.{get_or-with_bytes_after}
-use Rattle.fil_frame.specs.declared.frame.SumKind.TheVariants.{Crc32}
 use Rattle.fil_frame.specs.Kinds.{header_kind, bitmap_kind, inode_kind, blob_kind, index_kind}
-use Rattle.fil_frame.specs.Sums.{page_sum_of}
-use Rattle.fil_frame.specs.Frame.{IsFramed, kind_of, Seals, sealed, with_frame}
-use Rattle.fil_frame.proofs.Sealed.{SealsAs-sealed_as, sealed_as-crc32, length-with_frame}
+use Rattle.fil_frame.specs.Frame.{IsFramed, kind_of, Seals, sealed}
 use Rattle.space_header.specs.declared.header.SpaceHeader.{SpaceHeader}
 use Rattle.space_header.specs.Header.{header_of, node_at}
 use Rattle.space_header.specs.Writing.{with_header, header_bytes, base_bytes, address_bytes, node_bytes}
-use Rattle.space_header.proofs.Fields.{header_read, node_read}
 use Rattle.extent_map.specs.declared.extent.Extent.{Extent}
 use Rattle.extent_map.specs.Extents.{extent_at, extent_of, descriptor_page, descriptor_byte}
-use Rattle.extent_map.specs.Writing.{extent_bytes}
+use Rattle.extent_map.specs.Writing.{FitsExtent, extent_bytes}
 use Rattle.inode_segments.specs.Inodes.{inode_at, inode_byte, is_used_place}
 use Rattle.inode_segments.specs.Writing.{inode_bytes}
 use Rattle.space_layout.specs.Numbers.{extent_start, extents_needed, space_pages, segment_page}
@@ -34,11 +30,12 @@ use Rattle.space_layout.specs.Holds.{IsPage, IsSegmentPage, HoldsHeads, HoldsSpa
 use Rattle.space_layout.specs.HeadPages.{zeros, descriptors, inodes, header_page, bitmap_page, inode_page}
 use Rattle.space_layout.specs.HeadPages.{IsSegmentBytes, HoldsPages}
 use Rattle.space_layout.specs.Laws.{AreHeadPages}
+use Rattle.space_layout.specs.LowerLaws.{PageLaws}
 use Rattle.space_layout.proofs.Ranges.{pieces_same}
 use Rattle.space_layout.proofs.PageNumbers.{own_below, page_high}
 use Rattle.space_layout.proofs.SameBytes.{node_same, extent_same, inode_same, header_same, seal_same}
 use Rattle.space_layout.proofs.SameBytes.{piece_same, pieces_length}
-use Rattle.space_layout.proofs.ReadBack.{FitsExtent, node_size, extent_size, extent_back, inode_size, inode_back}
+use Rattle.space_layout.proofs.Pieces.{node_size, extent_size, inode_size}
 use Rattle.space_layout.proofs.Fits.{header_fits, fragment_fits, own_fits, lone_fits, inode_fits}
 use Rattle.space_layout.proofs.Listed.{descriptors_length, fragment_listed, own_listed}
 
@@ -52,11 +49,10 @@ unfolding zeros
 zero_at k l = get_or-replicate 16384 k 0 0 l
 
 -- a sealed page
-pub sealed_seals : (page : List ℕ) (n kind : ℕ) → length page ≡ 16384 → n < 2 ^ 32 → kind < 2 ^ 16
+sealed_seals : PageLaws → (page : List ℕ) (n kind : ℕ) → length page ≡ 16384 → n < 2 ^ 32 → kind < 2 ^ 16
     → Seals page (sealed page n 1 1 kind) n 1 1 kind
-sealed_seals page n kind size small_n small_kind =
-    subst (λ (new : List ℕ). Seals page new n 1 1 kind) (sealed_as-crc32 page n 1 1 kind size)
-    (SealsAs-sealed_as page n 1 1 kind Crc32 size small_n (lit< tt) (lit< tt) small_kind).seals
+sealed_seals laws page n kind size small_n small_kind =
+    (laws.sealed page n 1 1 kind size small_n (lit< tt) (lit< tt) small_kind).seals
 
 -- the header page before it is sealed
 header_bytes_length : (x : SpaceHeader) → length (header_bytes x) ≡ 104
@@ -88,30 +84,30 @@ header_body_length sizes flags shape =
     length-with_bytes (with_header zeros (header sizes flags)) 150 (flat_map extent_bytes (descriptors sizes))
     (omega (arith, descriptor_bytes_length sizes)) ∙ size
 
-header_seals : (sizes : List ℕ) (flags : ℕ) → IsShape sizes
+header_seals : PageLaws → (sizes : List ℕ) (flags : ℕ) → IsShape sizes
     → Seals (header_body sizes flags) (header_page sizes flags) 0 1 1 header_kind
 unfolding header_page
-header_seals sizes flags shape =
-    sealed_seals (header_body sizes flags) 0 header_kind (header_body_length sizes flags shape) (lit< tt) (lit< tt)
+header_seals laws sizes flags shape =
+    sealed_seals laws (header_body sizes flags) 0 header_kind (header_body_length sizes flags shape) (lit< tt) (lit< tt)
 
 -- its header
-page_header : (sizes : List ℕ) (flags : ℕ) → IsShape sizes → flags < 2 ^ 32
+page_header : PageLaws → (sizes : List ℕ) (flags : ℕ) → IsShape sizes → flags < 2 ^ 32
     → header_of (header_page sizes flags) ≡ header sizes flags
-page_header sizes flags shape small =
+page_header laws sizes flags shape small =
     let base = with_header zeros (header sizes flags) in
     let size = header_length (header sizes flags) in
     header_same (header_page sizes flags) base
     (λ k below. seal_same (header_body sizes flags) (header_page sizes flags) 0 1 1 header_kind
-    (header_seals sizes flags shape) k (omega arith)
+    (header_seals laws sizes flags shape) k (omega arith)
     ∙ get_or-with_bytes_before base 150 (flat_map extent_bytes (descriptors sizes)) (38 + k) 0 (omega arith)
     (omega arith))
-    ∙ header_read zeros (header sizes flags) zeros_length (header_fits sizes flags shape small)
+    ∙ laws.fields.header zeros (header sizes flags) zeros_length (header_fits sizes flags shape small)
 
 -- its descriptors
-page_extent : (sizes : List ℕ) (flags : ℕ) → IsShape sizes → (e : ℕ) (x : Extent) → e < extents_needed sizes
+page_extent : PageLaws → (sizes : List ℕ) (flags : ℕ) → IsShape sizes → (e : ℕ) (x : Extent) → e < extents_needed sizes
     → get_or (descriptors sizes) e x ≡ x → FitsExtent x
     → extent_at (header_page sizes flags) (150 + 40 * e) ≡ x
-page_extent sizes flags shape e x below is fits =
+page_extent laws sizes flags shape e x below is fits =
     let few = shape.fits in
     let base = with_header zeros (header sizes flags) in
     let bytes = flat_map extent_bytes (descriptors sizes) in
@@ -125,14 +121,14 @@ page_extent sizes flags shape e x below is fits =
     let also : 38 + (112 + 40 * e + k) ≡ 150 + (40 * e + k) = omega arith in
     ap (λ (n : ℕ). get_or (header_page sizes flags) n 0) place
     ∙ seal_same (header_body sizes flags) (header_page sizes flags) 0 1 1 header_kind
-    (header_seals sizes flags shape) (112 + 40 * e + k) (omega arith)
+    (header_seals laws sizes flags shape) (112 + 40 * e + k) (omega arith)
     ∙ ap (λ (n : ℕ). get_or (header_body sizes flags) n 0) also
     ∙ get_or-with_bytes_at base 150 bytes (40 * e + k) 0 (omega arith) (omega arith)
     ∙ piece_same extent_bytes 40 extent_size (descriptors sizes) e x (omega arith) k small
     ∙ ap (λ (y : Extent). get_or (extent_bytes y) (0 + k) 0) is
     ∙ ap (λ (n : ℕ). get_or (extent_bytes x) n 0) (omega arith)
     ∙ sym (get_or-with_bytes_at zeros 0 (extent_bytes x) k 0 (omega arith) (omega (arith, extent_size x))))
-    ∙ extent_back zeros 0 x (omega arith) fits
+    ∙ laws.extents zeros 0 x (omega arith) fits
 
 -- the inode page before it is sealed
 abbrev pub node_body : List ℕ
@@ -173,33 +169,33 @@ inode_body_length sizes shape =
     let size = node_body_length in
     length-with_bytes node_body 50 (flat_map inode_bytes (inodes sizes)) (omega (arith, inodes_length sizes)) ∙ size
 
-inode_seals : (sizes : List ℕ) → IsShape sizes → Seals (inode_body sizes) (inode_page sizes) 2 1 1 inode_kind
+inode_seals : PageLaws → (sizes : List ℕ) → IsShape sizes → Seals (inode_body sizes) (inode_page sizes) 2 1 1 inode_kind
 unfolding inode_page
-inode_seals sizes shape =
-    sealed_seals (inode_body sizes) 2 inode_kind (inode_body_length sizes shape) (lit< tt) (lit< tt)
+inode_seals laws sizes shape =
+    sealed_seals laws (inode_body sizes) 2 inode_kind (inode_body_length sizes shape) (lit< tt) (lit< tt)
 
 -- a byte of it behind the frame
-inode_page_byte : (sizes : List ℕ) → IsShape sizes → (k : ℕ) → 38 + k < 16376
+inode_page_byte : PageLaws → (sizes : List ℕ) → IsShape sizes → (k : ℕ) → 38 + k < 16376
     → get_or (inode_page sizes) (38 + k) 0 ≡ get_or (inode_body sizes) (38 + k) 0
-inode_page_byte sizes shape k l =
-    seal_same (inode_body sizes) (inode_page sizes) 2 1 1 inode_kind (inode_seals sizes shape) k l
+inode_page_byte laws sizes shape k l =
+    seal_same (inode_body sizes) (inode_page sizes) 2 1 1 inode_kind (inode_seals laws sizes shape) k l
 
 -- its list node
-page_lone_node : (sizes : List ℕ) → IsShape sizes → node_at (inode_page sizes) 38 ≡ lone_node
-page_lone_node sizes shape =
+page_lone_node : PageLaws → (sizes : List ℕ) → IsShape sizes → node_at (inode_page sizes) 38 ≡ lone_node
+page_lone_node laws sizes shape =
     let size = node_body_length in
     let zero = zeros_length in
     node_same 12 (inode_page sizes) 38 node_body 38
-    (λ k below. inode_page_byte sizes shape k (omega arith)
+    (λ k below. inode_page_byte laws sizes shape k (omega arith)
     ∙ get_or-with_bytes_before node_body 50 (flat_map inode_bytes (inodes sizes)) (38 + k) 0 (omega arith)
     (omega arith))
     0 38 38 refl refl (omega arith)
-    ∙ node_read zeros 38 lone_node (omega arith) lone_fits
+    ∙ laws.fields.node zeros 38 lone_node (omega arith) lone_fits
 
 -- its inodes
-page_inode : (sizes : List ℕ) → IsShape sizes → (s : ℕ) → s < length sizes
+page_inode : PageLaws → (sizes : List ℕ) → IsShape sizes → (s : ℕ) → s < length sizes
     → inode_at (inode_page sizes) (inode_byte s) ≡ inode sizes s
-page_inode sizes shape s sn =
+page_inode laws sizes shape s sn =
     let few = shape.few in
     let size = node_body_length in
     let zero = zeros_length in
@@ -214,7 +210,7 @@ page_inode sizes shape s sn =
     let place : inode_byte s + k ≡ 38 + (12 + 192 * s + k) = omega arith in
     let also : 38 + (12 + 192 * s + k) ≡ 50 + (192 * s + k) = omega arith in
     ap (λ (n : ℕ). get_or (inode_page sizes) n 0) place
-    ∙ inode_page_byte sizes shape (12 + 192 * s + k) (omega arith)
+    ∙ inode_page_byte laws sizes shape (12 + 192 * s + k) (omega arith)
     ∙ ap (λ (n : ℕ). get_or (inode_body sizes) n 0) also
     ∙ get_or-with_bytes_at node_body 50 bytes (192 * s + k) 0 (omega arith) (omega arith)
     ∙ ap (λ (xs : List ℕ). get_or xs (192 * s + k) 0) (inodes_listed sizes)
@@ -224,7 +220,7 @@ page_inode sizes shape s sn =
     ∙ ap (λ (t : ℕ). get_or (bytes_of_inode sizes t) (0 + k) 0) here
     ∙ ap (λ (n : ℕ). get_or (bytes_of_inode sizes s) n 0) (omega arith)
     ∙ sym (get_or-with_bytes_at zeros 0 (bytes_of_inode sizes s) k 0 (omega arith) (omega arith)))
-    ∙ inode_back zeros 0 (inode sizes s) zeros_length (omega arith) (inode_fits sizes shape s sn)
+    ∙ laws.inodes zeros 0 (inode sizes s) zeros_length (omega arith) (inode_fits sizes shape s sn)
 
 num_none : (xs : List ℕ) (at width : ℕ) → ((k : ℕ) → k < width → get_or xs (at + k) 0 ≡ 0) → num xs at width ≡ 0
 unfolding num
@@ -234,9 +230,9 @@ num_none xs at (suc width) h =
     let last = h width (omega arith) in
     omega arith
 
-page_unused : (sizes : List ℕ) → IsShape sizes → (s : ℕ) → length sizes ≤ s → s < 85
+page_unused : PageLaws → (sizes : List ℕ) → IsShape sizes → (s : ℕ) → length sizes ≤ s → s < 85
     → is_used_place (inode_page sizes) s ≡ false
-page_unused sizes shape s low high =
+page_unused laws sizes shape s low high =
     let few = shape.few in
     let size = node_body_length in
     let zero = zeros_length in
@@ -247,7 +243,7 @@ page_unused sizes shape s low high =
     (λ k small.
     let place : inode_byte s + k ≡ 38 + (12 + 192 * s + k) = omega arith in
     ap (λ (n : ℕ). get_or (inode_page sizes) n 0) place
-    ∙ inode_page_byte sizes shape (12 + 192 * s + k) (omega arith)
+    ∙ inode_page_byte laws sizes shape (12 + 192 * s + k) (omega arith)
     ∙ get_or-with_bytes_after node_body 50 (flat_map inode_bytes (inodes sizes)) (38 + (12 + 192 * s + k)) 0
     (omega arith)
     (omega arith)
@@ -273,9 +269,9 @@ sealed_page : (file old new : List ℕ) (n kind : ℕ) → page_of file n ≡ ne
 sealed_page file old new n kind is seals =
     page_by_bytes file new n kind is seals.framed seals.has_kind
 
-bitmap_seals : Seals zeros bitmap_page 1 1 1 bitmap_kind
+bitmap_seals : PageLaws → Seals zeros bitmap_page 1 1 1 bitmap_kind
 unfolding bitmap_page
-bitmap_seals = sealed_seals zeros 1 bitmap_kind zeros_length (lit< tt) (lit< tt)
+bitmap_seals laws = sealed_seals laws zeros 1 bitmap_kind zeros_length (lit< tt) (lit< tt)
 
 extent_there : (file page : List ℕ) (e : ℕ) → page_of file 0 ≡ page → e < 256 → extent_of file e
     ≡ extent_at page (150 + 40 * e)
@@ -285,28 +281,29 @@ extent_there file page e is small =
     let byte : descriptor_byte e ≡ 150 + 40 * e = omega arith in
     rw (first, byte, is) refl
 
-pub heads_held : (file sizes : List ℕ) (flags : ℕ) → IsShape sizes → flags < 2 ^ 32 → HasHeadPages file sizes flags
-    → HoldsHeads file sizes flags
-heads_held file sizes flags shape small h =
+pub heads_held : PageLaws → (file sizes : List ℕ) (flags : ℕ) → IsShape sizes → flags < 2 ^ 32
+    → HasHeadPages file sizes flags → HoldsHeads file sizes flags
+heads_held laws file sizes flags shape small h =
     let fits = shape.fits in
     record {
       head = sealed_page file (header_body sizes flags) (header_page sizes flags) 0 header_kind h.head
-          (header_seals sizes flags shape);
-      has_header = ap header_of h.head ∙ page_header sizes flags shape small;
+          (header_seals laws sizes flags shape);
+      has_header = ap header_of h.head ∙ page_header laws sizes flags shape small;
       fragments = λ e l.
           extent_there file (header_page sizes flags) e h.head (omega arith)
-          ∙ page_extent sizes flags shape e (fragment_descriptor sizes e) (omega arith)
+          ∙ page_extent laws sizes flags shape e (fragment_descriptor sizes e) (omega arith)
           (fragment_listed sizes e (fragment_descriptor sizes e) l) (fragment_fits sizes shape e l);
       own = λ s k sn l.
           let below = own_below sizes s k sn l in
           extent_there file (header_page sizes flags) (extent_start sizes s + k) h.head (omega arith)
-          ∙ page_extent sizes flags shape (extent_start sizes s + k) (own_descriptor sizes s k) below
+          ∙ page_extent laws sizes flags shape (extent_start sizes s + k) (own_descriptor sizes s k) below
           (own_listed sizes s k (own_descriptor sizes s k) sn l) (own_fits sizes shape s k sn l);
-      bitmap = sealed_page file zeros bitmap_page 1 bitmap_kind h.bitmap bitmap_seals;
-      inodes = sealed_page file (inode_body sizes) (inode_page sizes) 2 inode_kind h.inodes (inode_seals sizes shape);
-      node = ap (λ (p : List ℕ). node_at p 38) h.inodes ∙ page_lone_node sizes shape;
-      has_inodes = λ s sn. ap (λ (p : List ℕ). inode_at p (inode_byte s)) h.inodes ∙ page_inode sizes shape s sn;
-      unused = λ k low high. ap (λ (p : List ℕ). is_used_place p k) h.inodes ∙ page_unused sizes shape k low high;
+      bitmap = sealed_page file zeros bitmap_page 1 bitmap_kind h.bitmap (bitmap_seals laws);
+      inodes = sealed_page file (inode_body sizes) (inode_page sizes) 2 inode_kind h.inodes
+          (inode_seals laws sizes shape);
+      node = ap (λ (p : List ℕ). node_at p 38) h.inodes ∙ page_lone_node laws sizes shape;
+      has_inodes = λ s sn. ap (λ (p : List ℕ). inode_at p (inode_byte s)) h.inodes ∙ page_inode laws sizes shape s sn;
+      unused = λ k low high. ap (λ (p : List ℕ). is_used_place p k) h.inodes ∙ page_unused laws sizes shape k low high;
     }
 
 -- a page that the map holds
@@ -324,13 +321,13 @@ segment_page_held file page n is p = elim p.kind [
   | inr blob ↦ inr (page_by_bytes file page n blob_kind is p.framed blob)
 ]
 
-pub file_holds : (held : PageMap) (sizes : List ℕ) (flags : ℕ) → IsShape sizes → flags < 2 ^ 32
+pub file_holds : PageLaws → (held : PageMap) (sizes : List ℕ) (flags : ℕ) → IsShape sizes → flags < 2 ^ 32
     → HoldsPages held sizes flags → HoldsSpace (file_of (space_pages sizes) held) sizes flags
-file_holds held sizes flags shape small h =
+file_holds laws held sizes flags shape small h =
     let pages = space_pages sizes in
     record {
       pages = pages_of_file pages held h.whole;
-      heads = heads_held (file_of pages held) sizes flags shape small (record {
+      heads = heads_held laws (file_of pages held) sizes flags shape small (record {
         head = page_held held pages 0 (header_page sizes flags) h.whole (omega arith) h.head;
         bitmap = page_held held pages 1 bitmap_page h.whole (omega arith) h.bitmap;
         inodes = page_held held pages 2 (inode_page sizes) h.whole (omega arith) h.inodes;
@@ -343,20 +340,16 @@ file_holds held sizes flags shape small h =
     }
 
 -- a sealed page has its length
-pub sealed_length : (page : List ℕ) (n kind : ℕ) → length page ≡ 16384 → length (sealed page n 1 1 kind) ≡ 16384
-unfolding sealed
-sealed_length page n kind size =
-    let framed = with_frame page n 1 1 kind in
-    let sum = be_bytes 4 (page_sum_of framed) in
-    let once = with_bytes framed 0 sum in
-    let framed_size = length-with_frame page n 1 1 kind size in
-    let once_size : length once ≡ 16384 = length-with_bytes framed 0 sum (omega arith) ∙ framed_size in
-    length-with_bytes once 16376 sum (omega arith) ∙ once_size
+sealed_length : PageLaws → (page : List ℕ) (n kind : ℕ) → length page ≡ 16384 → n < 2 ^ 32 → kind < 2 ^ 16
+    → length (sealed page n 1 1 kind) ≡ 16384
+sealed_length laws page n kind size small_n small_kind =
+    (laws.sealed page n 1 1 kind size small_n (lit< tt) (lit< tt) small_kind).whole
 
-pub are_head_pages : (sizes : List ℕ) (flags : ℕ) → IsShape sizes → AreHeadPages sizes flags
+pub are_head_pages : PageLaws → (sizes : List ℕ) (flags : ℕ) → IsShape sizes → AreHeadPages sizes flags
 unfolding header_page bitmap_page inode_page
-are_head_pages sizes flags shape = record {
-  head = sealed_length (header_body sizes flags) 0 header_kind (header_body_length sizes flags shape);
-  bitmap = sealed_length zeros 1 bitmap_kind zeros_length;
-  inodes = sealed_length (inode_body sizes) 2 inode_kind (inode_body_length sizes shape);
+are_head_pages laws sizes flags shape = record {
+  head = sealed_length laws (header_body sizes flags) 0 header_kind (header_body_length sizes flags shape)
+      (lit< tt) (lit< tt);
+  bitmap = sealed_length laws zeros 1 bitmap_kind zeros_length (lit< tt) (lit< tt);
+  inodes = sealed_length laws (inode_body sizes) 2 inode_kind (inode_body_length sizes shape) (lit< tt) (lit< tt);
 }

@@ -23,7 +23,7 @@ use Rattle.space_layout.specs.Numbers.{extents_needed, size_at, IsShape}
 use Rattle.space_layout.specs.declared.runs.Run.{Run}
 use Rattle.space_layout.specs.Runs.{members_of, no_run, base_of, node_of}
 use Rattle.space_layout.specs.Fields.{full_fragments, open_fragments, full_of, open_of, header, inode_place}
-use Rattle.space_layout.specs.Holds.{HoldsHeads}
+use Rattle.space_layout.proofs.Known.{KnownHeads}
 use Rattle.space_layout.proofs.PageNumbers.{extent_counts, extents_none, own_end}
 use Rattle.space_layout.proofs.RunLists.{filter_run, filter_none, run_linked}
 use Rattle.space_layout.proofs.Ranges.{sum_few}
@@ -59,14 +59,14 @@ node_given file e id state run count g =
     )
 
 -- the states of extents
-state_of_fragment : (file sizes : List ℕ) (flags : ℕ) → HoldsHeads file sizes flags → (e : ℕ)
+state_of_fragment : (file sizes : List ℕ) (flags : ℕ) → KnownHeads file sizes flags → (e : ℕ)
     → e < fragment_extents sizes → (extent_state file e ≡ 2) ⊎ (extent_state file e ≡ 3)
 state_of_fragment file sizes flags h e l =
     let f = fragment_given file sizes flags h e l in
     let s = given_state file e 0 f.state f.is.run f.is.count f.is.given in
     elim f.kind [ inl two ↦ inl (s ∙ two) | inr three ↦ inr (s ∙ three) ]
 
-pub state_of_own : (file sizes : List ℕ) (flags : ℕ) → HoldsHeads file sizes flags → (e : ℕ)
+pub state_of_own : (file sizes : List ℕ) (flags : ℕ) → KnownHeads file sizes flags → (e : ℕ)
     → fragment_extents sizes ≤ e
     → e < extents_needed sizes → extent_state file e ≡ 4
 state_of_own file sizes flags h e low high =
@@ -84,7 +84,7 @@ same_state : (file : List ℕ) (e state : ℕ) → extent_state file e ≡ state
 same_state file e state is = eq-eqb (extent_state file e) state is
 
 -- the extents in each state
-none_free : (file sizes : List ℕ) (flags : ℕ) → HoldsHeads file sizes flags → extents_in_state file 1 ≡ []
+none_free : (file sizes : List ℕ) (flags : ℕ) → KnownHeads file sizes flags → extents_in_state file 1 ≡ []
 unfolding extents_in_state
 none_free file sizes flags h =
     let all = extent_total file sizes flags h in
@@ -97,7 +97,7 @@ none_free file sizes flags h =
       | inr o ↦ other_state file e 4 1 (state_of_own file sizes flags h e o (omega arith)) (λ q. absurd (omega arith))
     ])
 
-open_are : (file sizes : List ℕ) (flags : ℕ) → HoldsHeads file sizes flags
+open_are : (file sizes : List ℕ) (flags : ℕ) → KnownHeads file sizes flags
     → extents_in_state file 2 ≡ members_of (open_fragments sizes)
 unfolding extents_in_state
 open_are file sizes flags h =
@@ -117,7 +117,7 @@ open_are file sizes flags h =
           (λ q. absurd (omega arith));
     })
 
-full_are : (file sizes : List ℕ) (flags : ℕ) → HoldsHeads file sizes flags
+full_are : (file sizes : List ℕ) (flags : ℕ) → KnownHeads file sizes flags
     → extents_in_state file 3 ≡ members_of (full_fragments sizes)
 unfolding extents_in_state
 full_are file sizes flags h =
@@ -137,27 +137,27 @@ full_are file sizes flags h =
     })
 
 -- the bases of the header
-free_is : (file sizes : List ℕ) (flags : ℕ) → HoldsHeads file sizes flags → (head_of file).free ≡ base_of no_run
+free_is : (file sizes : List ℕ) (flags : ℕ) → KnownHeads file sizes flags → (head_of file).free ≡ base_of no_run
 unfolding header
-free_is file sizes flags h = ap (λ (x : SpaceHeader). x.free) h.has_header
+free_is file sizes flags h = ap (λ (x : SpaceHeader). x.free) h.held.has_header
 
-free_frag_is : (file sizes : List ℕ) (flags : ℕ) → HoldsHeads file sizes flags
+free_frag_is : (file sizes : List ℕ) (flags : ℕ) → KnownHeads file sizes flags
     → (head_of file).free_frag ≡ base_of (open_fragments sizes)
 unfolding header
-free_frag_is file sizes flags h = ap (λ (x : SpaceHeader). x.free_frag) h.has_header
+free_frag_is file sizes flags h = ap (λ (x : SpaceHeader). x.free_frag) h.held.has_header
 
-full_frag_is : (file sizes : List ℕ) (flags : ℕ) → HoldsHeads file sizes flags
+full_frag_is : (file sizes : List ℕ) (flags : ℕ) → KnownHeads file sizes flags
     → (head_of file).full_frag ≡ base_of (full_fragments sizes)
 unfolding header
-full_frag_is file sizes flags h = ap (λ (x : SpaceHeader). x.full_frag) h.has_header
+full_frag_is file sizes flags h = ap (λ (x : SpaceHeader). x.full_frag) h.held.has_header
 
-frag_used_is : (file sizes : List ℕ) (flags : ℕ) → HoldsHeads file sizes flags
+frag_used_is : (file sizes : List ℕ) (flags : ℕ) → KnownHeads file sizes flags
     → (head_of file).frag_used ≡ used_fragments sizes % 64
 unfolding header
-frag_used_is file sizes flags h = ap (λ (x : SpaceHeader). x.frag_used) h.has_header
+frag_used_is file sizes flags h = ap (λ (x : SpaceHeader). x.frag_used) h.held.has_header
 
 -- the three lists of the space
-pub space_lists : (file sizes : List ℕ) (flags : ℕ) → HoldsHeads file sizes flags
+pub space_lists : (file sizes : List ℕ) (flags : ℕ) → KnownHeads file sizes flags
     → HoldThree (extent_nodes file) (free_list file) (free_frag_list file) (full_frag_list file)
 space_lists file sizes flags h = (
   holds_run (extent_nodes file) (free_list file) no_run (free_is file sizes flags h) (none_free file sizes flags h)
@@ -172,7 +172,7 @@ space_lists file sizes flags h = (
 )
 
 -- FRAG_N_USED
-pub fragment_count : (file sizes : List ℕ) (flags : ℕ) → HoldsHeads file sizes flags → HasFragmentCount file
+pub fragment_count : (file sizes : List ℕ) (flags : ℕ) → KnownHeads file sizes flags → HasFragmentCount file
 fragment_count file sizes flags h =
     let run = open_fragments sizes in
     frag_used_is file sizes flags h
@@ -182,7 +182,7 @@ fragment_count file sizes flags h =
     (open_fragment file sizes flags h run.first (omega arith) (omega arith))))
 
 -- whether an extent is one of a segment
-own_id : (file sizes : List ℕ) (flags : ℕ) → HoldsHeads file sizes flags → (s k : ℕ) → s < length sizes
+own_id : (file sizes : List ℕ) (flags : ℕ) → KnownHeads file sizes flags → (s k : ℕ) → s < length sizes
     → k < extent_counts sizes s
     → (extent_state file (extent_start sizes s + k) ≡ 4) × ((extent_of file (extent_start sizes s + k)).id ≡ s + 1)
 own_id file sizes flags h s k sn l =
@@ -191,7 +191,7 @@ own_id file sizes flags h s k sn l =
       given_id file (extent_start sizes s + k) (s + 1) 4 o.is.run o.is.count o.is.given,
     )
 
-is_own : (file sizes : List ℕ) (flags : ℕ) → HoldsHeads file sizes flags → (s e : ℕ) → s < length sizes
+is_own : (file sizes : List ℕ) (flags : ℕ) → KnownHeads file sizes flags → (s e : ℕ) → s < length sizes
     → extent_start sizes s ≤ e → e < extent_start sizes s + extent_counts sizes s → is_extent_of file (s + 1) e ≡ true
 is_own file sizes flags h s e sn low high =
     let there : extent_start sizes s + (e - extent_start sizes s) ≡ e = omega arith in
@@ -201,7 +201,7 @@ is_own file sizes flags h s e sn low high =
     and_from (extent_state file e == 4) ((s + 1) == (extent_of file e).id) (same_state file e 4 state)
     (eq-eqb (s + 1) (extent_of file e).id (sym id))
 
-not_own : (file sizes : List ℕ) (flags : ℕ) → HoldsHeads file sizes flags → (s e : ℕ) → s < length sizes
+not_own : (file sizes : List ℕ) (flags : ℕ) → KnownHeads file sizes flags → (s e : ℕ) → s < length sizes
     → e < extents_needed sizes → (extent_start sizes s ≤ e → e < extent_start sizes s + extent_counts sizes s → ⊥)
     → is_extent_of file (s + 1) e ≡ false
 not_own file sizes flags h s e sn below out = elim (cases_lt e (fragment_extents sizes)) [
@@ -224,7 +224,7 @@ not_own file sizes flags h s e sn below out = elim (cases_lt e (fragment_extents
 ]
 
 -- the extents of a segment
-pub own_are : (file sizes : List ℕ) (flags : ℕ) → HoldsHeads file sizes flags → (s : ℕ) → s < length sizes
+pub own_are : (file sizes : List ℕ) (flags : ℕ) → KnownHeads file sizes flags → (s : ℕ) → s < length sizes
     → segment_extents file (inode_place s) ≡ range_with_len (extent_start sizes s) (extent_counts sizes s)
 unfolding segment_extents
 own_are file sizes flags h s sn =
@@ -243,7 +243,7 @@ own_are file sizes flags h s sn =
     })
 
 -- how many pages of each are used
-full_count : (file sizes : List ℕ) (flags : ℕ) → HoldsHeads file sizes flags → (s e : ℕ) → s < length sizes
+full_count : (file sizes : List ℕ) (flags : ℕ) → KnownHeads file sizes flags → (s e : ℕ) → s < length sizes
     → extent_start sizes s ≤ e → e < extent_start sizes s + own_of (size_at sizes s) / 64
     → Given file e (s + 1) 4 (full_of sizes s) 64
 full_count file sizes flags h s e sn low high =
@@ -251,7 +251,7 @@ full_count file sizes flags h s e sn low high =
     subst (λ (x : ℕ). Given file x (s + 1) 4 (full_of sizes s) 64) there
     (full_own file sizes flags h s (e - extent_start sizes s) sn (omega arith))
 
-open_count : (file sizes : List ℕ) (flags : ℕ) → HoldsHeads file sizes flags → (s e : ℕ) → s < length sizes
+open_count : (file sizes : List ℕ) (flags : ℕ) → KnownHeads file sizes flags → (s e : ℕ) → s < length sizes
     → extent_start sizes s + own_of (size_at sizes s) / 64 ≤ e → e < extent_start sizes s + extent_counts sizes s
     → Given file e (s + 1) 4 (open_of sizes s) (own_of (size_at sizes s) % 64)
 open_count file sizes flags h s e sn low high =
@@ -260,7 +260,7 @@ open_count file sizes flags h s e sn low high =
     (open_own file sizes flags h s (e - extent_start sizes s) sn (omega arith) (omega arith))
 
 -- which is 64, or some number between
-used_is : (file sizes : List ℕ) (flags : ℕ) → HoldsHeads file sizes flags → (s e : ℕ) → s < length sizes
+used_is : (file sizes : List ℕ) (flags : ℕ) → KnownHeads file sizes flags → (s e : ℕ) → s < length sizes
     → extent_start sizes s ≤ e → e < extent_start sizes s + extent_counts sizes s
     → ((e < extent_start sizes s + own_of (size_at sizes s) / 64) × (used_count file e ≡ 64))
     ⊎ ((extent_start sizes s + own_of (size_at sizes s) / 64 ≤ e) × (0 < used_count file e) × (used_count file e < 64))
@@ -272,7 +272,7 @@ used_is file sizes flags h s e sn low high = elim (cases_lt e (extent_start size
       inr (l, omega arith, omega arith)
 ]
 
-no_free : (file sizes : List ℕ) (flags : ℕ) → HoldsHeads file sizes flags → (s : ℕ) → s < length sizes
+no_free : (file sizes : List ℕ) (flags : ℕ) → KnownHeads file sizes flags → (s : ℕ) → s < length sizes
     → free_extents file (inode_place s) ≡ []
 no_free file sizes flags h s sn =
     ap (λ (xs : List ℕ). filter (λ e. used_count file e == 0) xs) (own_are file sizes flags h s sn)
@@ -282,7 +282,7 @@ no_free file sizes flags h s sn =
       | inr part ↦ let c = part.1 in ne_eqb (used_count file e) 0 (λ q. absurd (omega arith))
     ])
 
-not_full_are : (file sizes : List ℕ) (flags : ℕ) → HoldsHeads file sizes flags → (s : ℕ) → s < length sizes
+not_full_are : (file sizes : List ℕ) (flags : ℕ) → KnownHeads file sizes flags → (s : ℕ) → s < length sizes
     → not_full_extents file (inode_place s) ≡ members_of (open_of sizes s)
 not_full_are file sizes flags h s sn =
     let p = λ (e : ℕ). nat_lt 0 (used_count file e) && nat_lt (used_count file e) 64 in
@@ -303,7 +303,7 @@ not_full_are file sizes flags h s sn =
       behind = λ e l m. absurd (omega arith);
     })
 
-all_full_are : (file sizes : List ℕ) (flags : ℕ) → HoldsHeads file sizes flags → (s : ℕ) → s < length sizes
+all_full_are : (file sizes : List ℕ) (flags : ℕ) → KnownHeads file sizes flags → (s : ℕ) → s < length sizes
     → full_extents file (inode_place s) ≡ members_of (full_of sizes s)
 all_full_are file sizes flags h s sn =
     let p = λ (e : ℕ). used_count file e == 64 in
@@ -323,7 +323,7 @@ all_full_are file sizes flags h s sn =
     })
 
 -- the three lists of a segment
-pub segment_lists : (file sizes : List ℕ) (flags : ℕ) → HoldsHeads file sizes flags → (s : ℕ) → s < length sizes
+pub segment_lists : (file sizes : List ℕ) (flags : ℕ) → KnownHeads file sizes flags → (s : ℕ) → s < length sizes
     → HoldThree (extent_nodes file) (segment_free_list file (inode_place s))
     (segment_not_full_list file (inode_place s))
     (segment_full_list file (inode_place s))
@@ -340,7 +340,7 @@ segment_lists file sizes flags h s sn = (
 )
 
 -- NOT_FULL_N_USED
-pub not_full_count : (file sizes : List ℕ) (flags : ℕ) → HoldsHeads file sizes flags → (s : ℕ) → s < length sizes
+pub not_full_count : (file sizes : List ℕ) (flags : ℕ) → KnownHeads file sizes flags → (s : ℕ) → s < length sizes
     → HasNotFullCount file (inode_place s)
 not_full_count file sizes flags h s sn =
     let run = open_of sizes s in
@@ -351,7 +351,7 @@ not_full_count file sizes flags h s sn =
     (open_count file sizes flags h s run.first sn (omega arith) (omega arith))))
 
 -- an extent of a segment has the id of one
-pub has_home : (file sizes : List ℕ) (flags : ℕ) → IsShape sizes → HoldsHeads file sizes flags → (e : ℕ)
+pub has_home : (file sizes : List ℕ) (flags : ℕ) → IsShape sizes → KnownHeads file sizes flags → (e : ℕ)
     → e < extent_count file → HasHome file e
 has_home file sizes flags shape h e l four =
     let all = extent_total file sizes flags h in

@@ -1,6 +1,7 @@
 pub mod Steps
 pub mod PageNumbers
 pub mod RunLists
+pub mod Known
 pub mod Given
 pub mod Spaces
 pub mod Ranges
@@ -11,7 +12,7 @@ pub mod BuiltOwners
 pub mod Sound
 pub mod Segments
 pub mod SameBytes
-pub mod ReadBack
+pub mod Pieces
 pub mod Fits
 pub mod Listed
 pub mod HeadBytes

@@ -13,11 +13,13 @@ use Rattle.std.proofs.lemmas.List.Elements.{All-head, All-tail, All-cons}
 use Rattle.page_source.specs.Pages.{page_size}
 use Rattle.page_source.specs.Objects.{held_page}
 use Rattle.page_source.specs.Sources.{AreWhole}
-use Rattle.page_source.proofs.Members.{contains_none, contains_cases}
+use Rattle.page_source.proofs.Members.{contains_none, contains_cases, all_members}
 use Rattle.page_source.proofs.SparseFiles.{get_of_entries}
 use Rattle.space_layout.specs.Numbers.{IsShape}
 use Rattle.space_layout.specs.HeadPages.{header_page, bitmap_page, inode_page, HoldsPages}
 use Rattle.space_layout.specs.NumberedPages.{Numbered, IsNumbered, AreSegmentPages, numbered_pages, numbered_map}
+use Rattle.space_layout.specs.LowerLaws.{PageLaws}
+use Rattle.space_layout.specs.Laws.{NumberedPagesAreFound}
 use Rattle.space_layout.proofs.PageNumbers.{are_numbers}
 use Rattle.space_layout.proofs.HeadBytes.{are_head_pages}
 
@@ -28,10 +30,10 @@ other_test : (n q : ℕ) → (q ≡ n → ⊥) → is_at (nat_cmp n) q ≡ false
 other_test n q h = same_test n q ∙ ne_eqb q n h
 
 -- a search finds an entry with this number
-pub record Found (P : Numbered → Type 0) (es : List Numbered) (n : ℕ) : Type 0 where
-  pub page : List ℕ
-  pub is : lookup (is_at (nat_cmp n)) es ≡ Some page
-  pub so : P (n, page)
+record Found (P : Numbered → Type 0) (es : List Numbered) (n : ℕ) : Type 0 where
+  page : List ℕ
+  is : lookup (is_at (nat_cmp n)) es ≡ Some page
+  so : P (n, page)
 
 find_at : (P : Numbered → Type 0) (e : Numbered) (es : List Numbered) (n : ℕ) (b : Bool) → is_at (nat_cmp n) e.0 ≡ b
     → (b ≡ true → e.0 ≡ n) → P e → (b ≡ false → Found P es n) → Found P (e ∷ es) n
@@ -50,7 +52,7 @@ find_at P e es n false is same here rest =
       so = r.so;
     }
 
-pub find : (P : Numbered → Type 0) (es : List Numbered) (n : ℕ) → All P es
+find : (P : Numbered → Type 0) (es : List Numbered) (n : ℕ) → All P es
     → Contains (map (λ (entry : Numbered). entry.0) es) n → Found P es n
 find P [] n all c = absurd (contains_none n c)
 find P (e ∷ es) n all c =
@@ -89,7 +91,7 @@ all_whole : (sizes : List ℕ) (pages : List Numbered) → All (IsNumbered sizes
 all_whole sizes pages all = λ k d l. (all k d l).whole
 
 -- a page behind the first three
-pub behind_heads : (sizes : List ℕ) (flags : ℕ) (pages : List Numbered) (n : ℕ) → 3 ≤ n
+behind_heads : (sizes : List ℕ) (flags : ℕ) (pages : List Numbered) (n : ℕ) → 3 ≤ n
     → lookup (is_at (nat_cmp n)) (numbered_pages sizes flags pages) ≡ lookup (is_at (nat_cmp n)) pages
 behind_heads sizes flags pages n low =
     rw (
@@ -99,12 +101,22 @@ behind_heads sizes flags pages n low =
     )
     refl
 
-pub numbered_held : (sizes : List ℕ) (flags : ℕ) (pages : List Numbered) → IsShape sizes → AreSegmentPages sizes pages
-    → HoldsPages (numbered_map sizes flags pages) sizes flags
+pub numbered_found : NumberedPagesAreFound
 unfolding numbered_map
-numbered_held sizes flags pages shape h =
+numbered_found sizes flags pages n low among =
+    let found = find (Contains pages) pages n (all_members (Contains pages) pages (λ entry member. member)) among in
+    record {
+      page = found.page;
+      held = get_of_entries (numbered_pages sizes flags pages) n ∙ behind_heads sizes flags pages n low ∙ found.is;
+      among = found.so;
+    }
+
+pub numbered_held : PageLaws → (sizes : List ℕ) (flags : ℕ) (pages : List Numbered) → IsShape sizes
+    → AreSegmentPages sizes pages → HoldsPages (numbered_map sizes flags pages) sizes flags
+unfolding numbered_map
+numbered_held laws sizes flags pages shape h =
     let all = numbered_pages sizes flags pages in
-    let heads = are_head_pages sizes flags shape in
+    let heads = are_head_pages laws sizes flags shape in
     let Whole = λ (entry : Numbered). length entry.1 ≡ 16384 in
     record {
       whole = entries_whole all

@@ -129,3 +129,14 @@ map_same f g a zero h = refl
 map_same f g a (suc n) h =
     ap (λ (x : ℕ). x ∷ map f (range_with_len (a + 1) n)) (h a (omega arith) (omega arith))
     ∙ ap (λ (xs : List ℕ). g a ∷ xs) (map_same f g (a + 1) n (λ i l m. h i (omega arith) (omega arith)))
+
+-- and a sum of what is the same
+pub sum_same : (f g : ℕ → ℕ) (a n : ℕ) → ((i : ℕ) → a ≤ i → i < a + n → f i ≡ g i)
+    → sum_by f (range_with_len a n) ≡ sum_by g (range_with_len a n)
+sum_same f g a zero same = refl
+sum_same f g a (suc n) same =
+    let here = same a (omega arith) (omega arith) in
+    let rest = sum_same f g (a + 1) n (λ i low high. same i (omega arith) (omega arith)) in
+    let one = sum_by-cons f a (range_with_len (a + 1) n) in
+    let other = sum_by-cons g a (range_with_len (a + 1) n) in
+    omega arith

@@ -1,5 +1,5 @@
 -- What is read of a page depends only on the bytes where it stands.
-use Rattle.std.proofs.Common.{◌≡◌, ℕ, ◌+◌, ◌*◌, ◌/◌, ◌%◌, ◌^◌, ◌<◌, ◌≤◌, ◌==◌, suc, List, [], ◌∷◌, length, get_or}
+use Rattle.std.proofs.Common.{◌≡◌, ℕ, ◌+◌, ◌*◌, ◌/◌, ◌%◌, ◌^◌, ◌<◌, ◌≤◌, ◌==◌, suc, List, [], ◌∷◌, length, get_or, cond}
 use Rattle.std.proofs.Common.{flat_map, take, refl, sym, ap, ◌∙◌, arith}
 use Rattle.std.proofs.Math.Nat.{mul-zero, mul-suc}
 use Rattle.std.proofs.lemmas.List.{length-take-le, length-append}
@@ -10,9 +10,8 @@ use Rattle.page_source.proofs.Written.{num_from_bytes}
 use Rattle.fil_frame.specs.Frame.{Seals}
 use Rattle.space_header.specs.Header.{address_at, base_at, node_at, header_of}
 use Rattle.extent_map.specs.Extents.{is_bit_clear, used_mask, extent_at}
-use Rattle.extent_map.proofs.Masks.{mask_same, mask_sum}
 use Rattle.inode_segments.specs.Inodes.{inode_at, slots_at}
-use Rattle.space_layout.proofs.Ranges.{map_same}
+use Rattle.space_layout.proofs.Ranges.{map_same, sum_same}
 
 times_more : (w n : ℕ) → w * suc n ≡ w + w * n
 times_more w n = mul-suc w n ∙ omega arith
@@ -59,15 +58,13 @@ used_same : (n : ℕ) (xs : List ℕ) (i : ℕ) (ys : List ℕ) (j : ℕ) → Ar
     → p ≡ i + at → q ≡ j + at → at + 16 ≤ n → used_mask xs p ≡ used_mask ys q
 unfolding used_mask
 used_same n xs i ys j same at p q there here inside =
-    mask_sum (is_bit_clear xs p) 64
-    ∙ mask_same (is_bit_clear xs p) (is_bit_clear ys q) 64
-    (λ k below.
+    sum_same (λ j. cond (is_bit_clear xs p j) (2 ^ j) 0) (λ j. cond (is_bit_clear ys q j) (2 ^ j) 0) 0 64
+    (λ k low below.
     let a : p + k / 4 ≡ i + (at + k / 4) = omega arith in
     let b : q + k / 4 ≡ j + (at + k / 4) = omega arith in
     let byte : get_or xs (p + k / 4) 0 ≡ get_or ys (q + k / 4) 0 =
     ap (λ (m : ℕ). get_or xs m 0) a ∙ same (at + k / 4) (omega arith) ∙ ap (λ (m : ℕ). get_or ys m 0) (sym b) in
-    ap (λ (x : ℕ). x / 2 ^ (2 * (k % 4)) % 2 == 0) byte)
-    ∙ sym (mask_sum (is_bit_clear ys q) 64)
+    ap (λ (x : ℕ). cond (x / 2 ^ (2 * (k % 4)) % 2 == 0) (2 ^ k) 0) byte)
 
 pub extent_same : (xs : List ℕ) (i : ℕ) (ys : List ℕ) (j : ℕ) → AreSame 40 xs i ys j → extent_at xs i ≡ extent_at ys j
 unfolding extent_at

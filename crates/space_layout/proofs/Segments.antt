@@ -21,7 +21,8 @@ use Rattle.space_audit.specs.Owners.{IsUsedBy}
 use Rattle.space_audit.specs.Space.{segment_with_address, is_address}
 use Rattle.space_layout.specs.Numbers.{segment_page, size_at, IsShape, IsPlace}
 use Rattle.space_layout.specs.Fields.{inode_place}
-use Rattle.space_layout.specs.Holds.{HoldsHeads, HoldsSpace, HasSegments}
+use Rattle.space_layout.specs.Holds.{HasSegments}
+use Rattle.space_layout.proofs.Known.{KnownHeads, KnownSpace}
 use Rattle.space_layout.proofs.PageNumbers.{page_low, page_one, are_numbers}
 use Rattle.space_layout.proofs.Ranges.{from_range, in_range, distinct_images, distinct_pieces, distinct_append}
 use Rattle.space_layout.proofs.Spaces.{head_size, used_place}
@@ -122,7 +123,7 @@ numbers_count sizes =
     ∙ ap (λ (xs : List ℕ). sum xs) (take_all (length sizes) sizes (omega arith)))
 
 -- which pages are used
-used_is : (file sizes : List ℕ) (flags : ℕ) → IsShape sizes → HoldsHeads file sizes flags → (n : ℕ)
+used_is : (file sizes : List ℕ) (flags : ℕ) → IsShape sizes → KnownHeads file sizes flags → (n : ℕ)
     → IsUsed file n ↔ ((n < 3) ⊎ ((s : ℕ) × (i : ℕ) × IsPlace sizes s i n))
 used_is file sizes flags shape heads n = (
   λ u. elim (cases_lt n 3) [
@@ -136,7 +137,7 @@ used_is file sizes flags shape heads n = (
   ],
 )
 
-used_total : (file sizes : List ℕ) (flags : ℕ) → IsShape sizes → HoldsHeads file sizes flags
+used_total : (file sizes : List ℕ) (flags : ℕ) → IsShape sizes → KnownHeads file sizes flags
     → length (filter (is_used file) (range_with_len 0 (size_of file))) ≡ 3 + sum sizes
 used_total file sizes flags shape heads =
     let size = head_size file sizes flags heads in
@@ -162,7 +163,7 @@ used_total file sizes flags shape heads =
     ))
     ∙ numbers_count sizes
 
-pub has_segments : (file sizes : List ℕ) (flags : ℕ) → IsShape sizes → HoldsSpace file sizes flags
+pub has_segments : (file sizes : List ℕ) (flags : ℕ) → IsShape sizes → KnownSpace file sizes flags
     → HasSegments file sizes
 has_segments file sizes flags shape h =
     let heads = h.heads in

@@ -1,10 +1,10 @@
 -- The slots of the segments of a built tablespace: each used page of a fragment extent but for the first three is in
 -- one of them.
-use Rattle.std.proofs.Common.{◌≡◌, ℕ, ◌+◌, ◌*◌, ◌/◌, ◌%◌, ◌<◌, ◌≤◌, ◌==◌, ◌&&◌, nat_lt, not}
+use Rattle.std.proofs.Common.{◌≡◌, ℕ, ◌+◌, ◌*◌, ◌/◌, ◌%◌, ◌<◌, ◌≤◌, ◌==◌, ◌&&◌, ◌||◌, nat_lt, not, Bool}
 use Rattle.std.proofs.Common.{true, List, ◌++◌, length, map, filter, flat_map, All, Contains, inl}
 use Rattle.std.proofs.Common.{inr, refl, sym, ap, ◌∙◌, subst, arith}
 use Rattle.std.specs.List.{range_with_len}
-use Rattle.std.proofs.lemmas.Bool.{cases_lt, ne_eqb, lt-ltb, le-ltb, ltb-true}
+use Rattle.std.proofs.lemmas.Bool.{cases_lt, ne_eqb, lt-ltb, le-ltb, ltb-true, false≢true}
 use Rattle.std.proofs.lemmas.List.Elements.{Contains-append_left, Contains-append_right}
 use Rattle.page_source.specs.Pages.{fil_null}
 use Rattle.page_source.specs.Lists.{AreDistinct, times_in}
@@ -12,36 +12,35 @@ use Rattle.page_source.proofs.Members.{range_has, range_only, range_distinct}
 use Rattle.page_source.proofs.Members.{contains_flat_map, flat_map_contains}
 use Rattle.page_source.proofs.Times.{times_once}
 use Rattle.space_header.specs.Header.{limit_of}
-use Rattle.extent_map.specs.Extents.{is_used, is_fragment_extent, is_system_page}
+use Rattle.extent_map.specs.Extents.{extent_state, is_used, is_fragment_extent, is_system_page}
 use Rattle.extent_map.specs.Extents.{is_fragment_page}
 use Rattle.inode_segments.specs.Inodes.{inode_of, inode_pages, segments, slot_pages}
 use Rattle.space_audit.specs.Owners.{system_pages}
 use Rattle.space_audit.specs.Audit.{IsFragmentUse, IsSlot, IsUsedFragment, fragment_claims}
-use Rattle.space_audit.proofs.Fragments.{used_below, fragment_not_own, both_true}
 use Rattle.space_layout.specs.Numbers.{fragments_of, used_fragments, fragment_extents}
 use Rattle.space_layout.specs.Numbers.{segment_page, size_at, IsShape}
 use Rattle.space_layout.specs.declared.runs.Run.{Run}
 use Rattle.space_layout.specs.Fields.{slot_of, inode_place}
-use Rattle.space_layout.specs.Holds.{HoldsHeads}
+use Rattle.space_layout.proofs.Known.{KnownHeads}
 use Rattle.space_layout.proofs.PageNumbers.{fragment_place, fragment_high, page_fragment, page_one, page_own}
 use Rattle.space_layout.proofs.PageNumbers.{page_low}
 use Rattle.space_layout.proofs.RunLists.{filter_run}
 use Rattle.space_layout.proofs.Ranges.{from_range, in_range, all_from_range, distinct_images, distinct_pieces}
 use Rattle.space_layout.proofs.Ranges.{distinct_append, filter_images, pieces_same, map_same}
 use Rattle.space_layout.proofs.Given.{given_state}
-use Rattle.space_layout.proofs.Spaces.{head_size, head_limit, fragment_given}
+use Rattle.space_layout.proofs.Spaces.{used_below, head_size, head_limit, fragment_given}
 use Rattle.space_layout.proofs.Inodes.{inode_slots, segments_are, each_segment, inode_page_two}
 use Rattle.space_layout.proofs.HomeLists.{state_of_own}
 
 -- the pages below the number of used fragment pages are used ones of fragment extents
-fragment_test : (file sizes : List ℕ) (flags : ℕ) → HoldsHeads file sizes flags → (e : ℕ) → e < fragment_extents sizes
+fragment_test : (file sizes : List ℕ) (flags : ℕ) → KnownHeads file sizes flags → (e : ℕ) → e < fragment_extents sizes
     → is_fragment_extent file e ≡ true
 fragment_test file sizes flags h e l =
     let f = fragment_given file sizes flags h e l in
     let s = given_state file e 0 f.state f.is.run f.is.count f.is.given in
     elim f.kind [ inl two ↦ rw (s ∙ two) refl | inr three ↦ rw (s ∙ three) refl ]
 
-pub fragment_use : (file sizes : List ℕ) (flags : ℕ) → HoldsHeads file sizes flags → (n : ℕ) → n < used_fragments sizes
+pub fragment_use : (file sizes : List ℕ) (flags : ℕ) → KnownHeads file sizes flags → (n : ℕ) → n < used_fragments sizes
     → IsFragmentUse file n
 fragment_use file sizes flags h n l =
     let size = head_size file sizes flags h in
@@ -54,8 +53,12 @@ fragment_use file sizes flags h n l =
       fragment = fragment_test file sizes flags h (n / 64) (omega arith);
     }
 
+-- an extent of a segment is no fragment extent
+not_fragment : (file : List ℕ) (e : ℕ) → extent_state file e ≡ 4 → is_fragment_extent file e ≡ true → ⊥
+not_fragment file e own fragment = false≢true (subst (λ (k : ℕ). ((k == 2) || (k == 3)) ≡ true) own fragment)
+
 -- and only they
-pub used_fragment : (file sizes : List ℕ) (flags : ℕ) → HoldsHeads file sizes flags → (n : ℕ) → IsUsedFragment file n
+pub used_fragment : (file sizes : List ℕ) (flags : ℕ) → KnownHeads file sizes flags → (n : ℕ) → IsUsedFragment file n
     → n < used_fragments sizes
 used_fragment file sizes flags h n u =
     let limit = head_limit file sizes flags h in
@@ -68,7 +71,7 @@ used_fragment file sizes flags h n u =
           ap (λ (k : ℕ). nat_lt k (used_fragments sizes)) (sym split)
           ∙ sym (f.used (n % 64) (omega arith)) ∙ ap (is_used file) split ∙ u.0 in
           ltb-true n (used_fragments sizes) test
-      | inr l ↦ absurd (fragment_not_own file (n / 64) u.1 (state_of_own file sizes flags h (n / 64) l (omega arith)))
+      | inr l ↦ absurd (not_fragment file (n / 64) (state_of_own file sizes flags h (n / 64) l (omega arith)) u.1)
     ]
 
 -- the pages in the slots of a segment
@@ -88,7 +91,7 @@ slot_small sizes shape s i sn l =
 used_small : (sizes : List ℕ) → IsShape sizes → used_fragments sizes ≤ 16384
 used_small sizes shape = let fits = shape.fits in omega arith
 
-pub slots_are : (file sizes : List ℕ) (flags : ℕ) → IsShape sizes → HoldsHeads file sizes flags → (s : ℕ)
+pub slots_are : (file sizes : List ℕ) (flags : ℕ) → IsShape sizes → KnownHeads file sizes flags → (s : ℕ)
     → s < length sizes → slot_pages file (inode_place s) ≡ slot_numbers sizes s
 unfolding slot_pages
 slots_are file sizes flags shape h s sn =
@@ -113,7 +116,7 @@ slots_are file sizes flags shape h s sn =
     ∙ map_same (slot_of sizes s) (segment_page sizes s) 0 count (λ i l m. slot_some sizes shape s i sn (omega arith))
 
 -- each slot is empty, or has such a page
-slot_is : (file sizes : List ℕ) (flags : ℕ) → IsShape sizes → HoldsHeads file sizes flags → (s i : ℕ) → s < length sizes
+slot_is : (file sizes : List ℕ) (flags : ℕ) → IsShape sizes → KnownHeads file sizes flags → (s i : ℕ) → s < length sizes
     → i < 32 → IsSlot file (slot_of sizes s i)
 slot_is file sizes flags shape h s i sn small some = elim (cases_lt i (size_at sizes s)) [
   | inl l ↦
@@ -123,7 +126,7 @@ slot_is file sizes flags shape h s i sn small some = elim (cases_lt i (size_at s
   | inr l ↦ absurd (some (rw (le-ltb i (size_at sizes s) l) refl))
 ]
 
-pub each_slot : (file sizes : List ℕ) (flags : ℕ) → IsShape sizes → HoldsHeads file sizes flags
+pub each_slot : (file sizes : List ℕ) (flags : ℕ) → IsShape sizes → KnownHeads file sizes flags
     → All (λ place. All (IsSlot file) (inode_of file place).slots) (segments file)
 each_slot file sizes flags shape h =
     each_segment file sizes flags shape h (λ place. All (IsSlot file) (inode_of file place).slots)
@@ -171,7 +174,7 @@ slots_has sizes shape x low high =
     (omega arith)))
 
 -- the claims on pages of fragment extents
-system_two : (file sizes : List ℕ) (flags : ℕ) → IsShape sizes → HoldsHeads file sizes flags
+system_two : (file sizes : List ℕ) (flags : ℕ) → IsShape sizes → KnownHeads file sizes flags
     → system_pages file ≡ range_with_len 0 2
 unfolding system_pages
 system_two file sizes flags shape h =
@@ -186,7 +189,7 @@ system_two file sizes flags shape h =
       behind = λ n l m. le-ltb (n % 16384) 2 (omega arith);
     })
 
-claims_are : (file sizes : List ℕ) (flags : ℕ) → IsShape sizes → HoldsHeads file sizes flags
+claims_are : (file sizes : List ℕ) (flags : ℕ) → IsShape sizes → KnownHeads file sizes flags
     → fragment_claims file ≡ range_with_len 0 3 ++ all_slots sizes
 unfolding fragment_claims
 claims_are file sizes flags shape h =
@@ -200,7 +203,7 @@ claims_are file sizes flags shape h =
     (λ s low high. slots_are file sizes flags shape h s (omega arith)))
 
 -- each used page of a fragment extent is claimed once
-pub fragment_once : (file sizes : List ℕ) (flags : ℕ) → IsShape sizes → HoldsHeads file sizes flags → (n : ℕ)
+pub fragment_once : (file sizes : List ℕ) (flags : ℕ) → IsShape sizes → KnownHeads file sizes flags → (n : ℕ)
     → IsUsedFragment file n → times_in (fragment_claims file) n ≡ 1
 fragment_once file sizes flags shape h n u =
     let high = used_fragment file sizes flags h n u in
@@ -215,8 +218,11 @@ fragment_once file sizes flags shape h n u =
       | inr l ↦ Contains-append_right (range_with_len 0 3) (all_slots sizes) n (slots_has sizes shape n l high)
     ])
 
+both_true : (a b : Bool) → a ≡ true → b ≡ true → (a && b) ≡ true
+both_true a b first second = rw (first, second) refl
+
 -- page 2 is a fragment page, and no system page
-pub two_is_fragment : (file sizes : List ℕ) (flags : ℕ) → HoldsHeads file sizes flags
+pub two_is_fragment : (file sizes : List ℕ) (flags : ℕ) → KnownHeads file sizes flags
     → is_fragment_page file 2 ≡ true
 two_is_fragment file sizes flags h =
     let u = fragment_use file sizes flags h 2 (omega arith) in

@@ -11,7 +11,6 @@ use Rattle.space_header.specs.Header.{size_of}
 use Rattle.extent_map.specs.Head.{IsHead}
 use Rattle.extent_map.specs.Extents.{extent_count, extent_state, IsUsed, used_count, is_fragment_page}
 use Rattle.extent_map.specs.Descriptors.{IsExtent, FitsUse, HasSystemPages}
-use Rattle.extent_map.proofs.Used.{are_used_pages}
 use Rattle.inode_segments.specs.InodeChecks.{IsInodePage, AreInodes}
 use Rattle.space_audit.specs.declared.owner.Owner.{Owner}
 use Rattle.space_audit.specs.declared.owner.Owner.TheVariants.{System, InodePage, Used}
@@ -20,12 +19,13 @@ use Rattle.space_audit.specs.Owners.{owner_of}
 use Rattle.space_audit.specs.Audit.{HasExtents, HasOwners, HasAllowedKind, IsKindFor, IsSoundSpace, HasNotFullCount}
 use Rattle.extent_map.specs.Extents.{extent_nodes}
 use Rattle.space_audit.specs.Lists.{segment_free_list, segment_not_full_list, segment_full_list}
-use Rattle.space_audit.proofs.Claims.{HasClaims, partition}
+use Rattle.space_audit.specs.Laws.{AreAllClaimed}
 use Rattle.space_layout.specs.Numbers.{used_fragments, fragment_extents, extent_start}
 use Rattle.space_layout.specs.Numbers.{segment_page, size_at, IsShape}
 use Rattle.space_layout.specs.declared.runs.Run.{Run}
 use Rattle.space_layout.specs.Fields.{full_fragments, open_fragments}
-use Rattle.space_layout.specs.Holds.{IsPage, HoldsHeads, HoldsSpace}
+use Rattle.space_layout.specs.Holds.{IsPage}
+use Rattle.space_layout.proofs.Known.{KnownHeads, KnownSpace}
 use Rattle.space_layout.proofs.Given.{Given, given_state, given_count, given_pages}
 use Rattle.space_layout.proofs.Spaces.{head_space, head_size, head_limit, head_flags, extent_total, full_fragment}
 use Rattle.space_layout.proofs.Spaces.{open_fragment, own_extent_at, own_given, used_place}
@@ -35,15 +35,15 @@ use Rattle.space_layout.proofs.SlotPages.{each_slot, fragment_once, fragment_use
 use Rattle.space_layout.proofs.BuiltOwners.{page_owned, head_owner, bitmap_owner, inode_owner}
 
 -- the head
-pub space_is : (file sizes : List ℕ) (flags : ℕ) → HoldsHeads file sizes flags → space_of (page_of file 0) ≡ 1
-space_is file sizes flags h = h.head.framed.has_space
+pub space_is : (file sizes : List ℕ) (flags : ℕ) → KnownHeads file sizes flags → space_of (page_of file 0) ≡ 1
+space_is file sizes flags h = h.held.head.framed.has_space
 
-framed_here : (file sizes : List ℕ) (flags n kind : ℕ) → HoldsHeads file sizes flags → IsPage file n kind
+framed_here : (file sizes : List ℕ) (flags n kind : ℕ) → KnownHeads file sizes flags → IsPage file n kind
     → Framed file n
 framed_here file sizes flags n kind h p =
     subst (λ (space : ℕ). IsFramed (page_of file n) n space) (sym (space_is file sizes flags h)) p.framed
 
-is_head : (file sizes : List ℕ) (flags : ℕ) → IsShape sizes → HoldsSpace file sizes flags → IsHead file flags
+is_head : (file sizes : List ℕ) (flags : ℕ) → IsShape sizes → KnownSpace file sizes flags → IsHead file flags
 is_head file sizes flags shape h =
     let heads = h.heads in
     let pages = h.pages in
@@ -52,8 +52,8 @@ is_head file sizes flags shape h =
     let fits = shape.fits in
     record {
       pages = omega arith;
-      framed = framed_here file sizes flags 0 header_kind heads heads.head;
-      kind = heads.head.has_kind;
+      framed = framed_here file sizes flags 0 header_kind heads heads.held.head;
+      kind = heads.held.head.has_kind;
       space = space_is file sizes flags heads ∙ sym (head_space file sizes flags heads);
       has_flags = inl (head_flags file sizes flags heads);
       size = record { least = omega arith; most = omega arith; within = omega arith };
@@ -71,7 +71,7 @@ fits_use : (state count : ℕ) → (state ≡ 3 → count ≡ 64) → (state ≡
 fits_use state count full part some used =
     record { free = λ e. absurd (omega arith); some_used = λ e. some; some_free = part; full = full }
 
-given_extent : (file sizes : List ℕ) (flags : ℕ) → IsShape sizes → HoldsHeads file sizes flags
+given_extent : (file sizes : List ℕ) (flags : ℕ) → IsShape sizes → KnownHeads file sizes flags
     → (e id state : ℕ) (run : Run) (count : ℕ)
     → Given file e id state run count → 2 ≤ state → state ≤ 4 → (state ≡ 3 → count ≡ 64) → (state ≡ 2 → count < 64)
     → IsExtent file e
@@ -101,7 +101,7 @@ given_extent file sizes flags shape h e id state run count g low high full part 
           });
     }
 
-each_extent : (file sizes : List ℕ) (flags : ℕ) → IsShape sizes → HoldsHeads file sizes flags → (e : ℕ)
+each_extent : (file sizes : List ℕ) (flags : ℕ) → IsShape sizes → KnownHeads file sizes flags → (e : ℕ)
     → e < extent_count file → IsExtent file e
 each_extent file sizes flags shape h e l =
     let total = extent_total file sizes flags h in
@@ -122,7 +122,7 @@ each_extent file sizes flags shape h e l =
       ]
     ]
 
-has_extents : (file sizes : List ℕ) (flags : ℕ) → IsShape sizes → HoldsSpace file sizes flags → HasExtents file flags
+has_extents : (file sizes : List ℕ) (flags : ℕ) → IsShape sizes → KnownSpace file sizes flags → HasExtents file flags
 has_extents file sizes flags shape h =
     let limit = head_limit file sizes flags h.heads in
     let fits = shape.fits in
@@ -133,29 +133,28 @@ has_extents file sizes flags shape h =
     }
 
 -- inodes
-two_page : (file sizes : List ℕ) (flags : ℕ) → HoldsHeads file sizes flags
+two_page : (file sizes : List ℕ) (flags : ℕ) → KnownHeads file sizes flags
     → IsInodePage file (is_fragment_page file) 2
 two_page file sizes flags h =
     let size = head_size file sizes flags h in
     record {
       below = omega arith;
       fragment = two_is_fragment file sizes flags h;
-      framed = framed_here file sizes flags 2 inode_kind h h.inodes;
-      kind = h.inodes.has_kind;
+      framed = framed_here file sizes flags 2 inode_kind h h.held.inodes;
+      kind = h.held.inodes.has_kind;
     }
 
-has_inodes : (file sizes : List ℕ) (flags : ℕ) → IsShape sizes → HoldsHeads file sizes flags
+has_inodes : (file sizes : List ℕ) (flags : ℕ) → IsShape sizes → KnownHeads file sizes flags
     → AreInodes file (is_fragment_page file)
 has_inodes file sizes flags shape h =
     are_inodes file sizes flags (is_fragment_page file) shape h (two_page file sizes flags h)
 
 -- owners
-pub has_claims : (file sizes : List ℕ) (flags : ℕ) → IsShape sizes → HoldsHeads file sizes flags → HasClaims file
+pub has_claims : (file sizes : List ℕ) (flags : ℕ) → IsShape sizes → KnownHeads file sizes flags → AreAllClaimed file
 has_claims file sizes flags shape h =
     let inodes = has_inodes file sizes flags shape h in
     let limit = head_limit file sizes flags h in
-    record {
-      used_pages = are_used_pages;
+    h.laws.claims file record {
       whole = omega arith;
       extents = each_extent file sizes flags shape h;
       full = inodes.full.members;
@@ -163,9 +162,10 @@ has_claims file sizes flags shape h =
       distinct = ids_distinct file sizes flags shape h;
       homes = has_home file sizes flags shape h;
       slots = each_slot file sizes flags shape h;
+      once = λ n l u. fragment_once file sizes flags shape h n u;
     }
 
-has_owners : (file sizes : List ℕ) (flags : ℕ) → IsShape sizes → HoldsHeads file sizes flags → HasOwners file
+has_owners : (file sizes : List ℕ) (flags : ℕ) → IsShape sizes → KnownHeads file sizes flags → HasOwners file
 has_owners file sizes flags shape h =
     let claims = has_claims file sizes flags shape h in
     record {
@@ -178,7 +178,7 @@ has_owners file sizes flags shape h =
       not_full_counts = each_segment file sizes flags shape h (HasNotFullCount file)
           (not_full_count file sizes flags h);
       slots = each_slot file sizes flags shape h;
-      partition = partition file claims (λ n l u. fragment_once file sizes flags shape h n u);
+      partition = claims.partition;
     }
 
 -- frames
@@ -186,7 +186,7 @@ pub record IsWhole (file : List ℕ) (n : ℕ) : Type 0 where
   pub framed : Framed file n
   pub kind : HasAllowedKind file n
 
-head_whole : (file sizes : List ℕ) (flags n kind : ℕ) (owner : Owner) → HoldsHeads file sizes flags → IsPage file n kind
+head_whole : (file sizes : List ℕ) (flags n kind : ℕ) (owner : Owner) → KnownHeads file sizes flags → IsPage file n kind
     → owner_of file n ≡ owner → IsKindFor n owner kind → IsWhole file n
 head_whole file sizes flags n kind owner h p is allowed = record {
   framed = framed_here file sizes flags n kind h p;
@@ -194,16 +194,16 @@ head_whole file sizes flags n kind owner h p is allowed = record {
       (subst (λ (k : ℕ). IsKindFor n owner k) (sym p.has_kind) allowed);
 }
 
-first_whole : (file sizes : List ℕ) (flags : ℕ) → HoldsHeads file sizes flags → (n : ℕ) → n < 3 → IsWhole file n
+first_whole : (file sizes : List ℕ) (flags : ℕ) → KnownHeads file sizes flags → (n : ℕ) → n < 3 → IsWhole file n
 first_whole file sizes flags h zero l =
-    head_whole file sizes flags 0 header_kind System h h.head (head_owner file sizes flags h) refl
+    head_whole file sizes flags 0 header_kind System h h.held.head (head_owner file sizes flags h) refl
 first_whole file sizes flags h (suc zero) l =
-    head_whole file sizes flags 1 bitmap_kind System h h.bitmap (bitmap_owner file sizes flags h) refl
+    head_whole file sizes flags 1 bitmap_kind System h h.held.bitmap (bitmap_owner file sizes flags h) refl
 first_whole file sizes flags h (suc (suc zero)) l =
-    head_whole file sizes flags 2 inode_kind InodePage h h.inodes (inode_owner file sizes flags h) refl
+    head_whole file sizes flags 2 inode_kind InodePage h h.held.inodes (inode_owner file sizes flags h) refl
 first_whole file sizes flags h (suc (suc (suc n))) l = absurd (omega arith)
 
-segment_whole : (file sizes : List ℕ) (flags : ℕ) → IsShape sizes → HoldsSpace file sizes flags → (s i : ℕ)
+segment_whole : (file sizes : List ℕ) (flags : ℕ) → IsShape sizes → KnownSpace file sizes flags → (s i : ℕ)
     → s < length sizes → i < size_at sizes s → IsWhole file (segment_page sizes s i)
 segment_whole file sizes flags shape h s i sn inside =
     let n = segment_page sizes s i in
@@ -213,7 +213,7 @@ segment_whole file sizes flags shape h s i sn inside =
       | inr p ↦ head_whole file sizes flags n blob_kind (Used s) h.heads p own (inr (inl refl))
     ]
 
-each_whole : (file sizes : List ℕ) (flags : ℕ) → IsShape sizes → HoldsSpace file sizes flags → (n : ℕ) → IsUsed file n
+each_whole : (file sizes : List ℕ) (flags : ℕ) → IsShape sizes → KnownSpace file sizes flags → (n : ℕ) → IsUsed file n
     → IsWhole file n
 each_whole file sizes flags shape h n used = elim (cases_lt n 3) [
   | inl few ↦ first_whole file sizes flags h.heads n few
@@ -224,7 +224,7 @@ each_whole file sizes flags shape h n used = elim (cases_lt n 3) [
 ]
 
 -- the whole space
-pub is_sound : (file sizes : List ℕ) (flags : ℕ) → IsShape sizes → HoldsSpace file sizes flags → IsSoundSpace file flags
+pub is_sound : (file sizes : List ℕ) (flags : ℕ) → IsShape sizes → KnownSpace file sizes flags → IsSoundSpace file flags
 is_sound file sizes flags shape h = record {
   extents = has_extents file sizes flags shape h;
   inodes = has_inodes file sizes flags shape h.heads;

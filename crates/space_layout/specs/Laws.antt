@@ -1,5 +1,6 @@
 -- Laws of the definitions, each the contract of a function in a module of laws.
-use Rattle.std.specs.Prelude.{◌≡◌, ℕ, ◌^◌, ◌<◌, List, length}
+use Rattle.std.specs.Prelude.{◌≡◌, ℕ, ◌^◌, ◌<◌, ◌≤◌, List, length, map, Contains, Some}
+use Rattle.std.specs.FinMap.{get}
 use Rattle.page_source.specs.Objects.{PageMap, file_of}
 use Rattle.space_audit.specs.Audit.{IsSoundSpace}
 use Rattle.space_layout.specs.Numbers.{IsShape, AreNumbers, space_pages, AreIndexes, AreSizesOf, sizes_of}
@@ -50,6 +51,17 @@ abbrev pub NumberedPagesAreHeld : Type 0
 NumberedPagesAreHeld =
     (sizes : List ℕ) (flags : ℕ) (pages : List Numbered) → IsShape sizes → AreSegmentPages sizes pages
     → HoldsPages (numbered_map sizes flags pages) sizes flags
+
+-- at each number of one of these pages the map has such a page
+pub record IsFound (sizes : List ℕ) (flags : ℕ) (pages : List Numbered) (n : ℕ) : Type 0 where
+  pub page : List ℕ
+  pub held : get (numbered_map sizes flags pages) n ≡ Some page
+  pub among : Contains pages (n, page)
+
+abbrev pub NumberedPagesAreFound : Type 0
+NumberedPagesAreFound =
+    (sizes : List ℕ) (flags : ℕ) (pages : List Numbered) (n : ℕ) → 3 ≤ n
+    → Contains (map (λ (entry : Numbered). entry.0) pages) n → IsFound sizes flags pages n
 
 -- each part of a long value has a place of its own
 abbrev pub ValuesHavePlaces : Type 0

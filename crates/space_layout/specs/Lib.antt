@@ -2,8 +2,9 @@ pub mod Numbers
 pub mod Runs
 pub mod Fields
 pub mod HeadPages
-pub mod Written
+pub mod calls
 pub mod NumberedPages
 pub mod ValuePlaces
 pub mod Holds
+pub mod LowerLaws
 pub mod Laws

@@ -3,7 +3,7 @@
 ghost use Rattle.std.specs.Prelude.{◌≡◌, length};
 ghost use Rattle.space_layout.specs.Numbers.{IsShape, extents_needed};
 ghost use Rattle.space_layout.specs.HeadPages.{header_page, bitmap_page, inode_page};
-ghost use Rattle.space_layout.specs.Written.{with_descriptors, with_inodes};
+ghost use Rattle.space_layout.specs.calls.Written.{with_descriptors, with_inodes};
 
 use crate::fields::{INODE_PAGE, SPACE, fragment_descriptor, header, inode, own_descriptor};
 use crate::numbers::{extent_start, extents_of, fragment_extents};

@@ -17,7 +17,7 @@ use Rattle.compact_record.specs.Writing.{size_of_record, value_bytes}
 use Rattle.tree_layout.specs.Entries.{Entry, IsAlike, AreAlike}
 use Rattle.tree_layout.specs.Division.{Level, total_of, has_room_for, divided_from, divided, pointer_with}
 use Rattle.tree_layout.specs.Division.{pointers_to, levels_from, tree_levels, level_counts}
-use Rattle.tree_layout.specs.DivisionLaws.{CountsAreOfSizes}
+use Rattle.tree_layout.specs.DivisionLaws.{CountsAreOfSizes, CountsNeedNoNumbers, AlikeRecordsHaveOneSize}
 use Rattle.tree_layout.proofs.Zips.{zip-append, zip_from, zip_length, zip_at}
 use Rattle.tree_layout.proofs.Rise.{length-pointers, get_or-pointers}
 
@@ -73,7 +73,7 @@ below_is fields a =
     (length-map-range_with_len (null_byte fields a) 0 (null_bytes fields))
 
 -- records of parts of the same sizes have the same size
-pub size_same : (fields : Fields) (a b : Entry) → AreAlike a b → size_of_record fields a ≡ size_of_record fields b
+pub size_same : AlikeRecordsHaveOneSize
 unfolding size_of_record origin_in value_bytes
 size_same fields a b alike =
     let lengths = ap length (lengths_same fields.fields a b alike) in
@@ -180,3 +180,20 @@ counts_law leaf node numbers others entries like alike =
     let count = zip_length (AllZip AreAlike) (divided leaf entries) (divided leaf like) pages in
     rw count (levels_same node numbers others (length (divided leaf like)) 0 (divided leaf entries)
     (divided leaf like) pages)
+
+-- an entry is like itself
+alike_part : (a : Part) → IsAlike a a
+alike_part Null = tt
+alike_part (Bytes bytes external) = (refl, refl)
+
+pub alike_entry : (a : Entry) → AreAlike a a
+alike_entry [] = tt
+alike_entry (x ∷ xs) = (alike_part x, alike_entry xs)
+
+alike_all : (entries : List Entry) → AllZip AreAlike entries entries
+alike_all [] = tt
+alike_all (x ∷ xs) = (alike_entry x, alike_all xs)
+
+pub need_no_numbers : CountsNeedNoNumbers
+need_no_numbers leaf node numbers others entries =
+    counts_law leaf node numbers others entries entries (alike_all entries)

@@ -17,9 +17,8 @@ use Rattle.tree_layout.specs.Division.{pointer_with, pointer_to_page, pointers_t
 use Rattle.tree_layout.specs.Steps.{StandsOpen}
 use Rattle.tree_layout.specs.Counting.{weight_of, Cutting, nothing_cut, one_more, cut_more, pages_of}
 use Rattle.tree_layout.specs.Counting.{level_above, counts_from, cut_leaves, CountsAreCut}
-use Rattle.tree_layout.proofs.Alike.{size_same, pointer_same}
+use Rattle.tree_layout.proofs.Alike.{alike_entry, size_same, pointer_same}
 use Rattle.tree_layout.proofs.Divided.{CanClimb, alone_pointers, climbs, leaves_climb}
-use Rattle.tree_layout.proofs.Held.{alike_entry}
 use Rattle.tree_layout.proofs.Offsets.{all_within}
 use Rattle.tree_layout.proofs.Pushing.{goes_on_law}
 use Rattle.tree_layout.proofs.Rise.{length-pointers, get_or-pointers, key_of_pointer}

@@ -1,7 +1,6 @@
 -- A file that holds the trees into which entries are divided holds trees.
 use Rattle.std.proofs.Common.{◌≡◌, ◌≢◌, ℕ, ◌+◌, ◌-◌, ◌*◌, ◌<◌, ◌≤◌, List, [], ◌∷◌, length, cond}
 use Rattle.std.proofs.Common.{refl, sym, ap, ◌∙◌, subst, arith, inl, inr, ◌⊎◌, slice_index}
-use Rattle.std.specs.List.{AllZip}
 use Rattle.std.proofs.lemmas.Bool.{ne_eqb, eq-eqb}
 use Rattle.std.proofs.lemmas.Bool.Decides.{eqb_tells}
 use Rattle.std.proofs.lemmas.List.{length-map, get_or-map}
@@ -11,16 +10,14 @@ use Rattle.tree_walk.specs.Index.{Index}
 use Rattle.tree_walk.specs.Segments.{segment_at, segment_named_at, leaf_segment, top_segment}
 use Rattle.inode_segments.specs.Inodes.{segments}
 use Rattle.space_audit.specs.Space.{segment_with_address}
-use Rattle.compact_record.specs.declared.parts.Part.{Part}
-use Rattle.compact_record.specs.declared.parts.Part.TheVariants.{Null, Bytes}
-use Rattle.tree_layout.specs.Entries.{Entry, IsAlike, AreAlike}
+use Rattle.tree_layout.specs.Entries.{Entry}
 use Rattle.tree_layout.specs.Division.{Level, level_counts}
 use Rattle.tree_layout.specs.Levels.{EachPage, width_at, top_of}
 use Rattle.tree_layout.specs.Places.{EachPlace, segment_for, place_for, pages_above}
 use Rattle.tree_layout.specs.Places.{HaveOneNumber, FitsSegments}
 use Rattle.tree_layout.specs.Built.{HoldsTree, ShareNoPages, segment_of_level}
 use Rattle.tree_layout.specs.Divided.{counts_for, numbers_for, levels_for, HoldsDivided}
-use Rattle.tree_layout.specs.DivisionLaws.{AreTheLevels, DivisionGivesLevels, CountsAreOfSizes}
+use Rattle.tree_layout.specs.DivisionLaws.{AreTheLevels, DivisionGivesLevels, CountsNeedNoNumbers}
 use Rattle.tree_layout.specs.PlaceLaws.{StandApart, NumbersAreDifferent}
 use Rattle.tree_layout.specs.HeldLaws.{HoldsTheTrees, DividedTreesAreHeld, HeadersNameSegments}
 use Rattle.tree_layout.specs.TreeLaws.{BuiltTreesAreWhole}
@@ -29,22 +26,11 @@ use Rattle.page_source.specs.Lists.{times_in}
 use Rattle.tree_walk.specs.Descent.{pages_by_descent}
 use Rattle.tree_walk.specs.Laws.{LevelsHaveThePages}
 use Rattle.tree_layout.specs.Places.{IsTreePlace}
-use Rattle.tree_layout.proofs.Numbers.{tree_place, page_at_place}
+use Rattle.tree_layout.proofs.Numbers.{tree_place}
+use Rattle.tree_layout.proofs.Filled.{page_at_place}
 use Rattle.tree_layout.proofs.Together.{descent_page, page_descended}
 use Rattle.tree_layout.proofs.Numbers.{leaves, upper, row_of, leaf_segment_for, top_segment_for, top_place}
 use Rattle.tree_layout.proofs.Numbers.{root_first}
-
-alike_part : (a : Part) → IsAlike a a
-alike_part Null = tt
-alike_part (Bytes bytes external) = (refl, refl)
-
-pub alike_entry : (a : Entry) → AreAlike a a
-alike_entry [] = tt
-alike_entry (x ∷ xs) = (alike_part x, alike_entry xs)
-
-pub alike_all : (entries : List Entry) → AllZip AreAlike entries entries
-alike_all [] = tt
-alike_all (x ∷ xs) = (alike_entry x, alike_all xs)
 
 -- the counts of levels
 pub length-counts : (levels : List Level) → length (level_counts levels) ≡ length levels
@@ -75,7 +61,7 @@ same_kind : (n m l : ℕ) → n ≡ m → (0 < l) ⊎ (n ≡ 1) → (0 < l) ⊎ 
 same_kind n m l same (inl above) = inl above
 same_kind n m l same (inr one) = inr (omega arith)
 
-module _ (law : DivisionGivesLevels) (sizes : CountsAreOfSizes) (differ : NumbersAreDifferent)
+module _ (law : DivisionGivesLevels) (sizes : CountsNeedNoNumbers) (differ : NumbersAreDifferent)
     (page : ℕ → ℕ → ℕ) (size : ℕ → ℕ) (one : HaveOneNumber page size) where
   module _ (index : Index) (j : ℕ) (entries : List Entry) (held : HoldsDivided index page size j entries) where
     the_levels : AreTheLevels index.leaf index.node (numbers_for index page j entries) entries
@@ -86,7 +72,7 @@ module _ (law : DivisionGivesLevels) (sizes : CountsAreOfSizes) (differ : Number
     counts_are : level_counts (levels_for index page j entries) ≡ counts_for index entries
     unfolding levels_for counts_for
     counts_are =
-        sizes index.leaf index.node (numbers_for index page j entries) (λ l k. 0) entries entries (alike_all entries)
+        sizes index.leaf index.node (numbers_for index page j entries) (λ l k. 0) entries
 
     length_is : length (counts_for index entries) ≡ length (levels_for index page j entries)
     length_is = ap length (sym counts_are) ∙ length-counts (levels_for index page j entries)
@@ -211,7 +197,7 @@ module _ (law : DivisionGivesLevels) (sizes : CountsAreOfSizes) (differ : Number
       leaves = λ j inside. (the_levels (index j) j (entries j) (held j inside)).leaves;
     }
 
-pub held_law : DivisionGivesLevels → CountsAreOfSizes → NumbersAreDifferent → DividedTreesAreHeld
+pub held_law : DivisionGivesLevels → CountsNeedNoNumbers → NumbersAreDifferent → DividedTreesAreHeld
 held_law law sizes differ index count page size entries one held =
     all_held law sizes differ page size one index count entries held
 
@@ -238,7 +224,7 @@ names_law index count place j named =
 
 -- the places that a tree takes
 module _ (whole : BuiltTreesAreWhole) (have : LevelsHaveThePages) (law : DivisionGivesLevels)
-    (sizes : CountsAreOfSizes) (differ : NumbersAreDifferent) (index : Index) (page : ℕ → ℕ → ℕ) (size : ℕ → ℕ)
+    (sizes : CountsNeedNoNumbers) (differ : NumbersAreDifferent) (index : Index) (page : ℕ → ℕ → ℕ) (size : ℕ → ℕ)
     (j : ℕ) (entries : List Entry) (one : HaveOneNumber page size) (held : HoldsDivided index page size j entries)
   where
     held_tree : HoldsTree index (numbers_for index page j entries) (levels_for index page j entries)
@@ -285,7 +271,7 @@ module _ (whole : BuiltTreesAreWhole) (have : LevelsHaveThePages) (law : Divisio
           found.same,
         )
 
-pub places_law : BuiltTreesAreWhole → LevelsHaveThePages → DivisionGivesLevels → CountsAreOfSizes
+pub places_law : BuiltTreesAreWhole → LevelsHaveThePages → DivisionGivesLevels → CountsNeedNoNumbers
     → NumbersAreDifferent → TreesTakePlaces
 places_law whole have law sizes differ index page size j entries one held = record {
   taken = place_taken whole have law sizes differ index page size j entries one held;

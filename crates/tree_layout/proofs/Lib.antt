@@ -10,6 +10,7 @@ pub mod Together
 pub mod Fits
 pub mod PointerSizes
 pub mod Numbers
+pub mod Filled
 pub mod Held
 pub mod Example
 pub mod Sorting

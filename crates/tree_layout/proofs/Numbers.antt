@@ -10,7 +10,7 @@ use Rattle.tree_layout.specs.Places.{IsTreePlace, HaveOneNumber, FitsSegments, S
 use Rattle.tree_layout.specs.PlaceLaws.{NumbersAreDifferent}
 
 -- a level and those above it
-above_more : (counts : List ℕ) (l : ℕ) → suc l < length counts
+pub above_more : (counts : List ℕ) (l : ℕ) → suc l < length counts
     → pages_above counts l ≡ slice_index counts (suc l) + pages_above counts (suc l)
 unfolding pages_above
 above_more counts l inside =
@@ -21,11 +21,6 @@ pub above_none : (counts : List ℕ) (l : ℕ) → length counts ≤ suc l → p
 unfolding pages_above
 above_none counts l past =
     let e : l + 1 ≡ suc l = omega arith in rw (e, drop_all (suc l) counts past) refl
-
-pub above_step : (counts : List ℕ) (i : ℕ) → 1 ≤ i → i < length counts
-    → pages_above counts (i - 1) ≡ slice_index counts i + pages_above counts i
-above_step counts i some inside =
-    let e : suc (i - 1) ≡ i = omega arith in rw e at (above_more counts (i - 1) (omega arith))
 
 -- the pages of a level and of those above it are among those above a lower level
 above_within : (counts : List ℕ) (l n : ℕ) → suc (l + n) < length counts
@@ -69,7 +64,7 @@ row_of counts l some =
     ]
 
 -- the place in a segment, and which segment it is
-leaf_place : (counts : List ℕ) (l k : ℕ) → is_leaf_row counts l ≡ true → place_for counts l k ≡ k
+pub leaf_place : (counts : List ℕ) (l k : ℕ) → is_leaf_row counts l ≡ true → place_for counts l k ≡ k
 leaf_place counts l k row = ap (λ b. cond b k (pages_above counts l + k)) row
 
 pub leaf_segment_for : (counts : List ℕ) (j l : ℕ) → is_leaf_row counts l ≡ true → segment_for counts j l ≡ 2 * j + 1
@@ -83,7 +78,7 @@ pub top_segment_for : (counts : List ℕ) (j l : ℕ) → is_leaf_row counts l �
 top_segment_for counts j l row = ap (λ b. cond b (2 * j + 1) (2 * j)) row
 
 module _ (counts : List ℕ) (size : ℕ → ℕ) (j : ℕ) (fits : FitsSegments counts size j) where
-  one_top : length counts ≡ 1 → top_size counts ≡ 1
+  pub one_top : length counts ≡ 1 → top_size counts ≡ 1
   one_top one = ap (λ b. cond b 1 (pages_above counts 0)) (eq-eqb (length counts) 1 one)
 
   pub more_top : 1 < length counts → top_size counts ≡ pages_above counts 0
@@ -180,117 +175,6 @@ module _ (counts : List ℕ) (size : ℕ → ℕ) (j : ℕ) (fits : FitsSegments
                     (sym (top_place counts l k row) ∙ both.1 ∙ top_place counts m i second)
               ]
         ]
-
--- and each of these places has a page
-
--- page k of level m, above some level, stands at this place
-record Found (counts : List ℕ) (l i : ℕ) : Type 0 where
-  m : ℕ
-  k : ℕ
-  above : l < m
-  inside : m < length counts
-  within : k < slice_index counts m
-  place : pages_above counts m + k ≡ i
-
-upper_found : (counts : List ℕ) (n l i : ℕ) → l + suc n ≡ length counts → i < pages_above counts l
-    → Found counts l i
-upper_found counts zero l i size below =
-    let none = above_none counts l (omega arith) in absurd (omega arith)
-upper_found counts (suc n) l i size below =
-    let more = above_more counts l (omega arith) in
-    elim (cases_lt i (pages_above counts (suc l))) [
-      | inl higher ↦
-          let found = upper_found counts n (suc l) i (omega arith) higher in record {
-            m = found.m;
-            k = found.k;
-            above = let up = found.above in omega arith;
-            inside = found.inside;
-            within = found.within;
-            place = found.place;
-          }
-      | inr here ↦ record {
-        m = suc l;
-        k = i - pages_above counts (suc l);
-        above = omega arith;
-        inside = omega arith;
-        within = omega arith;
-        place = omega arith;
-      }
-    ]
-
--- the page at a place
-pub record PageAt (counts : List ℕ) (j s i : ℕ) : Type 0 where
-  pub l : ℕ
-  pub k : ℕ
-  pub inside : l < length counts
-  pub within : k < slice_index counts l
-  pub segment : segment_for counts j l ≡ s
-  pub place : place_for counts l k ≡ i
-
-module _ (counts : List ℕ) (size : ℕ → ℕ) (j : ℕ) (fits : FitsSegments counts size j) where
-  upper_page : (s i : ℕ) → s ≡ 2 * j → (m k : ℕ) → 0 < m → m < length counts → k < slice_index counts m
-      → pages_above counts m + k ≡ i → PageAt counts j s i
-  upper_page s i segment m k above inside within place =
-      let row : is_leaf_row counts m ≡ false = rw (ne_eqb m 0 (λ e. omega arith)) refl in record {
-        l = m;
-        k = k;
-        inside = inside;
-        within = within;
-        segment = top_segment_for counts j m row ∙ sym segment;
-        place = top_place counts m k row ∙ place;
-      }
-
-  only_row : (s i : ℕ) → s ≡ 2 * j → length counts ≡ 1 → 0 < slice_index counts 0 → i ≡ 0 → PageAt counts j s i
-  only_row s i segment one some first =
-      let row : is_leaf_row counts 0 ≡ false = rw (eq-eqb (length counts) 1 one) refl in
-      let none = above_none counts 0 (omega arith) in record {
-        l = 0;
-        k = 0;
-        inside = omega arith;
-        within = some;
-        segment = top_segment_for counts j 0 row ∙ sym segment;
-        place = top_place counts 0 0 row ∙ omega arith;
-      }
-
-  leaf_page : (s i : ℕ) → s ≡ 2 * j + 1 → 1 < length counts → i < slice_index counts 0 → PageAt counts j s i
-  leaf_page s i segment many below =
-      let row : is_leaf_row counts 0 ≡ true = rw (ne_eqb (length counts) 1 (λ e. omega arith)) refl in record {
-        l = 0;
-        k = i;
-        inside = omega arith;
-        within = below;
-        segment = leaf_segment_for counts j 0 row ∙ sym segment;
-        place = leaf_place counts 0 i row;
-      }
-
-  pub page_at_place : (s i : ℕ) → IsTreePlace counts j s i → PageAt counts j s i
-  page_at_place s i (inl top) =
-      let some = fits.some in
-      let below = top.1 in
-      elim (cases_lt 1 (length counts)) [
-        | inl many ↦
-            let sizes = more_top counts size j fits many in
-            let found = upper_found counts (length counts - 1) 0 i (omega arith) (omega arith) in
-            upper_page s i top.0 found.m found.k found.above found.inside found.within found.place
-        | inr few ↦
-            let one : length counts ≡ 1 = omega arith in
-            let sizes = one_top counts size j fits one in
-            let last : length counts - 1 ≡ 0 = omega arith in
-            let single : slice_index counts 0 ≡ 1 = rw last at fits.single in
-            let none = above_none counts 0 (omega arith) in
-            only_row s i top.0 one (omega arith) (omega arith)
-      ]
-  page_at_place s i (inr leaf) =
-      let some = fits.some in
-      let below = leaf.1 in
-      elim (cases_lt 1 (length counts)) [
-        | inl many ↦
-            let sizes = more_leaf counts size j fits many in
-            leaf_page s i leaf.0 many (omega arith)
-        | inr few ↦
-            let none = ap (λ b. cond b 0 (slice_index counts 0)) (eq-eqb (length counts) 1 (omega arith)) in
-            absurd (omega arith)
-      ]
 
 -- the segments of two indexes are different ones
 half_of : (counts : List ℕ) (j l : ℕ) → 0 < length counts

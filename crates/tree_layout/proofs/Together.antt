@@ -3,12 +3,12 @@ use Rattle.std.proofs.Common.{◌≡◌, ◌≢◌, ◌==◌, ℕ, zero, suc, �
 use Rattle.std.proofs.Common.{cond, refl, sym, ap, ◌∙◌, subst, arith, inl, inr, ◌⊎◌}
 use Rattle.std.specs.List.{All, flat_map, range_with_len}
 use Rattle.std.proofs.lemmas.Bool.{ne_eqb, eq-eqb, cases_lt}
-use Rattle.std.proofs.lemmas.List.Elements.{All-append, All-from_get_or}
+use Rattle.std.proofs.lemmas.List.Elements.{All-append, All-contains, All-from_get_or, Contains-get_or}
 use Rattle.page_source.specs.Lists.{times_in}
+use Rattle.page_source.proofs.Times.{times_cons, times_append, times_some, contains_times}
 use Rattle.tree_walk.specs.Index.{Index, root_level, reached, pages_at, tree_pages}
 use Rattle.tree_walk.specs.Descent.{pages_by_descent}
 use Rattle.tree_walk.specs.Laws.{LevelsHaveThePages}
-use Rattle.tree_walk.proofs.Occurs.{occurs, occurs-cons, occurs-append, occurs_all}
 use Rattle.tree_layout.specs.Division.{Level}
 use Rattle.tree_layout.specs.Levels.{width_at, top_of, numbers_at}
 use Rattle.tree_layout.specs.Built.{HoldsTree, HoldsTrees}
@@ -55,33 +55,25 @@ module _ (index : Index) (numbers : ℕ → ℕ → ℕ) (levels : List Level) (
   descent_page have n comes =
       let same = have index n in
       let level = root_level_is index numbers levels tree in
-      occurs_all (IsPageIn numbers levels) n (tree_pages index) (depth_pages (root_level index) (omega arith))
-      (omega arith)
+      All-contains (IsPageIn numbers levels) (tree_pages index) n (depth_pages (root_level index) (omega arith))
+      (contains_times (tree_pages index) n (omega arith))
 
--- a member of a list occurs in it
-occurs_at : (xs : List ℕ) (k d : ℕ) → k < length xs → 1 ≤ occurs (get_or xs k d) xs
-occurs_at [] k d below = absurd (omega arith)
-occurs_at (x ∷ xs) zero d below =
-    let one = occurs-cons x x xs in
-    let same : ◌≡◌ {A = ℕ} (cond (x == x) 1 0) 1 = ap (λ b. cond b 1 0) (eq-eqb x x refl) in
-    omega (arith, one, same)
-occurs_at (x ∷ xs) (suc k) d below =
-    let one = occurs-cons (get_or xs k d) x xs in
-    let rest = occurs_at xs k d (omega arith) in
-    omega (arith, one, rest)
+-- a member of a list comes in it
+comes_at : (xs : List ℕ) (k d : ℕ) → k < length xs → 1 ≤ times_in xs (get_or xs k d)
+comes_at xs k d below = let some = times_some xs (get_or xs k d) (Contains-get_or xs k d below) in omega arith
 
 -- the pages of a depth are among those that are reached
-reached_has : (index : Index) (n d e : ℕ) → occurs n (pages_at index d) ≤ occurs n (reached index (d + e))
+reached_has : (index : Index) (n d e : ℕ) → times_in (pages_at index d) n ≤ times_in (reached index (d + e)) n
 unfolding reached pages_at
 reached_has index n zero zero = omega arith
 reached_has index n (suc d) zero =
     let sum : suc d + 0 ≡ suc d = omega arith in
-    let both = occurs-append n (reached index d) (pages_at index (suc d)) in
+    let both = times_append (reached index d) (pages_at index (suc d)) n in
     rw sum (omega arith)
 reached_has index n d (suc e) =
     let sum : d + suc e ≡ suc (d + e) = omega arith in
     let rest = reached_has index n d e in
-    let both = occurs-append n (reached index (d + e)) (pages_at index (suc (d + e))) in
+    let both = times_append (reached index (d + e)) (pages_at index (suc (d + e))) n in
     rw sum (omega arith)
 
 module _ (index : Index) (numbers : ℕ → ℕ → ℕ) (levels : List Level) (tree : HoldsTree index numbers levels) where
@@ -95,36 +87,36 @@ module _ (index : Index) (numbers : ℕ → ℕ → ℕ) (levels : List Level) (
       let pages = pages_are index numbers levels tree d l (omega arith) in
       let size = length-numbers levels numbers l in
       let number = number_at levels numbers l k 0 within in
-      let here : 1 ≤ occurs (numbers l k) (pages_at index d) =
-      subst (λ n. 1 ≤ occurs n (pages_at index d)) number
-      (subst (λ pages. 1 ≤ occurs (get_or (numbers_at levels numbers l) k 0) pages) (sym pages)
-      (occurs_at (numbers_at levels numbers l) k 0 (omega arith))) in
+      let here : 1 ≤ times_in (pages_at index d) (numbers l k) =
+      subst (λ n. 1 ≤ times_in (pages_at index d) n) number
+      (subst (λ pages. 1 ≤ times_in pages (get_or (numbers_at levels numbers l) k 0)) (sym pages)
+      (comes_at (numbers_at levels numbers l) k 0 (omega arith))) in
       let all = reached_has index (numbers l k) d l in
       let sum : d + l ≡ root_level index = omega arith in
-      let reached_all : occurs (numbers l k) (reached index (d + l)) ≡ occurs (numbers l k) (tree_pages index) =
-      ap (λ e. occurs (numbers l k) (reached index e)) sum in
+      let reached_all : times_in (reached index (d + l)) (numbers l k) ≡ times_in (tree_pages index) (numbers l k) =
+      ap (λ e. times_in (reached index e) (numbers l k)) sum in
       let same = have index (numbers l k) in
       omega arith
 
 -- lists of numbers, one for each index
 
-module _ (lists : ℕ → List ℕ) (n limit : ℕ) (once : (i : ℕ) → i < limit → occurs n (lists i) ≤ 1)
-    (apart : (i j : ℕ) → i < j → j < limit → 1 ≤ occurs n (lists i) → occurs n (lists j) ≡ 0) where
-  none_behind : (i from count : ℕ) → i < from → from + count ≤ limit → 1 ≤ occurs n (lists i)
-      → occurs n (flat_map lists (range_with_len from count)) ≡ 0
+module _ (lists : ℕ → List ℕ) (n limit : ℕ) (once : (i : ℕ) → i < limit → times_in (lists i) n ≤ 1)
+    (apart : (i j : ℕ) → i < j → j < limit → 1 ≤ times_in (lists i) n → times_in (lists j) n ≡ 0) where
+  none_behind : (i from count : ℕ) → i < from → from + count ≤ limit → 1 ≤ times_in (lists i) n
+      → times_in (flat_map lists (range_with_len from count)) n ≡ 0
   none_behind i from zero before within comes = refl
   none_behind i from (suc count) before within comes =
       let here = apart i from before (omega arith) comes in
       let rest = none_behind i (from + 1) count (omega arith) (omega arith) comes in
-      occurs-append n (lists from) (flat_map lists (range_with_len (from + 1) count)) ∙ omega arith
+      times_append (lists from) (flat_map lists (range_with_len (from + 1) count)) n ∙ omega arith
 
   pub once_in_all : (from count : ℕ) → from + count ≤ limit
-      → occurs n (flat_map lists (range_with_len from count)) ≤ 1
+      → times_in (flat_map lists (range_with_len from count)) n ≤ 1
   once_in_all from zero within = omega arith
   once_in_all from (suc count) within =
       let here = once from (omega arith) in
-      let both = occurs-append n (lists from) (flat_map lists (range_with_len (from + 1) count)) in
-      elim (cases_lt 0 (occurs n (lists from))) [
+      let both = times_append (lists from) (flat_map lists (range_with_len (from + 1) count)) n in
+      elim (cases_lt 0 (times_in (lists from) n)) [
         | inl comes ↦
             let rest = none_behind from (from + 1) count (omega arith) (omega arith) comes in omega arith
         | inr none ↦ let rest = once_in_all (from + 1) count (omega arith) in omega arith
@@ -141,36 +133,36 @@ same_below f g limit same from (suc count) within =
 abbrev pub two_segments : ℕ → List ℕ
 two_segments j = (2 * j + 1) ∷ (2 * j) ∷ []
 
-occurs_two : (s j : ℕ) → occurs s (two_segments j) ≡ cond (2 * j + 1 == s) 1 0 + cond (2 * j == s) 1 0
-occurs_two s j =
-    let first = occurs-cons s (2 * j + 1) (2 * j ∷ []) in
-    let second = occurs-cons s (2 * j) [] in
+times_two : (s j : ℕ) → times_in (two_segments j) s ≡ cond (2 * j + 1 == s) 1 0 + cond (2 * j == s) 1 0
+times_two s j =
+    let first = times_cons (2 * j + 1) (2 * j ∷ []) s in
+    let second = times_cons (2 * j) [] s in
     omega (arith, first, second)
 
-other_two : (s j : ℕ) → (s ≢ 2 * j) → (s ≢ 2 * j + 1) → occurs s (two_segments j) ≡ 0
+other_two : (s j : ℕ) → (s ≢ 2 * j) → (s ≢ 2 * j + 1) → times_in (two_segments j) s ≡ 0
 other_two s j even odd =
-    occurs_two s j ∙ rw (ne_eqb (2 * j + 1) s (λ e. odd (sym e)), ne_eqb (2 * j) s (λ e. even (sym e))) refl
+    times_two s j ∙ rw (ne_eqb (2 * j + 1) s (λ e. odd (sym e)), ne_eqb (2 * j) s (λ e. even (sym e))) refl
 
-one_of_two : (s j : ℕ) → (s ≡ 2 * j) ⊎ (s ≡ 2 * j + 1) → occurs s (two_segments j) ≡ 1
+one_of_two : (s j : ℕ) → (s ≡ 2 * j) ⊎ (s ≡ 2 * j + 1) → times_in (two_segments j) s ≡ 1
 one_of_two s j (inl even) =
-    occurs_two s j ∙ rw (ne_eqb (2 * j + 1) s (λ e. omega arith), eq-eqb (2 * j) s (sym even)) refl
+    times_two s j ∙ rw (ne_eqb (2 * j + 1) s (λ e. omega arith), eq-eqb (2 * j) s (sym even)) refl
 one_of_two s j (inr odd) =
-    occurs_two s j ∙ rw (eq-eqb (2 * j + 1) s (sym odd), ne_eqb (2 * j) s (λ e. omega arith)) refl
+    times_two s j ∙ rw (eq-eqb (2 * j + 1) s (sym odd), ne_eqb (2 * j) s (λ e. omega arith)) refl
 
 abbrev pub segments_of : ℕ → ℕ → List ℕ
 segments_of from count = flat_map two_segments (range_with_len from count)
 
-no_segment : (s from count : ℕ) → s < 2 * from → occurs s (segments_of from count) ≡ 0
+no_segment : (s from count : ℕ) → s < 2 * from → times_in (segments_of from count) s ≡ 0
 no_segment s from zero before = refl
 no_segment s from (suc count) before =
     let here = other_two s from (λ e. omega arith) (λ e. omega arith) in
     let rest = no_segment s (from + 1) count (omega arith) in
-    occurs-append s (two_segments from) (segments_of (from + 1) count) ∙ omega arith
+    times_append (two_segments from) (segments_of (from + 1) count) s ∙ omega arith
 
-pub segment_once : (s from count : ℕ) → 2 * from ≤ s → s < 2 * (from + count) → occurs s (segments_of from count) ≡ 1
+pub segment_once : (s from count : ℕ) → 2 * from ≤ s → s < 2 * (from + count) → times_in (segments_of from count) s ≡ 1
 segment_once s from zero least most = absurd (omega arith)
 segment_once s from (suc count) least most =
-    let both = occurs-append s (two_segments from) (segments_of (from + 1) count) in
+    let both = times_append (two_segments from) (segments_of (from + 1) count) s in
     elim (cases_lt s (2 * (from + 1))) [
       | inl here ↦
           let place : (s ≡ 2 * from) ⊎ (s ≡ 2 * from + 1) =
@@ -186,11 +178,11 @@ segment_once s from (suc count) least most =
 
 module _ (whole : BuiltTreesAreWhole) (have : LevelsHaveThePages) (index : ℕ → Index) (limit : ℕ)
     (numbers : ℕ → ℕ → ℕ → ℕ) (levels : ℕ → List Level) (held : HoldsTrees index limit numbers levels) where
-  other_pages : (n i j : ℕ) → i < j → j < limit → 1 ≤ occurs n (pages_by_descent (index i))
-      → occurs n (pages_by_descent (index j)) ≡ 0
+  other_pages : (n i j : ℕ) → i < j → j < limit → 1 ≤ times_in (pages_by_descent (index i)) n
+      → times_in (pages_by_descent (index j)) n ≡ 0
   other_pages n i j before inside comes =
       let here = descent_page (index i) (numbers i) (levels i) (held.trees i (omega arith)) have n comes in
-      elim (cases_lt 0 (occurs n (pages_by_descent (index j)))) [
+      elim (cases_lt 0 (times_in (pages_by_descent (index j)) n)) [
         | inl again ↦
             let there = descent_page (index j) (numbers j) (levels j) (held.trees j inside) have n again in
             absurd (held.apart i j before inside here.l here.k here.inside here.within there.l there.k there.inside

@@ -28,15 +28,13 @@ use Rattle.tree_walk.specs.TreeChecks.{TreeChecks, RootCheck, PlaceWith, PlaceCh
 use Rattle.tree_walk.specs.TreeChecks.{DepthCheck}
 use Rattle.tree_walk.specs.TreeChecks.{held_key_in}
 use Rattle.tree_walk.specs.Laws.{ChecksAreWholeness, IsWhole, RowsByLeaves}
-use Rattle.tree_walk.proofs.Records.{length-records}
-use Rattle.tree_walk.proofs.Levels.{is_in-append}
 use Rattle.tree_layout.specs.Entries.{key_of_entry, IsEntryBelow}
 use Rattle.tree_layout.specs.Division.{Level}
 use Rattle.tree_layout.specs.Levels.{level_at, width_at, page_entries, top_of, numbers_at}
 use Rattle.tree_layout.specs.Built.{HoldsTree}
 use Rattle.tree_layout.proofs.Offsets.{pairs_across}
 use Rattle.tree_layout.proofs.Rise.{level_rises, count_above}
-use Rattle.tree_layout.proofs.Rows.{length-numbers, number_at, kinds_on, count_rows, count_records}
+use Rattle.tree_layout.proofs.Rows.{length-records, length-numbers, number_at, kinds_on, count_rows, count_records}
 use Rattle.tree_layout.proofs.Rows.{record_key_is, child_above, pointer_key, children_above, root_alone, pages_are}
 use Rattle.tree_layout.proofs.Rows.{root_level_is, rows_are, row_keys_are, rows_live}
 use Rattle.tree_layout.specs.TreeLaws.{BuiltTreesAreWhole}
@@ -51,7 +49,10 @@ unfolding row_at
 row_found rows i below = slice_get-get_or rows i no_row below
 
 not_in_both : (xs ys : List ℕ) (n : ℕ) → is_in xs n ≡ false → is_in ys n ≡ false → is_in (xs ++ ys) n ≡ false
-not_in_both xs ys n first second = rw (is_in-append xs ys n, first) second
+not_in_both [] ys n first second = second
+not_in_both (x ∷ xs) ys n first second =
+    elim (x == n) as (λ here. cond here true (is_in xs n) ≡ false → cond here true (is_in (xs ++ ys) n) ≡ false)
+    [ true ↦ λ none. none | false ↦ λ none. not_in_both xs ys n none second ] first
 
 -- a low separator that the first key is equal to
 has_low : (page : List ℕ) (fields : Fields) (level : ℕ) (first : Bool) (key : Key) → record_key page fields 0 ≡ key

@@ -32,6 +32,18 @@ CountsAreOfSizes =
     (leaf node : Fields) (numbers others : ℕ → ℕ → ℕ) (entries like : List Entry) → AllZip AreAlike entries like
     → level_counts (tree_levels leaf node numbers entries) ≡ level_counts (tree_levels leaf node others like)
 
+-- so it is with one list of entries and other numbers of pages
+abbrev pub CountsNeedNoNumbers : Type 0
+CountsNeedNoNumbers =
+    (leaf node : Fields) (numbers others : ℕ → ℕ → ℕ) (entries : List Entry)
+    → level_counts (tree_levels leaf node numbers entries) ≡ level_counts (tree_levels leaf node others entries)
+
+-- a record is as large as one whose parts have the same lengths
+abbrev pub AlikeRecordsHaveOneSize : Type 0
+AlikeRecordsHaveOneSize =
+    (fields : Fields) (parts like : Entry) → AreAlike parts like
+    → size_of_record fields parts ≡ size_of_record fields like
+
 -- a pointer is no larger than the entry whose key it has, less the values behind the key, and four bytes more
 abbrev pub PointersAreSmall : Type 0
 PointersAreSmall =

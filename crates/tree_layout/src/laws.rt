@@ -5,9 +5,9 @@ ghost use Rattle.tree_layout.specs.TreeLaws.{BuiltTreesAreWhole, BuiltTreesAreAp
 ghost use Rattle.tree_layout.specs.HeldLaws.{HeadersNameSegments, TreesTakePlaces, DividedTreesAreHeld};
 ghost use Rattle.tree_layout.specs.HeldLaws.{DividedTreesHaveRows};
 ghost use Rattle.tree_layout.specs.DivisionLaws.{DivisionGivesLevels, CountsAreOfSizes, PointersAreSmall};
-ghost use Rattle.tree_layout.specs.DivisionLaws.{RecordsAreSmall};
+ghost use Rattle.tree_layout.specs.DivisionLaws.{CountsNeedNoNumbers, AlikeRecordsHaveOneSize, RecordsAreSmall};
 ghost use Rattle.tree_layout.specs.Counting.{CountsAreCut};
-ghost use Rattle.tree_layout.specs.PlaceLaws.{NumbersAreDifferent};
+ghost use Rattle.tree_layout.specs.PlaceLaws.{NumbersAreDifferent, PagesFillPlaces};
 ghost use Rattle.tree_layout.specs.Sorted.{SortingRises};
 ghost use Rattle.tree_layout.specs.Steps.{DivisionGoesOn, LevelsStand};
 
@@ -42,6 +42,16 @@ pub fn counts_are_of_sizes()
     ensures { CountsAreOfSizes }
 {}
 
+/// And not on the numbers of pages.
+pub fn counts_need_no_numbers()
+    ensures { CountsNeedNoNumbers }
+{}
+
+/// A record is as large as one whose parts have the same lengths.
+pub fn alike_records_have_one_size()
+    ensures { AlikeRecordsHaveOneSize }
+{}
+
 /// A pointer takes hardly more bytes than the key of its entry.
 pub fn pointers_are_small()
     ensures { PointersAreSmall }
@@ -57,12 +67,17 @@ pub fn numbers_are_different()
     ensures { NumbersAreDifferent }
 {}
 
+/// The pages of a tree are those of its places in the segments of its index.
+pub fn pages_fill_places()
+    ensures { PagesFillPlaces }
+{}
+
 /// A file that holds the trees into which entries are divided holds trees with these entries.
 pub fn divided_trees_are_held()
     ensures { DividedTreesAreHeld }
 {
     division_gives_levels();
-    counts_are_of_sizes();
+    counts_need_no_numbers();
     numbers_are_different();
 }
 
@@ -73,7 +88,7 @@ pub fn trees_take_places()
     built_trees_are_whole();
     levels_have_the_pages();
     division_gives_levels();
-    counts_are_of_sizes();
+    counts_need_no_numbers();
     numbers_are_different();
 }
 

@@ -13,6 +13,7 @@ use Rattle.tree_walk.specs.Index.{Index, Row, page_in, root_level, index_id, pag
 use Rattle.tree_walk.specs.Index.{leaf_rows}
 use Rattle.column_values.specs.Types.{AreOfOneIndex}
 use Rattle.tree_walk.specs.Records.{IsRecord}
+use Rattle.tree_walk.specs.Facts.{LevelFacts}
 use Rattle.tree_walk.specs.Segments.{segment_at}
 use Rattle.tree_walk.specs.Place.{IsBeside}
 use Rattle.tree_walk.specs.TreeChecks.{TreeChecks, IsRootPlace, HasNewSegments, before, after}
@@ -71,6 +72,10 @@ ChecksGiveTree = (index : Index) → AreOfOneIndex index.leaf index.node → IsW
 abbrev pub RowsCanBeRead : Type 0
 RowsCanBeRead = (index : Index) → IsWalked index
     → All (λ row. IsRecord (page_in index row.page) index.leaf row.origin) (leaf_rows index)
+
+-- each of its leaves is sound, and linked to the next
+abbrev pub LeavesAreSound : Type 0
+LeavesAreSound = (index : Index) → IsWalked index → LevelFacts index index.leaf (root_level index)
 
 -- a page of this index, used by the segment of its level
 pub record IsOwnPage (index : Index) (level n : ℕ) : Type 0 where

@@ -1,6 +1,6 @@
 //! What the definitions of a tree say together, each the contract of a function that does nothing.
 
-ghost use Rattle.tree_walk.specs.Laws.{LinksAreDescent, KeysRiseOverLeaves, RowsCanBeRead, ChecksGiveTree};
+ghost use Rattle.tree_walk.specs.Laws.{LinksAreDescent, KeysRiseOverLeaves, LeavesAreSound, RowsCanBeRead, ChecksGiveTree};
 ghost use Rattle.tree_walk.specs.Laws.{ChecksAreWholeness, LevelsHaveThePages, RowsByLeaves};
 
 use index_page::laws::{checks_are_an_index_page, page_has_one_chain};
@@ -29,6 +29,11 @@ pub fn keys_rise_over_leaves()
 /// Each of its rows is spelled, and ends on its page.
 pub fn rows_can_be_read()
     ensures { RowsCanBeRead }
+{}
+
+/// Each of its leaves is sound, and linked to the next.
+pub fn leaves_are_sound()
+    ensures { LeavesAreSound }
 {}
 
 /// It is a tree by descent: each page is an index page whose keys lie between the separators of its parent.

@@ -1,20 +1,20 @@
 -- What is ahead of a text that is read on.
 use Rattle.std.proofs.Common.{◌≡◌, ◌≢◌, ℕ, ◌+◌, ◌<◌, ◌≤◌, true, false, List, [], ◌∷◌, ◌++◌, length, take}
 use Rattle.std.proofs.Common.{drop, get_or, Some, None, Option, Ok, sym, ap, ◌∙◌}
-use Rattle.std.proofs.Common.{subst, arith, inl, inr, ◌⊎◌}
+use Rattle.std.proofs.Common.{subst, arith, inl, inr}
 use Rattle.std.proofs.lemmas.Bool.{cases_lt}
 use Rattle.std.proofs.lemmas.List.{append_assoc, append-nil, length-append, length-take-le}
 use Rattle.std.proofs.Math.Seq.{take-append-add}
 use Rattle.std.proofs.lemmas.List.{take_at, take-take}
 use Rattle.std.proofs.lemmas.List.{take_all, take-append-le, take-append-drop, get_or-take, get_or_append_left}
-use Rattle.std.proofs.lemmas.List.{drop_more, drop_all, nil_from_length}
+use Rattle.std.proofs.lemmas.List.{drop_more, drop_all}
 use Rattle.std.proofs.lemmas.List.Elements.{All-from_get_or}
 use Rattle.page_source.specs.Objects.{TakesBytes}
 use Rattle.schema_text.specs.Grammar.{line_feed}
 use Rattle.schema_text.specs.Cuts.{Lacks}
-use Rattle.space_builder.specs.build.Lines.{StandsFirst, GivesBytes, IsAtEnd, IsOverlong, ComeBehind}
-use Rattle.space_builder.specs.build.Lines.{GrewBehind, IsFeedPlace, IsNextLine, FindsLine}
-use Rattle.space_builder.proofs.building.Reading.{gives_none, gives_more}
+use Rattle.space_builder.specs.calls.Lines.{StandsFirst, GivesBytes, IsAtEnd, ComeBehind}
+use Rattle.space_builder.specs.calls.Lines.{GrewBehind, IsFeedPlace}
+use Rattle.space_builder.proofs.building.Reading.{gives_more}
 
 -- bytes that were read
 pub given_by : (E : Type 0) (old new : Option (List ℕ)) (k : ℕ) (buffer : List ℕ)
@@ -58,10 +58,6 @@ room_read items fill all buffer rest more end count size chunk end_is filled few
     ∙ ap (λ (xs : List ℕ). take end all ++ xs) (take-append-le count buffer rest few)
     ∙ ap (λ (xs : List ℕ). xs ++ take count buffer) front
 
--- what came behind, as it grew
-pub grew_none : (o : Option (List ℕ)) (bytes : List ℕ) → GrewBehind o o bytes bytes
-grew_none o bytes = record { piece = []; behind = sym (append-nil bytes); given = gives_none o }
-
 pub grew_more : (a b c : Option (List ℕ)) (xs ys zs : List ℕ) (count : ℕ) → GrewBehind a b xs ys
     → ComeBehind b c ys zs count → GrewBehind a c xs zs
 grew_more a b c xs ys zs count grew come = record {
@@ -70,11 +66,6 @@ grew_more a b c xs ys zs count grew come = record {
       come.behind ∙ ap (λ (bytes : List ℕ). bytes ++ come.piece) grew.behind ∙ append_assoc xs grew.piece come.piece;
   given = gives_more a b c grew.piece come.piece grew.given come.given;
 }
-
-pub come_longer : (a b : Option (List ℕ)) (xs ys : List ℕ) (count : ℕ) → ComeBehind a b xs ys count
-    → length ys ≡ length xs + count
-come_longer a b xs ys count come =
-    let size = ap length come.behind ∙ length-append xs come.piece in let more = come.count_is in omega arith
 
 -- the place of the first LF, searched from a place on
 searched : (a b : Option (List ℕ)) (xs ys : List ℕ) (count size place : ℕ) → IsFeedPlace xs size → size ≡ length xs
@@ -101,12 +92,6 @@ place_on a b xs ys zs count size place before all come same within lacks feed =
     (subst (λ (bytes : List ℕ). place ≤ length bytes) same within)
     (λ k least below. subst (λ (bytes : List ℕ). get_or bytes k 0 ≢ 10) same (lacks k least below))
     (subst (λ (bytes : List ℕ). place < length bytes → get_or bytes place 0 ≡ 10) same feed)
-
-pub place_from_start : (ys : List ℕ) (place : ℕ) → place ≤ length ys
-    → ((k : ℕ) → 0 ≤ k → k < place → get_or ys k 0 ≢ 10) → (place < length ys → get_or ys place 0 ≡ 10)
-    → IsFeedPlace ys place
-place_from_start ys place within lacks feed =
-    record { within = within; lacks = λ k below. lacks k (omega arith) below; feed = feed }
 
 -- the line up to a place
 lacks_before : (bytes : List ℕ) (place : ℕ) → IsFeedPlace bytes place → Lacks line_feed (take place bytes)
@@ -140,32 +125,3 @@ stands_unfed bytes place is all =
       lacks = lacks_before bytes place is;
       last = λ unfed. past;
     }
-
-pub fed_line : (bytes : List ℕ) (left : Option (List ℕ)) (place : ℕ) → IsFeedPlace bytes place → place < length bytes
-    → IsNextLine bytes left (record { size = place; feed = true })
-fed_line bytes left place is less = record {
-  stands = stands_fed bytes place is less;
-  within = omega arith;
-  whole = λ never. cc;
-  some = λ never. cc;
-}
-
-pub unfed_line : (bytes : List ℕ) (left : Option (List ℕ)) (place : ℕ) → IsFeedPlace bytes place → length bytes ≤ place
-    → (place ≡ length bytes → IsOverlong place ⊎ IsAtEnd left) → place ≢ 0
-    → IsNextLine bytes left (record { size = place; feed = false })
-unfed_line bytes left place is all ends some =
-    let within = is.within in
-    record {
-      stands = stands_unfed bytes place is (omega arith);
-      within = omega arith;
-      whole = λ unfed. ends (omega arith);
-      some = λ unfed. some;
-    }
-
-pub no_line : (bytes : List ℕ) (left : Option (List ℕ)) (place : ℕ) → IsFeedPlace bytes place → length bytes ≤ place
-    → (place ≡ length bytes → IsOverlong place ⊎ IsAtEnd left) → place ≡ 0 → FindsLine bytes left None
-no_line bytes left place is all ends none =
-    let within = is.within in (
-      nil_from_length bytes (omega arith),
-      elim (ends (omega arith)) [ inl over ↦ absurd (omega arith) | inr at_end ↦ at_end ],
-    )

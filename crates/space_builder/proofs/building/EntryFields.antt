@@ -10,7 +10,7 @@ use Rattle.std.proofs.lemmas.List.Elements.{All-head, All-tail, All-filter, filt
 use Rattle.std.proofs.lemmas.List.FromFn.{get_or-map-range_with_len, length-map-range_with_len}
 use Rattle.schema_text.specs.TableDef.{TableDef, index_at}
 use Rattle.schema_text.specs.IndexFields.{positions_without, field_of_column, clustered_positions, fields_of_columns}
-use Rattle.space_builder.specs.build.Picked.{entry_fields, entry_columns, hidden_fields}
+use Rattle.space_builder.specs.calls.Picked.{entry_fields, entry_columns, hidden_fields}
 
 module _ (at columns others old now : List ℕ) (n d place : ℕ) (within : n < length columns)
     (is : place ≡ get_or columns n d)

@@ -20,8 +20,8 @@ use Rattle.space_builder.specs.layout.Layout.{Rows}
 use Rattle.space_builder.specs.layout.Laws.{HaveFittedRows}
 use Rattle.space_builder.specs.build.BadLine.{line_at, line_length, line_end, IsWholeLine, IsKeyBelow, IsInOrder}
 use Rattle.space_builder.specs.build.BadLine.{HasFittedRow, RowChecks}
-use Rattle.space_builder.specs.build.Lines.{with_feed, joined_lines, bytes_in, StandsFirst}
-use Rattle.space_builder.specs.build.NextRow.{IsNextRow}
+use Rattle.space_builder.specs.calls.Lines.{with_feed, joined_lines, bytes_in, StandsFirst}
+use Rattle.space_builder.specs.calls.NextRow.{IsNextRow}
 use Rattle.space_builder.proofs.building.Pieces.{Lack, IsLineAt, line_there}
 
 -- lines that end with LF, and their rows

@@ -13,8 +13,8 @@ use Rattle.column_values.specs.Types.{Fields, field_at, child_field}
 use Rattle.column_values.specs.Order.{Key, cell_cmp, key_cmp}
 use Rattle.compact_record.specs.Reading.{key_kinds}
 use Rattle.row_layout.specs.StoredRow.{Stored, stored_at}
-use Rattle.space_builder.specs.build.Stored.{value_of}
-use Rattle.space_builder.specs.build.Picked.{picked_key}
+use Rattle.space_builder.specs.calls.Stored.{value_of}
+use Rattle.space_builder.specs.calls.Picked.{picked_key}
 
 -- what is left of two keys from field i on, in their order
 abbrev pub LeftOf : List FieldType → Key → Key → ℕ → Ordering
@@ -86,8 +86,3 @@ module _ (list : Fields) (fields : List ℕ) (a b : List Stored) (few : list.key
       (compared ∙ ap (λ (v : Option (List ℕ)). cell_cmp kind v y) (cell a i field x below is read_x)
       ∙ ap (cell_cmp kind (get_or first i None)) (cell b i field y below is read_y))
       says left
-
-  pub rows_end : (i : ℕ) (whole : Ordering) → length fields ≤ i → LeftOf (key_kinds list) first second i ≡ whole
-      → Equal ≡ whole
-  rows_end i whole past left =
-      cells_end (key_kinds list) first second i whole (omega (arith, past, each, kinds_size list few)) left

@@ -1,6 +1,6 @@
 -- The longest field that may go off the page, and a row that is fitted.
-use Rattle.std.proofs.Common.{◌≡◌, ◌≢◌, ◌==◌, ℕ, zero, suc, ◌+◌, ◌<◌, ◌≤◌, max, Bool, true, false, cond, eqb, List}
-use Rattle.std.proofs.Common.{length, take, get_or, Some, None, refl, sym, ap, ◌∙◌, arith, inl, inr}
+use Rattle.std.proofs.Common.{◌≡◌, ◌≢◌, ◌==◌, ℕ, suc, ◌+◌, ◌<◌, ◌≤◌, max, Bool, true, false, cond, eqb, List}
+use Rattle.std.proofs.Common.{length, take, get_or, Some, None, sym, ap, ◌∙◌, arith, inl, inr}
 use Rattle.std.specs.List.{position_or_len}
 use Rattle.std.proofs.lemmas.Bool.{cases_lt, eq-eqb, ne_eqb}
 use Rattle.std.proofs.lemmas.List.{take_all}
@@ -12,7 +12,7 @@ use Rattle.schema_text.specs.IndexFields.{leaf_fields}
 use Rattle.row_layout.specs.StoredRow.{Stored, stored_at, going_length, going_lengths, greatest, longest_off}
 use Rattle.row_layout.specs.StoredRow.{is_too_long}
 use Rattle.row_layout.specs.StoredRow.{with_off, fitted}
-use Rattle.space_builder.specs.build.RowFields.{GoesNext}
+use Rattle.space_builder.specs.calls.RowFields.{GoesNext}
 
 -- the greatest of the first so many lengths, and where it stands first
 pub record IsLongest (lengths : List ℕ) (i most place : ℕ) : Type 0 where
@@ -21,15 +21,6 @@ pub record IsLongest (lengths : List ℕ) (i most place : ℕ) : Type 0 where
   pub within : most ≢ 0 → place < i
   pub at : most ≢ 0 → get_or lengths place 0 ≡ most
   pub first : most ≢ 0 → (k : ℕ) → k < place → get_or lengths k 0 < most
-
-pub longest_none : (lengths : List ℕ) → IsLongest lengths 0 0 0
-longest_none lengths = record {
-  most_is = refl;
-  above = λ k below. absurd (omega arith);
-  within = λ some. absurd (some refl);
-  at = λ some. absurd (some refl);
-  first = λ some. absurd (some refl);
-}
 
 pub longest_new : (lengths : List ℕ) (i most place length' : ℕ) → IsLongest lengths i most place → i < length lengths
     → length' ≡ get_or lengths i 0 → most < length' → IsLongest lengths (i + 1) length' i
@@ -120,23 +111,3 @@ fit_more table row i n m long goes is =
     (cond (eqb (greatest (going_lengths table row)) 0) None (fitted table m (longest_off table row))) (Some row)) long
     ∙ ap (λ b. cond b None (fitted table m (longest_off table row))) none
     ∙ ap (λ k. fitted table m (with_off k row)) (sym goes.1)
-
-pub fit_short : (table : TableDef) (row : List Stored) (m : ℕ) → is_too_long table row ≡ false
-    → fitted table m row ≡ Some row
-fit_short table row zero short = ap (λ b. cond b None (Some row)) short
-fit_short table row (suc m) short =
-    ap (λ b. cond b
-    (cond (eqb (greatest (going_lengths table row)) 0) None (fitted table m (longest_off table row))) (Some row)) short
-
-pub fit_never : (table : TableDef) (row : List Stored) (m : ℕ) → is_too_long table row ≡ true
-    → GoesNext table row None → fitted table m row ≡ None
-fit_never table row zero long none = ap (λ b. cond b None (Some row)) long
-fit_never table row (suc m) long none =
-    ap (λ b. cond b
-    (cond (eqb (greatest (going_lengths table row)) 0) None (fitted table m (longest_off table row))) (Some row)) long
-    ∙ ap (λ b. cond b None (fitted table m (longest_off table row)))
-    (eq-eqb (greatest (going_lengths table row)) 0 none)
-
-pub fit_last : (table : TableDef) (row : List Stored) (m : ℕ) → m ≡ 0 → is_too_long table row ≡ true
-    → fitted table m row ≡ None
-fit_last table row m is long = ap (λ k. fitted table k row) is ∙ ap (λ b. cond b None (Some row)) long

@@ -1,8 +1,8 @@
 -- The row of a line behind others, as it is stored.
-use Rattle.std.proofs.Common.{◌≡◌, ◌≢◌, ℕ, zero, suc, ◌+◌, ◌-◌, ◌<◌, ◌≤◌, true, false, List, [], ◌∷◌}
+use Rattle.std.proofs.Common.{◌≡◌, ◌≢◌, ℕ, ◌+◌, ◌-◌, ◌<◌, ◌≤◌, true, false, List, [], ◌∷◌}
 use Rattle.std.proofs.Common.{◌++◌, length, map, take, get_or, Option, Some, None, unwrap_or, is_some, refl}
 use Rattle.std.proofs.Common.{replicate, sym, ap, ◌∙◌, subst, arith, inl, inr}
-use Rattle.std.specs.List.{range_with_len, AllZip}
+use Rattle.std.specs.List.{range_with_len}
 use Rattle.std.specs.declared.cmp.Ordering.{Ordering}
 use Rattle.std.specs.Ordering.{ordering_then}
 use Rattle.std.proofs.lemmas.Bool.{cases_lt, false≢true}
@@ -28,9 +28,10 @@ use Rattle.row_layout.specs.RowKeys.{column_key}
 use Rattle.row_layout.specs.HoldsValues.{stored_in}
 use Rattle.row_layout.specs.Laws.{FittedRowsAreRows}
 use Rattle.space_builder.specs.layout.Layout.{Rows, stored_rows}
-use Rattle.space_builder.specs.build.Stored.{value_of}
-use Rattle.space_builder.specs.build.NextRow.{first_cells, IsAfter, HoldsRows, RisesBehind, IsNextRow}
-use Rattle.space_builder.specs.build.NextRow.{AreWide}
+use Rattle.space_builder.specs.calls.Stored.{value_of}
+use Rattle.space_builder.specs.calls.NextRow.{first_cells, IsAfter, HoldsRows, RisesBehind, IsNextRow}
+use Rattle.space_builder.specs.calls.NextRow.{AreWide}
+use Rattle.space_builder.proofs.Lists.{zip_length, zip_at}
 use Rattle.space_builder.proofs.building.Spots.{no_field}
 use Rattle.space_builder.proofs.building.KeyOrders.{LeftOf, cells_decide, kinds_size}
 use Rattle.space_builder.proofs.building.Shapes.{length-stored_row, keys_within, key_cells, cells_same}
@@ -206,20 +207,6 @@ filled_as table stored n values row now filled count same =
     filled ∙ ap (λ k. stored_row table k values) count ∙ ap (stored_row table (length stored)) same
 
 -- the values of a row, column by column
-module _ {A B : Type 0} (R : A → B → Type 0) where
-  zip_length : (xs : List A) (ys : List B) → AllZip R xs ys → length xs ≡ length ys
-  zip_length [] [] z = refl
-  zip_length [] (y ∷ ys) z = absurd z
-  zip_length (x ∷ xs) [] z = absurd z
-  zip_length (x ∷ xs) (y ∷ ys) z = ap suc (zip_length xs ys z.1)
-
-  zip_at : (xs : List A) (ys : List B) (k : ℕ) (d : A) (e : B) → AllZip R xs ys → k < length xs
-      → R (get_or xs k d) (get_or ys k e)
-  zip_at [] ys k d e z below = absurd (omega arith)
-  zip_at (x ∷ xs) [] k d e z below = absurd z
-  zip_at (x ∷ xs) (y ∷ ys) zero d e z below = z.0
-  zip_at (x ∷ xs) (y ∷ ys) (suc k) d e z below = zip_at xs ys k d e z.1 (omega arith)
-
 pub length-values : (table : TableDef) (values : List Value) → IsTableRow table values
     → length table.columns ≡ length values
 length-values table values is = zip_length FitsColumn table.columns values is

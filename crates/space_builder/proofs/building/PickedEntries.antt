@@ -31,11 +31,11 @@ use Rattle.row_layout.specs.HoldsValues.{AreFitted, stored_in, clustered_entry, 
 use Rattle.row_layout.specs.SecondaryEntries.{secondary_entry, row_entries, secondary_entries}
 use Rattle.row_layout.specs.EntryLaws.{EntriesDiffer}
 use Rattle.space_builder.specs.layout.Layout.{Rows, value_number, index_entries}
-use Rattle.space_builder.specs.build.Stored.{value_of}
-use Rattle.space_builder.specs.build.Picked.{whole_part, picked_entry, picked_key, picked_entries, entry_fields}
-use Rattle.space_builder.specs.build.Picked.{hidden_fields, clustered_part}
-use Rattle.space_builder.specs.build.StoredRows.{PicksEntries, SamePagesGiveRecords}
-use Rattle.space_builder.specs.build.StoredRows.{StoredRowsGiveEntries}
+use Rattle.space_builder.specs.calls.Stored.{value_of}
+use Rattle.space_builder.specs.calls.Picked.{whole_part, picked_entry, picked_key, picked_entries, entry_fields}
+use Rattle.space_builder.specs.calls.Picked.{hidden_fields, clustered_part}
+use Rattle.space_builder.specs.calls.StoredRows.{PicksEntries, SamePagesGiveRecords}
+use Rattle.space_builder.specs.calls.StoredRows.{StoredRowsGiveEntries}
 use Rattle.space_builder.proofs.layout.FittedRows.{fitted_if}
 use Rattle.space_builder.proofs.building.Columns.{length_known, column_stored}
 use Rattle.space_builder.proofs.building.Ranges.{map_ranges}

@@ -1,9 +1,9 @@
 -- The parts of entries, field by field.
-use Rattle.std.proofs.Common.{◌≡◌, ℕ, ◌-◌, ◌^◌, ◌<◌, ◌≤◌, min, List, [], ◌++◌, length, map, take, get_or}
+use Rattle.std.proofs.Common.{◌≡◌, ℕ, ◌-◌, ◌<◌, ◌≤◌, min, List, [], ◌++◌, length, map, take, get_or}
 use Rattle.std.proofs.Common.{drop, length-drop, sym, ap, ◌∙◌, arith, inl, inr}
 use Rattle.std.specs.List.{range_with_len}
 use Rattle.std.proofs.lemmas.Bool.{cases_lt}
-use Rattle.std.proofs.lemmas.List.{get_or_past, get_or-map, length-map, take_all}
+use Rattle.std.proofs.lemmas.List.{get_or-map, length-map, take_all}
 use Rattle.std.proofs.lemmas.List.FromFn.{get_or-map-range_with_len, length-map-range_with_len, take-map-range_with_len}
 use Rattle.schema_text.specs.declared.table.Format.{Format}
 use Rattle.page_packer.specs.Entries.{Entry, entry_at}
@@ -11,17 +11,7 @@ use Rattle.row_layout.specs.StoredRow.{Stored, parts_of_row, kept, kept_prefix}
 use Rattle.row_layout.specs.StoredRow.{off_local}
 use Rattle.offpage_chain.specs.Reference.{reference_bytes}
 use Rattle.row_layout.specs.HoldsValues.{stored_in, clustered_entry, clustered_entries}
-use Rattle.space_builder.specs.build.Picked.{clustered_part, picked_entry, picked_entries}
-
--- a number past all pages, as far as numbers go
-pub page_saturated : (pages : List ℕ) (n place : ℕ) → length pages < 2 ^ 64 → place ≡ min n (2 ^ 64 - 1)
-    → get_or pages place 0 ≡ get_or pages n 0
-page_saturated pages n place short is = elim (cases_lt n (2 ^ 64)) [
-  | inl less ↦ let e : place ≡ n = omega arith in ap (λ (k : ℕ). get_or pages k 0) e
-  | inr more ↦
-      get_or_past pages place 0 (omega (arith, short, is, more))
-      ∙ sym (get_or_past pages n 0 (omega (arith, more, short)))
-]
+use Rattle.space_builder.specs.calls.Picked.{clustered_part, picked_entry, picked_entries}
 
 -- the first ones of a list, at most all
 pub take_least : {X : Type 0} (n k : ℕ) (xs : List X) → k ≡ min n (length xs) → take k xs ≡ take n xs

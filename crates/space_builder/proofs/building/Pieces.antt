@@ -10,7 +10,7 @@ use Rattle.schema_text.specs.Grammar.{line_feed}
 use Rattle.schema_text.specs.Cuts.{Lacks}
 use Rattle.space_builder.specs.build.BadLine.{pieces_of, row_lines, line_at, line_length, line_end, feed_length}
 use Rattle.space_builder.specs.build.BadLine.{HasFeed}
-use Rattle.space_builder.specs.build.Lines.{with_feed, joined_lines, bytes_in, end_size, StandsFirst}
+use Rattle.space_builder.specs.calls.Lines.{with_feed, joined_lines, bytes_in, end_size, StandsFirst}
 
 abbrev pub Lack : List ℕ → Type 0
 Lack = Lacks line_feed

@@ -23,7 +23,6 @@ use Rattle.tree_layout.specs.Entries.{Entry}
 use Rattle.tree_layout.specs.Division.{tree_levels, level_counts, CanDivide}
 use Rattle.tree_layout.specs.Levels.{top_of}
 use Rattle.tree_layout.specs.Places.{pages_above, top_size, leaf_size}
-use Rattle.tree_layout.proofs.Held.{length-counts, count_at}
 use Rattle.row_layout.specs.StoredRow.{Stored}
 use Rattle.row_layout.specs.HoldsValues.{clustered_entries, pages_of_stored}
 use Rattle.space_builder.specs.declared.plan.IndexPages.{IndexPages}
@@ -33,13 +32,13 @@ use Rattle.space_builder.specs.declared.plan.PlanStop.TheVariants as stops
 use Rattle.space_builder.specs.layout.Layout.{Rows, stored_rows, entries_with, tree_counts, value_counts, value_total}
 use Rattle.space_builder.specs.layout.Layout.{index_sizes, segment_sizes, layout_extents}
 use Rattle.space_builder.specs.layout.LowerLaws.{LowerLaws}
-use Rattle.space_builder.specs.build.Picked.{first_page_in, picked_entries, entry_fields}
-use Rattle.space_builder.specs.build.Order.{IsIndexOrder}
-use Rattle.space_builder.specs.build.StoredRows.{AreStoredRows, PicksEntries}
-use Rattle.space_builder.specs.build.Plan.{HaveRows, OfStored, stored_total, HasTreeCounts, HasWideLevel, IsFull}
-use Rattle.space_builder.specs.build.Plan.{HasValuePages, ArePagesOf, IsPlanOf, FindsPages}
+use Rattle.space_builder.specs.calls.Picked.{first_page_in, picked_entries, entry_fields}
+use Rattle.space_builder.specs.calls.Order.{IsIndexOrder}
+use Rattle.space_builder.specs.calls.StoredRows.{AreStoredRows, PicksEntries}
+use Rattle.space_builder.specs.calls.Plan.{HaveRows, OfStored, stored_total, HasTreeCounts, HasWideLevel, IsFull}
+use Rattle.space_builder.specs.calls.Plan.{HasValuePages, ArePagesOf, IsPlanOf, FindsPages}
 use Rattle.space_builder.proofs.layout.FittedRows.{fitted_if}
-use Rattle.space_builder.proofs.layout.Sizes.{size_small, top_is, leaf_is}
+use Rattle.space_builder.proofs.layout.Sizes.{length-counts, count_at, size_small, top_is, leaf_is}
 
 -- these are the leaf entries of index j, whose values have no pages yet
 abbrev pub AreLeaves : TableDef → List (List Stored) → ℕ → List Entry → Type 0
@@ -200,11 +199,6 @@ small_above levels few small =
     let all = sum_by-le (λ (n : ℕ). n) 16416 levels small in
     let part = sum_by-take-drop (λ (n : ℕ). n) levels 1 in
     omega arith
-
--- a sum of pages, as far as numbers go
-pub sum_saturated : (a b x y z : ℕ) → x ≡ min a (2 ^ 64 - 1) → y ≡ min b (2 ^ 64 - 1) → z ≡ min (x + y) (2 ^ 64 - 1)
-    → z ≡ min (a + b) (2 ^ 64 - 1)
-sum_saturated a b x y z first second both = omega arith
 
 -- the leaves and the values that share their segment
 pub leaf_exact : (b : Bool) (size total values leaf : ℕ) → values ≡ cond b (min total (2 ^ 64 - 1)) 0

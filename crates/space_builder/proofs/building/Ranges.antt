@@ -2,7 +2,6 @@
 use Rattle.std.proofs.Common.{◌≡◌, ℕ, zero, suc, ◌+◌, ◌-◌, ◌<◌, ◌≤◌, List, [], ◌∷◌, ◌++◌, length, map, take, drop}
 use Rattle.std.proofs.Common.{slice_range, refl, sym, ap, ◌∙◌, arith, add-zero, length-drop}
 use Rattle.std.specs.List.{range_with_len}
-use Rattle.std.proofs.Math.Seq.{drop-append-add}
 use Rattle.std.proofs.lemmas.List.{drop-append-le, take-append-le, take-take, drop-take}
 
 -- over two ranges, the same place by place
@@ -27,13 +26,6 @@ pub slice_left : (xs ys : List ℕ) (a b : ℕ) → a ≤ b → b ≤ length xs 
 slice_left xs ys a b rising inside =
     ap (take (b - a)) (drop-append-le a xs ys (omega (arith, rising, inside)))
     ∙ take-append-le (b - a) (drop a xs) ys (omega (arith, rising, inside, length-drop a xs))
-
--- and a part of what was added
-pub slice_right : (xs ys : List ℕ) (a b : ℕ)
-    → slice_range (xs ++ ys) (length xs + a) (length xs + b) ≡ slice_range ys a b
-slice_right xs ys a b =
-    let size : length xs + b - (length xs + a) ≡ b - a = omega arith in
-    ap (λ (n : ℕ). take n (drop (length xs + a) (xs ++ ys))) size ∙ ap (take (b - a)) (drop-append-add xs ys a)
 
 -- a part of the first ones
 pub slice_taken : (xs : List ℕ) (n a b : ℕ) → a ≤ b → b ≤ n → slice_range (take n xs) a b ≡ slice_range xs a b

@@ -18,12 +18,12 @@ use Rattle.space_builder.specs.declared.built.RowStop.TheVariants as rowstops
 use Rattle.space_builder.specs.declared.line_reader.NextLine.{NextLine}
 use Rattle.space_builder.specs.layout.Layout.{Rows, stored_rows}
 use Rattle.space_builder.specs.build.BadLine.{RowsChecks, AreRowsOf}
-use Rattle.space_builder.specs.build.Lines.{with_feed, joined_lines, bytes_in, end_of, end_size, StandsFirst}
-use Rattle.space_builder.specs.build.Lines.{GivesBytes}
-use Rattle.space_builder.specs.build.Lines.{IsAtEnd, GrewBehind, IsNextLine}
-use Rattle.space_builder.specs.build.NextRow.{HoldsRows, RefusesNext, AddsRow}
+use Rattle.space_builder.specs.calls.Lines.{with_feed, joined_lines, bytes_in, end_of, end_size, StandsFirst}
+use Rattle.space_builder.specs.calls.Lines.{GivesBytes}
+use Rattle.space_builder.specs.calls.Lines.{IsAtEnd, GrewBehind, IsNextLine}
+use Rattle.space_builder.specs.calls.NextRow.{HoldsRows, RefusesNext, AddsRow}
 use Rattle.space_builder.specs.build.ReadRows.{AreReadRows, ChecksLine, ReadsRows}
-use Rattle.space_builder.specs.build.Stops.{stop_behind}
+use Rattle.space_builder.specs.calls.Stops.{stop_behind}
 use Rattle.space_builder.proofs.building.NextRows.{length-stored}
 use Rattle.space_builder.proofs.building.GoodLines.{GoodLines, good_none, good_more, joined_push}
 use Rattle.space_builder.proofs.building.Refused.{long_refused, far_refused, open_refused, row_refused, text_refused}
@@ -165,11 +165,6 @@ reading_few g table old now ahead taken stored reading =
     let few = few_rows table reading.lines reading.rows reading.good in
     let size = ap length reading.same ∙ length-stored table reading.rows in
     omega arith
-
-pub reading_within : {R : Type 0} (g : TextOf R) (table : TableDef) (old now : R) (ahead : List ℕ) (taken : ℕ)
-    (stored : List (List Stored)) → IsReading g table old now ahead taken stored → taken ≤ 4294967296
-reading_within g table old now ahead taken stored reading =
-    let is = reading.taken_is in let total = reading.good.total in omega arith
 
 -- where the text is told
 by_text : (o now : Option (List ℕ)) (bytes : List ℕ) (P : List ℕ → Type 0) → GivesBytes o now bytes

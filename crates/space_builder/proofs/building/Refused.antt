@@ -19,8 +19,8 @@ use Rattle.space_builder.specs.declared.built.RowsWhy.TheVariants.{Long, Input, 
 use Rattle.space_builder.specs.layout.Layout.{Rows}
 use Rattle.space_builder.specs.build.BadLine.{row_lines, line_at, line_length, line_end, IsWholeLine, IsKeyBelow}
 use Rattle.space_builder.specs.build.BadLine.{IsInOrder, HasFittedRow, RowChecks, RowsChecks, AreRowsOf}
-use Rattle.space_builder.specs.build.Lines.{joined_lines, bytes_in, end_size, StandsFirst}
-use Rattle.space_builder.specs.build.NextRow.{RisesBehind, RefusesNext}
+use Rattle.space_builder.specs.calls.Lines.{joined_lines, bytes_in, end_size, StandsFirst}
+use Rattle.space_builder.specs.calls.NextRow.{RisesBehind, RefusesNext}
 use Rattle.space_builder.specs.build.ReadRows.{AreGoodRows}
 use Rattle.space_builder.proofs.building.Pieces.{IsLineAt, line_there, row_lines_behind, row_lines_none}
 use Rattle.space_builder.proofs.building.GoodLines.{GoodLines, line_here, lines_checked}

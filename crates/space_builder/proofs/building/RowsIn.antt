@@ -6,18 +6,18 @@ use Rattle.std.proofs.Common.{get_or, true, false, refl, sym, ap, ◌∙◌, ari
 use Rattle.std.specs.List.{All}
 use Rattle.std.proofs.lemmas.List.{get_or-map, length-map, length-take-le, drop-append-le, drop_at, drop-take}
 use Rattle.std.proofs.lemmas.List.{take-take}
-use Rattle.std.proofs.lemmas.List.{map-append, take_all, take-map, drop-map, take_more_same, get_or-drop}
+use Rattle.std.proofs.lemmas.List.{map-append, take-map, drop-map, take_more_same, get_or-drop}
 use Rattle.std.proofs.lemmas.Bool.{and_parts, not-false, eqb-true}
 use Rattle.std.proofs.lemmas.List.Elements.{All-append, All-cons, All-nil, All-head, All-tail}
 use Rattle.row_layout.specs.StoredRow.{Stored, stored_at}
 use Rattle.row_layout.specs.HoldsValues.{stored_in}
-use Rattle.space_builder.specs.declared.stored.FieldSpot.{FieldSpot}
-use Rattle.space_builder.specs.declared.stored.Mark.{Mark}
+use Rattle.space_builder.specs.declared.marks.FieldSpot.{FieldSpot}
+use Rattle.space_builder.specs.declared.marks.Mark.{Mark}
 use Rattle.space_builder.specs.declared.stored.RowSpan.{RowSpan}
 use Rattle.space_builder.specs.declared.stored.Lists.{Lists}
-use Rattle.space_builder.specs.build.Stored.{AreSpots, spot_at, spot_start, field_in, row_of}
-use Rattle.space_builder.specs.build.Arena.{Arena, Span, AreMarked, AddsFields, AreRowsIn, LiesIn, spot_of, spots_in}
-use Rattle.space_builder.specs.build.Arena.{bytes_in, span_at, rows_in, span_of, arena_of}
+use Rattle.space_builder.specs.calls.Stored.{AreSpots, spot_at, spot_start, field_in, row_of}
+use Rattle.space_builder.specs.calls.Arena.{Arena, Span, AddsFields, AreRowsIn, LiesIn, spot_of, spots_in}
+use Rattle.space_builder.specs.calls.Arena.{bytes_in, span_at, rows_in, span_of, arena_of}
 use Rattle.space_builder.proofs.building.Ranges.{map_ranges, slice_left, slice_taken}
 use Rattle.space_builder.proofs.building.Spots.{length-row, within_spots, field_seen}
 
@@ -101,32 +101,6 @@ marked_more marks fields first i d spot within inside before is test =
     take_more_same (drop first spots) fields i empty_spot (omega arith) within before
     (get_or-drop first spots i empty_spot ∙ get_or-map spot_of marks (first + i) d empty_spot (omega arith) ∙ sym is
     ∙ spot_same spot (get_or fields i empty_spot) test)
-
-pub marked_all : (marks : List Mark) (fields : List FieldSpot) (first i : ℕ) → length fields ≤ i
-    → first + length fields ≤ length marks → take i (drop first (map spot_of marks)) ≡ take i fields
-    → AreMarked (map spot_of marks) fields first
-marked_all marks fields first i all inside same =
-    let long = length-map marks spot_of in
-    record {
-      inside = omega arith;
-      same =
-          sym (take-take (length fields) i (drop first (map spot_of marks)) all)
-          ∙ ap (take (length fields)) (same ∙ take_all i fields all) ∙ take_all (length fields) fields (omega arith);
-    }
-
--- marks that were added
-pub marked_behind : (spots fields now : List FieldSpot) (first : ℕ) → now ≡ spots ++ fields → first ≡ length spots
-    → AreMarked now fields first
-marked_behind spots fields now first are at =
-    let size = ap length are in
-    let long = length-append spots fields in
-    record {
-      inside = omega arith;
-      same =
-          ap (λ (s : List FieldSpot). take (length fields) (drop first s)) are
-          ∙ ap (take (length fields)) (drop_at spots fields first (sym at))
-          ∙ take_all (length fields) fields (omega arith);
-    }
 
 -- a part of what begins a longer list
 part_begins : {X : Type 0} (xs ys : List X) (first width : ℕ) → take (length xs) ys ≡ xs

@@ -20,8 +20,8 @@ use Rattle.row_layout.specs.StoredRow.{Stored, stored_at, kept, stored_column, s
 use Rattle.row_layout.specs.StoredRow.{part_of_field}
 use Rattle.row_layout.specs.Fitting.{AreFieldsOf}
 use Rattle.row_layout.specs.RowKeys.{column_key}
-use Rattle.space_builder.specs.build.Stored.{value_of}
-use Rattle.space_builder.specs.build.NextRow.{first_cells}
+use Rattle.space_builder.specs.calls.Stored.{value_of}
+use Rattle.space_builder.specs.calls.NextRow.{first_cells}
 use Rattle.space_builder.proofs.building.Columns.{length_known}
 use Rattle.space_builder.proofs.building.Spots.{no_field}
 

@@ -24,7 +24,7 @@ use Rattle.offpage_chain.specs.Reference.{reference_bytes}
 use Rattle.row_layout.specs.StoredRow.{Stored, stored_at, kept_prefix, reference_to, off_local, part_of_field}
 use Rattle.row_layout.specs.StoredRow.{parts_of_row}
 use Rattle.row_layout.specs.StoredRow.{size_of_row, is_too_long}
-use Rattle.space_builder.specs.build.RowFields.{local_length, length_length, field_size, field_sizes}
+use Rattle.space_builder.specs.calls.RowFields.{local_length, length_length, field_size, field_sizes}
 use Rattle.space_builder.proofs.building.Spots.{no_field}
 
 -- the parts of a row, one by one

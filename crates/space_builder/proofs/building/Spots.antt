@@ -1,7 +1,7 @@
 -- The fields of a row among its bytes.
 use Rattle.std.proofs.Common.{◌≡◌, ◌≢◌, ℕ, zero, suc, ◌+◌, ◌-◌, ◌<◌, ◌≤◌, Bool, true, false, List, [], ◌∷◌, ◌++◌}
 use Rattle.std.proofs.Common.{length}
-use Rattle.std.proofs.Common.{take, drop, set, get_or, map, slice_range, refl, sym, ap, ◌∙◌, subst, arith, inl, inr}
+use Rattle.std.proofs.Common.{take, drop, set, get_or, map, slice_range, refl, sym, ap, ◌∙◌, arith, inl, inr}
 use Rattle.std.proofs.lemmas.Bool.{cases_eq}
 use Rattle.std.proofs.lemmas.List.{length-set, length_push, get_or_append_left, get_or_push, get_or-set_same}
 use Rattle.std.proofs.lemmas.List.{get_or-set_other, ext_get_or, take_all, drop_at}
@@ -10,9 +10,9 @@ use Rattle.std.proofs.lemmas.List.FromFn.{length-map-range_with_len, get_or-map-
 use Rattle.std.proofs.lemmas.List.FromFn.{fill_by_all}
 use Rattle.std.specs.List.{range_with_len}
 use Rattle.row_layout.specs.StoredRow.{Stored, stored_at, with_off}
-use Rattle.space_builder.specs.declared.stored.FieldSpot.{FieldSpot}
-use Rattle.space_builder.specs.build.Stored.{spot_at, spot_start, field_from, field_in, row_of}
-use Rattle.space_builder.specs.build.RowFields.{AreFilled}
+use Rattle.space_builder.specs.declared.marks.FieldSpot.{FieldSpot}
+use Rattle.space_builder.specs.calls.Stored.{spot_at, spot_start, field_from, field_in, row_of}
+use Rattle.space_builder.specs.calls.RowFields.{AreFilled}
 use Rattle.space_builder.proofs.building.Ranges.{slice_left}
 
 abbrev pub no_spot : FieldSpot
@@ -45,14 +45,6 @@ no_row = refl
 pub spot_read : (spots : List FieldSpot) (i : ℕ) (spot : FieldSpot) → i < length spots → spot ≡ get_or spots i spot
     → spot ≡ spot_at spots i
 spot_read spots i spot within is = get_or_read spots i spot within is no_spot
-
-pub start_read : (spots : List FieldSpot) (i : ℕ) (spot : FieldSpot) → 0 < i → i ≤ length spots
-    → spot ≡ get_or spots (i - 1) spot → spot.end ≡ spot_start spots i
-start_read spots zero spot some within is = absurd (omega arith)
-start_read spots (suc i) spot some within is =
-    let one : suc i - 1 ≡ i = omega arith in
-    ap (λ (s : FieldSpot). s.end)
-    (spot_read spots i spot (omega arith) (subst (λ n. spot ≡ get_or spots n spot) one is))
 
 -- a field of a row that is seen
 pub within_spots : (spots : List FieldSpot) (bytes : List ℕ) (row : List Stored) (i : ℕ) → row_of spots bytes ≡ row

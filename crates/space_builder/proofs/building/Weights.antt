@@ -1,17 +1,15 @@
 -- The leaves of a tree, cut entry by entry, and the sizes of its records.
-use Rattle.std.proofs.Common.{◌≡◌, ℕ, ◌+◌, ◌*◌, ◌<◌, false, List, [], ◌∷◌, ◌++◌, length, map}
+use Rattle.std.proofs.Common.{◌≡◌, ℕ, ◌+◌, ◌<◌, false, List, [], ◌∷◌, ◌++◌, length, map}
 use Rattle.std.proofs.Common.{take, refl, sym, ap, ◌∙◌, arith}
-use Rattle.std.proofs.lemmas.Bool.{leb-true}
 use Rattle.std.proofs.lemmas.List.{map_more}
 use Rattle.page_source.specs.Pages.{be_bytes}
 use Rattle.column_values.specs.Types.{Fields}
 use Rattle.compact_record.specs.declared.parts.Part.TheVariants as parts
-use Rattle.compact_record.specs.Writing.{size_of_record, FitFields}
-use Rattle.page_packer.specs.Packing.{slots_for}
+use Rattle.compact_record.specs.Writing.{FitFields}
 use Rattle.page_packer.specs.Entries.{Entry, entry_at, pointer_to}
 use Rattle.page_packer.specs.Laws.{PointersPoint}
 use Rattle.tree_layout.specs.declared.cuts.Weight.{Weight}
-use Rattle.tree_layout.specs.Division.{CanDivide, FitsAlone, pointer_with}
+use Rattle.tree_layout.specs.Division.{CanDivide, pointer_with}
 use Rattle.tree_layout.specs.Counting.{Cutting, weight_of, nothing_cut, one_more, cut_more}
 
 cut_push : (cutting : Cutting) (weights : List Weight) (weight : Weight)
@@ -27,11 +25,6 @@ pub cut_step : (leaf node : Fields) (entries : List Entry) (k : ℕ) → k < len
 cut_step leaf node entries k within =
     sym (ap (cut_more nothing_cut) (map_more (weight_of leaf node) entries k [] within)
     ∙ cut_push nothing_cut (map (weight_of leaf node) (take k entries)) (weight_of leaf node (entry_at entries k)))
-
--- a record that fits a page is short
-pub short_alone : (fields : Fields) (entry : Entry) → FitsAlone fields entry → size_of_record fields entry < 65536
-short_alone fields entry alone =
-    omega (arith, leb-true (120 + size_of_record fields entry + 2 * slots_for 1) 16376 alone)
 
 -- a pointer by the key of an entry fits
 pub pointer_fits : PointersPoint → (leaf node : Fields) (entries : List Entry) → CanDivide leaf node entries → (k : ℕ)

@@ -4,16 +4,16 @@ use Rattle.std.proofs.Common.{Some, Option, unwrap_or, replicate, sym, ap, ◌�
 use Rattle.std.proofs.Common.{inl, inr, lit<}
 use Rattle.std.specs.FinMap.{get}
 use Rattle.std.proofs.lemmas.Bool.Decides.{eqb_tells}
+use Rattle.std.proofs.lemmas.List.Elements.{All-contains}
 use Rattle.page_source.specs.Pages.{page_of, page_size}
 use Rattle.page_source.specs.Objects.{held_page}
-use Rattle.page_source.proofs.SparseFiles.{get_of_entries, page_of_file}
+use Rattle.page_source.proofs.SparseFiles.{page_of_file}
 use Rattle.schema_text.specs.TableDef.{TableDef}
 use Rattle.schema_text.specs.Formats.{flags_of}
 use Rattle.schema_text.specs.declared.table.Format.{Format}
 use Rattle.schema_text.specs.declared.table.Format.TheVariants.{Compact, Dynamic}
 use Rattle.space_audit.specs.Audit.{IsSoundSpace}
-use Rattle.space_layout.specs.Numbers.{size_at, space_pages}
-use Rattle.space_layout.specs.NumberedPages.{numbered_pages, numbered_map}
+use Rattle.space_layout.specs.Numbers.{space_pages}
 use Rattle.space_layout.specs.HeadPages.{HoldsPages}
 use Rattle.space_layout.specs.Holds.{HoldsSpace, HasSegments}
 use Rattle.space_layout.specs.ValuePlaces.{value_place, IsPart}
@@ -23,9 +23,7 @@ use Rattle.space_builder.specs.layout.Layout.{page_number, layout_tree_page, lay
 use Rattle.space_builder.specs.layout.Layout.{segment_pages, layout_map, layout_file}
 use Rattle.space_builder.specs.layout.LowerLaws.{LowerLaws}
 use Rattle.space_builder.specs.layout.Laws.{CanBuild}
-use Rattle.space_layout.proofs.Maps.{find, behind_heads}
-use Rattle.tree_layout.proofs.Numbers.{tree_place}
-use Rattle.space_builder.proofs.layout.Laid.{shape, numbers, fits, stand, inside_counts, within_counts}
+use Rattle.space_builder.proofs.layout.Laid.{shape, numbers, fits, fill, stand, inside_counts, within_counts}
 use Rattle.space_builder.proofs.layout.Laid.{page_place, places, value_place_is}
 use Rattle.space_builder.proofs.layout.Pages.{IsLaid, LaidTree, LaidValue, all_laid, every_there, laid_numbered}
 use Rattle.space_builder.proofs.layout.Pages.{are_pages}
@@ -118,7 +116,7 @@ module _ (laws : LowerLaws) (table : TableDef) (rows : Rows) (can : CanBuild tab
       (leaf_size (counts 0) + value_place parts r i m) tree.inside value.inside
       (tree.there ∙ number ∙ sym value.there) in
       tree_or_value j (segment_for (counts j) j l) (place_for (counts j) l k) (value_place parts r i m) same.0 same.1
-      (tree_place (counts j) (size_at sizes) j (fits laws table rows can j index) l k inside within)
+      ((fill laws table rows can j index).placed l k inside within)
 
   pub value_one : (r i k s j m : ℕ) → IsPart parts r i k → IsPart parts s j m
       → value_number table rows r i k ≡ value_number table rows s j m → (r ≡ s) × (i ≡ j) × (k ≡ m)
@@ -150,15 +148,15 @@ module _ (laws : LowerLaws) (table : TableDef) (rows : Rows) (can : CanBuild tab
 
   -- the file has each page
   map_page : (n : ℕ) (page : List ℕ) → IsLaid table rows (n, page) → get (layout_map table rows) n ≡ Some page
-  unfolding layout_map numbered_map
+  unfolding layout_map
   map_page n page laid =
       let is = laid_numbered laws table rows can (n, page) laid in
       let low = (numbers laws table rows can).low is.segment is.at n is.place in
       let pages = segment_pages table rows in
-      let found = find (IsLaid table rows) pages n (all_laid laws table rows can)
+      let found = laws.space.found sizes flags pages n low
       (every_there laws table rows can is.segment is.at n is.place) in
-      get_of_entries (numbered_pages sizes flags pages) n ∙ behind_heads sizes flags pages n low ∙ found.is
-      ∙ ap (λ (p : List ℕ). Some p) (one_page n found.page page found.so laid)
+      let so = All-contains (IsLaid table rows) pages (n, found.page) (all_laid laws table rows can) found.among in
+      found.held ∙ ap (λ (p : List ℕ). Some p) (one_page n found.page page so laid)
 
   pub file_page : (n : ℕ) (page : List ℕ) → IsLaid table rows (n, page) → page_of file n ≡ page
   unfolding layout_file held_page

@@ -19,7 +19,7 @@ use Rattle.space_layout.specs.ValuePlaces.{row_at, value_place, IsPart, HavePlac
 use Rattle.tree_layout.specs.DivisionLaws.{AreTheLevels}
 use Rattle.tree_layout.specs.Levels.{EachPage, width_at}
 use Rattle.tree_layout.specs.Places.{segment_for, place_for, leaf_size, IsTreePlace, FitsSegments}
-use Rattle.tree_layout.specs.PlaceLaws.{StandApart}
+use Rattle.tree_layout.specs.PlaceLaws.{StandApart, FillPlaces}
 use Rattle.row_layout.specs.StoredRow.{Stored, stored_at}
 use Rattle.row_layout.specs.HoldsValues.{stored_in, pages_of_stored, pages_for, blob_part, next_number}
 use Rattle.space_builder.specs.layout.Layout.{Rows, stored_rows, tree_counts, value_counts, segment_sizes}
@@ -28,7 +28,6 @@ use Rattle.space_builder.specs.layout.Layout.{field_bytes, layout_value_page}
 use Rattle.space_builder.specs.layout.LowerLaws.{LowerLaws}
 use Rattle.space_builder.specs.layout.ValuePage.{value_page_bytes}
 use Rattle.space_builder.specs.layout.Laws.{CanBuild}
-use Rattle.tree_layout.proofs.Numbers.{tree_place}
 use Rattle.space_builder.proofs.layout.TreePages as pages
 use Rattle.space_builder.proofs.layout.Sizes.{leaf_is, segments_are, is_shape, the_levels, length_is, width_is}
 use Rattle.space_builder.proofs.layout.Sizes.{fits_segments}
@@ -111,6 +110,9 @@ module _ (laws : LowerLaws) (table : TableDef) (rows : Rows) (can : CanBuild tab
     pub fits : FitsSegments (counts j) (size_at sizes) j
     fits = fits_segments laws table rows can j index
 
+    pub fill : FillPlaces (counts j) j
+    fill = laws.tree.places (counts j) (size_at sizes) j fits
+
     pub stand : StandApart (segment_page sizes) (size_at sizes) (counts j) j
     stand = laws.tree.different (segment_page sizes) (size_at sizes) (counts j) j numbers.one fits
 
@@ -123,7 +125,7 @@ module _ (laws : LowerLaws) (table : TableDef) (rows : Rows) (can : CanBuild tab
     unfolding page_number
     page_place l k inside within = record {
       below = segment_below (segment_for (counts j) j l) (place_for (counts j) l k)
-          (tree_place (counts j) (size_at sizes) j fits l k inside within);
+          (fill.placed l k inside within);
       inside = stand.within l k inside within;
       there = refl;
     }

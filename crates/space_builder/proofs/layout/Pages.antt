@@ -20,10 +20,9 @@ use Rattle.row_layout.specs.StoredRow.{Stored, stored_at}
 use Rattle.row_layout.specs.HoldsValues.{stored_in, pages_of_stored}
 use Rattle.space_builder.specs.layout.LowerLaws.{LowerLaws}
 use Rattle.space_builder.specs.layout.Laws.{CanBuild}
-use Rattle.tree_layout.proofs.Numbers.{page_at_place}
-use Rattle.row_layout.proofs.Ranges.{all_map}
+use Rattle.space_builder.proofs.Lists.{all_map}
 use Rattle.space_builder.proofs.layout.Laid.{all_flat, contains_flat, contains_mapped, contains_image}
-use Rattle.space_builder.proofs.layout.Laid.{fits, levels_length, levels_width}
+use Rattle.space_builder.proofs.layout.Laid.{fill, levels_length, levels_width}
 use Rattle.space_builder.proofs.layout.Laid.{tree_numbered, places, parts_long, row_long, field_is}
 use Rattle.space_builder.proofs.layout.Laid.{value_numbered}
 use Rattle.space_builder.proofs.layout.Sizes.{top_is, leaf_is, segments_are}
@@ -165,7 +164,7 @@ module _ (laws : LowerLaws) (table : TableDef) (rows : Rows) (can : CanBuild tab
       → Contains (map (λ (entry : Numbered). entry.0) (segment_pages table rows)) (segment_page sizes s i)
   unfolding page_number
   place_there j s i index place =
-      let found = page_at_place (counts j) (size_at sizes) j (fits laws table rows can j index) s i place in
+      let found = (fill laws table rows can j index).filled s i place in
       let inside = found.inside in
       let within = found.within in
       let same = levels_length laws table rows can j index in

@@ -1,28 +1,33 @@
 -- How many pages the levels of each index have, and how many the segments.
 use Rattle.std.proofs.Common.{◌≡◌, ℕ, ◌+◌, ◌-◌, ◌*◌, ◌<◌, ◌≤◌, ◌==◌, cond, List, length, map, slice_get, slice_index}
-use Rattle.std.proofs.Common.{Some, ◌⊎◌, sym, ap, ◌∙◌, arith, inl, inr}
+use Rattle.std.proofs.Common.{Some, [], sym, ap, ◌∙◌, arith, inl, inr}
 use Rattle.std.specs.List.{range_with_len, sum_by}
 use Rattle.std.proofs.lemmas.Bool.{cases_lt}
-use Rattle.std.proofs.lemmas.Bool.Decides.{eqb_tells}
 use Rattle.std.proofs.lemmas.Option.{slice_get-get_or}
-use Rattle.std.proofs.lemmas.List.{get_or_past, take_all}
+use Rattle.std.proofs.lemmas.List.{get_or_past, take_all, length-map, get_or-map}
 use Rattle.std.proofs.lemmas.List.Sums.{get_or-le-sum_by}
 use Rattle.std.proofs.lemmas.List.FromFn.{get_or-map-range_with_len, length-map-range_with_len}
 use Rattle.schema_text.specs.TableDef.{TableDef}
 use Rattle.schema_text.specs.IndexFields.{leaf_fields, node_fields}
 use Rattle.space_layout.specs.Numbers.{size_at, extents_of, extents_before, extents_needed, IsShape}
-use Rattle.tree_layout.specs.Division.{tree_levels, level_counts, CanDivide}
+use Rattle.tree_layout.specs.Division.{Level, tree_levels, level_counts, CanDivide}
 use Rattle.tree_layout.specs.DivisionLaws.{AreTheLevels}
 use Rattle.tree_layout.specs.Levels.{width_at, top_of}
 use Rattle.tree_layout.specs.Places.{top_size, leaf_size, FitsSegments}
-use Rattle.tree_layout.proofs.Held.{length-counts, count_at}
-use Rattle.tree_layout.proofs.Numbers.{upper_below}
-use Rattle.row_layout.proofs.Ranges.{all_map}
+use Rattle.space_builder.proofs.Lists.{all_map}
 use Rattle.space_builder.specs.layout.Layout.{Rows, stored_rows, entries_with, tree_counts, value_total, index_sizes}
 use Rattle.space_builder.specs.layout.Layout.{segment_sizes}
 use Rattle.space_builder.specs.layout.LowerLaws.{LowerLaws}
 use Rattle.space_builder.specs.layout.Laws.{CanBuild}
 use Rattle.space_builder.proofs.layout.FittedRows.{are_fitted}
+
+-- the counts of levels
+pub length-counts : (levels : List Level) → length (level_counts levels) ≡ length levels
+length-counts levels = length-map levels (λ (level : Level). length level)
+
+pub count_at : (levels : List Level) (l : ℕ) → l < length levels
+    → slice_index (level_counts levels) l ≡ width_at levels l
+count_at levels l inside = get_or-map (λ (level : Level). length level) levels l [] 0 inside
 
 -- a segment of a tablespace that can be built is small
 pub size_small : (sizes : List ℕ) (s : ℕ) → extents_needed sizes ≤ 256 → size_at sizes s ≤ 16416
@@ -131,13 +136,11 @@ module _ (laws : LowerLaws) (table : TableDef) (rows : Rows) where
         let counts = tree_counts table rows j in
         let single = fits.single in
         let some = fits.some in
-        let below = upper_below counts (size_at (segment_sizes table rows)) j fits (length counts - 1) 0 (omega arith)
-        (omega arith) (upper_kind (length counts) some) in
-        omega arith
-      where
-        upper_kind : (n : ℕ) → 0 < n → (0 < n - 1) ⊎ (n ≡ 1)
-        upper_kind n some =
-            elim (eqb_tells n 1) [ inl one ↦ inr one.1 | inr many ↦ inl (let no = many.1 in omega arith) ]
+        let places = laws.tree.places counts (size_at (segment_sizes table rows)) j fits in
+        elim (places.placed (length counts - 1) 0 (omega arith) (omega arith)) [
+          | inl top ↦ let below = top.1 in omega arith
+          | inr leaf ↦ let is = leaf.0 in let root = places.root_segment in absurd (omega arith)
+        ]
 
   pub is_shape : CanBuild table rows → IsShape (segment_sizes table rows)
   unfolding segment_sizes

@@ -2,14 +2,16 @@
 use Rattle.std.proofs.Common.{◌≡◌, ℕ, zero, suc, ◌+◌, ◌^◌, ◌<◌, true, false, ◌==◌, cond, List, [], ◌∷◌}
 use Rattle.std.proofs.Common.{length, get_or, Some, None, arith, lit<, inr}
 use Rattle.std.proofs.lemmas.Bool.{eq-eqb}
+use Rattle.std.proofs.lemmas.List.FromFn.{get_or-map-range_with_len, length-map-range_with_len}
 use Rattle.page_source.specs.Pages.{fil_null}
 use Rattle.fil_frame.specs.Kinds.{index_kind}
 use Rattle.fil_frame.specs.Frame.{Seals}
+use Rattle.fil_frame.specs.Laws.{IsSealed}
 use Rattle.column_values.specs.Types.{Fields, AreFields}
 use Rattle.compact_record.specs.Writing.{key_of_parts, FitsField}
 use Rattle.compact_record.specs.Reading.{place_of}
 use Rattle.index_page.specs.Header.{records_of}
-use Rattle.tree_walk.specs.Place.{is_leaf_level, IsBeside}
+use Rattle.tree_walk.specs.Place.{is_leaf_level}
 use Rattle.tree_walk.specs.TreeChecks.{before, after}
 use Rattle.page_packer.specs.Entries.{Entry, MakePage}
 use Rattle.page_packer.specs.Laws.{HasBodyOf, HoldsEntries, HasNumbers, NumbersFit, HaveRoom}
@@ -20,9 +22,17 @@ use Rattle.tree_layout.specs.Levels.{EachPage, width_at, page_entries, is_top, t
 use Rattle.tree_layout.specs.Built.{IsBuiltPage}
 use Rattle.space_builder.specs.layout.LowerLaws.{PageLaws}
 use Rattle.space_builder.specs.layout.TreePage.{heads_of, heads_on, fields_of_level, tree_body, tree_page}
-use Rattle.space_layout.proofs.HeadBytes.{sealed_seals, sealed_length}
-use Rattle.tree_layout.proofs.Zips.{zip_length}
-use Rattle.tree_layout.proofs.Rows.{number_at, length-numbers}
+use Rattle.space_builder.proofs.Lists.{zip_length}
+
+-- the numbers of a level
+length-numbers : (levels : List Level) (numbers : ℕ → ℕ → ℕ) (l : ℕ)
+    → length (numbers_at levels numbers l) ≡ width_at levels l
+length-numbers levels numbers l = length-map-range_with_len (numbers l) 0 (width_at levels l)
+
+number_at : (levels : List Level) (numbers : ℕ → ℕ → ℕ) (l k d : ℕ) → k < width_at levels l
+    → get_or (numbers_at levels numbers l) k d ≡ numbers l k
+number_at levels numbers l k d within =
+    get_or-map-range_with_len (numbers l) 0 (width_at levels l) k k d within (omega arith)
 
 -- the neighbours' numbers fit
 beside_small : (xs : List ℕ) (k : ℕ) → ((i : ℕ) → i < length xs → get_or xs i fil_null < 2 ^ 32)
@@ -65,19 +75,22 @@ module _ (laws : PageLaws) (leaf node : Fields) (numbers : ℕ → ℕ → ℕ) 
     abbrev page : List ℕ
     page = tree_page leaf node numbers levels j l k
 
+    sealed_here : IsSealed (tree_body leaf node numbers levels j l k) (numbers l k) 1 1 index_kind
+    sealed_here =
+        let below = small l k inside within in
+        laws.sealed (tree_body leaf node numbers levels j l k) (numbers l k) 1 1 index_kind body_long (omega arith)
+        (lit< tt) (lit< tt) (lit< tt)
+
     pub page_seals : Seals (tree_body leaf node numbers levels j l k) page (numbers l k) 1 1 index_kind
     unfolding tree_page
-    page_seals =
-        let below = small l k inside within in
-        sealed_seals (tree_body leaf node numbers levels j l k) (numbers l k) index_kind body_long (omega arith)
-        (lit< tt)
+    page_seals = sealed_here.seals
 
     body_kept : HasBodyOf (tree_body leaf node numbers levels j l k) page
     body_kept = laws.seals (tree_body leaf node numbers levels j l k) page (numbers l k) 1 1 index_kind page_seals
 
     pub page_long : length page ≡ 16384
     unfolding tree_page
-    page_long = sealed_length (tree_body leaf node numbers levels j l k) (numbers l k) index_kind body_long
+    page_long = sealed_here.whole
 
     holds : HoldsEntries page fields (is_leaf_level l) (is_top levels l) (k == 0) list
     unfolding tree_body
@@ -143,6 +156,3 @@ module _ (laws : PageLaws) (leaf node : Fields) (numbers : ℕ → ℕ → ℕ) 
       count = holds.count;
       holds = entry_held;
     }
-
-    pub page_beside : IsBeside page (before (numbers_at levels numbers l) k) (after (numbers_at levels numbers l) k)
-    page_beside = (numbers_held.has_prev, numbers_held.has_next)

@@ -22,7 +22,7 @@ use Rattle.space_layout.specs.Fields.{inode_place}
 use Rattle.tree_layout.specs.Entries.{Entry}
 use Rattle.tree_layout.specs.Division.{Level, tree_levels}
 use Rattle.tree_layout.specs.Levels.{width_at, page_entries, is_top, top_of, numbers_at}
-use Rattle.tree_layout.specs.Places.{segment_for, place_for, pages_above, tree_number, top_size, leaf_size}
+use Rattle.tree_layout.specs.Places.{segment_for, place_for, tree_number, top_size, leaf_size}
 use Rattle.tree_layout.specs.Built.{IsBuiltPage}
 use Rattle.tree_layout.specs.Divided.{counts_for, numbers_for, levels_for, NamesPlaces, NamesTwoSegments}
 use Rattle.tree_layout.specs.Divided.{HasPages, HoldsDivided}
@@ -33,10 +33,9 @@ use Rattle.space_builder.specs.layout.Layout.{index_entries}
 use Rattle.space_builder.specs.layout.Layout.{index_levels, layout_tree_page, layout_file}
 use Rattle.space_builder.specs.layout.LowerLaws.{LowerLaws}
 use Rattle.space_builder.specs.layout.Laws.{CanBuild}
-use Rattle.tree_layout.proofs.Numbers.{leaves, upper, row_of, top_place, top_segment_for, root_first}
 use Rattle.space_builder.proofs.layout.TreePages as pages
 use Rattle.space_builder.proofs.layout.Sizes.{counts_with, can_divide, segments_are}
-use Rattle.space_builder.proofs.layout.Laid.{numbers, fits, levels_good, levels_length, inside_counts}
+use Rattle.space_builder.proofs.layout.Laid.{numbers, fits, fill, levels_good, levels_length, inside_counts}
 use Rattle.space_builder.proofs.layout.Laid.{within_counts, page_place, page_small, leaf_fields_good, node_fields_good}
 use Rattle.space_builder.proofs.layout.Laid.{index_few}
 use Rattle.space_builder.proofs.layout.File.{segments_held, file_page}
@@ -142,17 +141,12 @@ module _ (laws : LowerLaws) (table : TableDef) (rows : Rows) (can : CanBuild tab
     unfolding page_number
     root_number =
         let same = levels_length laws table rows can j inside_table in
-        let some = (levels_good laws table rows can j inside_table).are_levels.some in
-        let top = top_of levels in
-        let last : length (counts j) - 1 ≡ top = ap (λ n. n - 1) same in
-        let first : pages_above (counts j) top ≡ 0 =
-        ap (pages_above (counts j)) (sym last) ∙ root_first (counts j) (omega arith) in
-        elim (row_of (counts j) top (omega arith)) [
-          | leaves bottom many row ↦ absurd (omega arith)
-          | upper kind row ↦
-              let place : place_for (counts j) top 0 ≡ 0 = top_place (counts j) top 0 row ∙ omega arith in
-              rw (top_segment_for (counts j) j top row, place) refl
-        ]
+        let top = length (counts j) - 1 in
+        let last : top ≡ top_of levels = ap (λ n. n - 1) same in
+        let places = fill laws table rows can j inside_table in
+        ap (λ l. segment_page sizes (segment_for (counts j) j l) (place_for (counts j) l 0)) (sym last)
+        ∙ ap (λ s. segment_page sizes s (place_for (counts j) top 0)) places.root_segment
+        ∙ ap (segment_page sizes (2 * j)) places.root_place
 
     root_is : index.root ≡ segment_page sizes (2 * j) 0
     unfolding index_in

@@ -15,7 +15,7 @@ use Rattle.space_builder.specs.declared.built.BuildStop.TheVariants as stops
 use Rattle.space_builder.specs.layout.Layout.{Rows, stored_rows}
 use Rattle.space_builder.specs.layout.Laws.{HaveFittedRows}
 use Rattle.space_builder.specs.build.BadLine.{RowsChecks, AreRowsOf}
-use Rattle.space_builder.specs.build.Lines.{end_size}
+use Rattle.space_builder.specs.calls.Lines.{end_size}
 
 -- rows of a table whose keys rise, each with a record that fits: there is a row id of six bytes for each
 pub record AreGoodRows (table : TableDef) (rows : Rows) : Type 0 where

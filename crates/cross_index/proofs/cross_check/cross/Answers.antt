@@ -1,7 +1,6 @@
 use Rattle.std.proofs.Common.{arith}
 use Rattle.page_source.proofs.Told.{told1}
-use Rattle.table_check.proofs.Asked.{asks_at_most}
-use Rattle.cross_index.proofs.AllSteps.{all_cost, takes_steps}
+use Rattle.cross_index.proofs.AllSteps.{asks_at_most, all_cost, takes_steps}
 use Rattle.cross_index.proofs.cross_check.cross.Goals as goal
 
 pub returns-in_err-entries-clause-steps : goal.returns-in_err-entries-clause-steps

@@ -56,6 +56,7 @@ compare_entries-requires-clause-told g c =
 pub returns-clause-few : goal.returns-clause-few
 returns-clause-few g c =
     told2 (g.S.PageSource.content c.args.source.now)
-    (λ file can compares. few_counted c.trees_are_walked.ensures file c.args.schema.now c.args.index c.args.ends.now
+    (λ file can compares. few_counted c.trees_are_walked.ensures c.leaves_are_sound.ensures file c.args.schema.now
+    c.args.index c.args.ends.now
     c.args.found.now c.compare_entries.result c.requires.index c.has_32_bits.ensures can compares)
     c.requires.told c.compare_entries.ensures.exact

@@ -1,6 +1,5 @@
 use Rattle.std.proofs.Common.{arith}
-use Rattle.sql_dump.proofs.Cells.{length_fields}
-use Rattle.cross_index.proofs.KeptSteps.{entry_with_key, entry_with_id, is_none, is_some}
+use Rattle.cross_index.proofs.KeptSteps.{length_fields, entry_with_key, entry_with_id, is_none, is_some}
 use Rattle.cross_index.proofs.kept.push_entry_fields.Goals as goal
 
 pub push_columns-requires : goal.push_columns-requires

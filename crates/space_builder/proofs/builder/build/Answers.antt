@@ -1,6 +1,6 @@
 use Rattle.std.proofs.Common.{◌∙◌, length, ap, sym, subst}
 use Rattle.std.proofs.lemmas.Result.{err_from_is_err_and}
-use Rattle.space_builder.specs.build.Plan.{AreOrders}
+use Rattle.space_builder.specs.calls.Plan.{AreOrders}
 use Rattle.space_builder.proofs.Builds.{fresh_lacks, read_failed, are_stored, is_space, no_plan, not_put, all_put}
 use Rattle.space_builder.proofs.Builds.{put_cause, no_cause, stored_count}
 use Rattle.space_builder.proofs.Outcomes.{put_calls}

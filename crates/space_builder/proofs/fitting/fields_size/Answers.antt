@@ -2,7 +2,7 @@ use Rattle.std.proofs.Common.{◌≡◌, ap, ◌∙◌, arith}
 use Rattle.column_values.specs.declared.field.Field.{Field}
 use Rattle.column_values.specs.Types.{field_at}
 use Rattle.row_layout.specs.StoredRow.{stored_at}
-use Rattle.space_builder.specs.build.RowFields.{length_length}
+use Rattle.space_builder.specs.calls.RowFields.{length_length}
 use Rattle.space_builder.proofs.building.Sizes.{sizes_more}
 use Rattle.space_builder.proofs.fitting.fields_size.Goals as goal
 

@@ -1,5 +1,5 @@
 use Rattle.std.proofs.Common.{◌≡◌, ◌-◌, ◌^◌, min}
-use Rattle.space_builder.specs.build.RowFields.{field_sizes}
+use Rattle.space_builder.specs.calls.RowFields.{field_sizes}
 use Rattle.space_builder.proofs.fitting.fields_size.Given as goal
 
 abbrev pub invariant-loop-i : goal.invariant-loop-i

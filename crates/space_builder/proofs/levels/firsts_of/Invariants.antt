@@ -1,5 +1,5 @@
 use Rattle.std.proofs.Common.{◌≡◌, map, take}
-use Rattle.space_builder.specs.build.Pointing.{pointer_at}
+use Rattle.space_builder.specs.calls.Pointing.{pointer_at}
 use Rattle.space_builder.proofs.levels.firsts_of.Given as goal
 
 abbrev pub invariant-loop-k : goal.invariant-loop-k

@@ -3,7 +3,7 @@ use Rattle.page_packer.specs.Packing.{fits_more}
 use Rattle.space_builder.specs.declared.built.PutStop.TheVariants as stops
 use Rattle.space_builder.specs.declared.tree_pages.TreeSpot.{TreeSpot}
 use Rattle.space_builder.specs.build.Puts.{CanPutAt}
-use Rattle.space_builder.specs.build.MakesRoom.{MakesRoom}
+use Rattle.space_builder.specs.calls.MakesRoom.{MakesRoom}
 use Rattle.space_builder.proofs.Puts.{all_put, memory_behind}
 use Rattle.space_builder.proofs.Spots.{spot_is, spot_index, spot_below, page_low}
 use Rattle.space_builder.proofs.Turns.{open_page, put_at_spot, turn_failed}

@@ -2,7 +2,7 @@ use Rattle.std.proofs.Common.{◌∙◌, ◌++◌, ◌∷◌, [], List, map, sli
 use Rattle.std.specs.List.{range_with_len}
 use Rattle.std.proofs.lemmas.List.FromFn.{map-range_with_len_more}
 use Rattle.space_builder.specs.declared.entries.Pointer.{Pointer}
-use Rattle.space_builder.specs.build.TreePlan.{pointer_in, number_in}
+use Rattle.space_builder.specs.calls.TreePlan.{pointer_in, number_in}
 use Rattle.space_builder.proofs.levels.pointers_to.Goals as goal
 
 pub loop-k-preserved : goal.loop-k-preserved

@@ -1,6 +1,6 @@
 use Rattle.std.proofs.Common.{◌≡◌, map}
 use Rattle.std.specs.List.{range_with_len}
-use Rattle.space_builder.specs.build.TreePlan.{pointer_in}
+use Rattle.space_builder.specs.calls.TreePlan.{pointer_in}
 use Rattle.space_builder.proofs.levels.pointers_to.Given as goal
 
 abbrev pub invariant-loop-k : goal.invariant-loop-k

@@ -7,8 +7,8 @@ use Rattle.tree_layout.specs.Division.{divided}
 use Rattle.space_builder.specs.declared.built.PutStop.TheVariants as stops
 use Rattle.space_builder.specs.declared.tree_pages.TreeSpot.{TreeSpot}
 use Rattle.space_builder.specs.build.Puts.{CanPutAt}
-use Rattle.space_builder.specs.build.TreePlan.{fields_in, laid_pages}
-use Rattle.space_builder.specs.build.MakesRoom.{MakesRoom}
+use Rattle.space_builder.specs.calls.TreePlan.{fields_in, laid_pages}
+use Rattle.space_builder.specs.calls.MakesRoom.{MakesRoom}
 use Rattle.space_builder.proofs.Puts.{nothing_put, all_put, puts_all, failed_as}
 use Rattle.space_builder.proofs.Spots.{spot_is, spot_index, spot_below, page_low, room_kept}
 use Rattle.space_builder.proofs.Turns.{open_page, put_at_spot, room_failed}

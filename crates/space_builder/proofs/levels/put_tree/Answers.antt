@@ -5,8 +5,8 @@ use Rattle.tree_layout.specs.Division.{divided}
 use Rattle.space_builder.specs.declared.built.PutStop.TheVariants as stops
 use Rattle.space_builder.specs.declared.entries.Pointer.{Pointer}
 use Rattle.space_builder.specs.build.Puts.{PutsPages}
-use Rattle.space_builder.specs.build.Pointing.{pointing, pointer_at, PointInto}
-use Rattle.space_builder.specs.build.TreePlan.{fields_in, laid_pages, tree_pages, BeginAt, CanPutLevel}
+use Rattle.space_builder.specs.calls.Pointing.{pointing, pointer_at, PointInto}
+use Rattle.space_builder.specs.calls.TreePlan.{fields_in, laid_pages, tree_pages, BeginAt, CanPutLevel}
 use Rattle.space_builder.proofs.Puts.{none_put, all_put, failed_as}
 use Rattle.space_builder.proofs.TreeRuns.{pointers_above, entries_above, height_is, some_level, some_levels}
 use Rattle.space_builder.proofs.TreeRuns.{firsts_count}

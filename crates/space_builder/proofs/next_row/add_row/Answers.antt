@@ -1,6 +1,6 @@
 use Rattle.std.proofs.Common.{sym, ◌∙◌, subst}
 use Rattle.std.proofs.lemmas.Bool.{false≢true}
-use Rattle.space_builder.specs.build.NextRow.{AreWide}
+use Rattle.space_builder.specs.calls.NextRow.{AreWide}
 use Rattle.space_builder.proofs.building.NextRows.{order_refused, rises_behind, big_refused, next_row, stored_grown}
 use Rattle.space_builder.proofs.building.NextRows.{wide_more, filled_as}
 use Rattle.space_builder.proofs.next_row.add_row.Goals as goal

@@ -4,7 +4,7 @@ use Rattle.column_values.specs.Order.{cell_cmp}
 use Rattle.column_values.specs.Types.{child_field}
 use Rattle.row_layout.specs.StoredRow.{stored_at}
 use Rattle.row_layout.specs.HoldsValues.{stored_in}
-use Rattle.space_builder.specs.build.Stored.{value_of}
+use Rattle.space_builder.specs.calls.Stored.{value_of}
 use Rattle.space_builder.proofs.building.NextRows.{fields_decide}
 use Rattle.space_builder.proofs.next_row.compare_keys.Goals as goal
 

@@ -2,7 +2,7 @@ use Rattle.std.proofs.Common.{◌≡◌}
 use Rattle.column_values.specs.Order.{key_cmp}
 use Rattle.compact_record.specs.Reading.{key_kinds}
 use Rattle.row_layout.specs.HoldsValues.{stored_in}
-use Rattle.space_builder.specs.build.NextRow.{first_cells}
+use Rattle.space_builder.specs.calls.NextRow.{first_cells}
 use Rattle.space_builder.proofs.building.KeyOrders.{LeftOf}
 use Rattle.space_builder.proofs.next_row.compare_keys.Given as goal
 

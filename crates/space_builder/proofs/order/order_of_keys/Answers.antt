@@ -7,7 +7,7 @@ use Rattle.column_values.specs.Order.{Key, key_cmp}
 use Rattle.column_values.proofs.KeyOrder.{key_total}
 use Rattle.compact_record.specs.Reading.{key_kinds}
 use Rattle.row_layout.specs.HoldsValues.{stored_in}
-use Rattle.space_builder.specs.build.Picked.{picked_key}
+use Rattle.space_builder.specs.calls.Picked.{picked_key}
 use Rattle.space_builder.proofs.order.order_of_keys.Goals as goal
 
 pub returns : goal.returns

@@ -1,30 +1,24 @@
-use Rattle.std.proofs.Common.{◌+◌, ◌*◌, ◌<◌, ℕ, List, length, slice_index, ap, arith}
+use Rattle.std.proofs.Common.{◌+◌, ◌*◌, ◌<◌, ℕ, List, length, slice_index, arith}
 use Rattle.space_layout.specs.Numbers.{IsShape, size_at, segment_page}
 use Rattle.tree_layout.specs.Places.{pages_above, FitsSegments}
-use Rattle.tree_layout.proofs.Numbers.{leaves, upper, row_of, upper_below, more_top, more_leaf}
+use Rattle.tree_layout.specs.PlaceLaws.{FillPlaces}
 use Rattle.space_builder.proofs.layout.Sizes.{size_small}
 use Rattle.space_builder.proofs.places.tree_number.Goals as goal
 
 small_place : (sizes counts : List ℕ) (j l k : ℕ) → IsShape sizes → FitsSegments counts (size_at sizes) j
-    → l < length counts → k < slice_index counts l → pages_above counts l + k < 4294967296
-small_place sizes counts j l k shape fits inside within =
+    → FillPlaces counts j → l < length counts → k < slice_index counts l → pages_above counts l + k < 4294967296
+small_place sizes counts j l k shape fits fill inside within =
     let top = fits.top in
     let leaf = fits.leaf in
     let top_small = size_small sizes (2 * j) shape.fits in
     let leaf_small = size_small sizes (2 * j + 1) shape.fits in
-    elim (row_of counts l fits.some) [
-      | leaves bottom many row ↦
-          let above = more_top counts (size_at sizes) j fits many in
-          let first = more_leaf counts (size_at sizes) j fits many in
-          let here = ap (pages_above counts) bottom in
-          let wide = ap (slice_index counts) bottom in
-          omega arith
-      | upper kind row ↦ let below = upper_below counts (size_at sizes) j fits l k inside within kind in omega arith
-    ]
+    let fewer = fill.fewer l k inside within in
+    omega arith
 
 pub place_for-place-requires-clause-small : goal.place_for-place-requires-clause-small
 place_for-place-requires-clause-small c =
     small_place c.args.sizes.now c.args.counts.now c.args.j c.args.l c.args.k c.requires.shape c.requires.fits
+    (c.pages_fill_places.ensures c.args.counts.now (size_at c.args.sizes.now) c.args.j c.requires.fits)
     c.requires.level c.requires.place
 
 pub segment_page-requires-clause-inside : goal.segment_page-requires-clause-inside

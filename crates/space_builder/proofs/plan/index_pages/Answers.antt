@@ -1,7 +1,7 @@
 use Rattle.std.proofs.Common.{◌≡◌, ◌+◌, ◌-◌, ◌^◌, ◌<◌, ◌∙◌, List, ℕ, min, ap, sym, subst}
 use Rattle.std.proofs.lemmas.Result.{err_from_is_err_and}
 use Rattle.tree_layout.specs.Places.{top_size, leaf_size}
-use Rattle.space_builder.specs.build.Plan.{HasTreeCounts}
+use Rattle.space_builder.specs.calls.Plan.{HasTreeCounts}
 use Rattle.space_builder.proofs.building.PlanSteps.{full_or_memory, wide_level, wide_top, wide_leaf, pages_found}
 use Rattle.space_builder.proofs.plan.index_pages.Goals as goal
 

@@ -1,6 +1,6 @@
 use Rattle.std.proofs.Common.{◌≡◌, ℕ, ◌<◌, length, get_or}
 use Rattle.space_builder.specs.declared.plan.RowOrder.{RowOrder}
-use Rattle.space_builder.specs.build.Order.{IsIndexOrder}
+use Rattle.space_builder.specs.calls.Order.{IsIndexOrder}
 use Rattle.space_builder.proofs.plan.row_orders.Given as goal
 
 -- those of the indexes so far

@@ -2,8 +2,8 @@ use Rattle.std.proofs.Common.{◌≡◌, ◌∙◌, Vec, Global, ℕ, []}
 use Rattle.std.proofs.lemmas.Result.{IfOk-weaker}
 use Rattle.tree_layout.specs.Division.{tree_levels, level_counts}
 use Rattle.row_layout.specs.HoldsValues.{clustered_entries}
-use Rattle.space_builder.specs.build.Picked.{first_page_in, picked_entries}
-use Rattle.space_builder.specs.build.Plan.{HasTreeCounts}
+use Rattle.space_builder.specs.calls.Picked.{first_page_in, picked_entries}
+use Rattle.space_builder.specs.calls.Plan.{HasTreeCounts}
 use Rattle.space_builder.proofs.building.PlanSteps.{clustered_given, picked_given, given_divides, given_counted}
 use Rattle.space_builder.proofs.plan.tree_counts.Goals as goal
 

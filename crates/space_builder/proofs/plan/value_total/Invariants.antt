@@ -1,5 +1,5 @@
 use Rattle.std.proofs.Common.{◌≡◌, ◌-◌, ◌^◌, min, take}
-use Rattle.space_builder.specs.build.Plan.{stored_total}
+use Rattle.space_builder.specs.calls.Plan.{stored_total}
 use Rattle.space_builder.proofs.plan.value_total.Given as goal
 
 -- those of the rows so far

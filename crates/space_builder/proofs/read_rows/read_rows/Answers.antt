@@ -1,10 +1,10 @@
 use Rattle.std.proofs.Common.{◌≤◌, List, ℕ, Ok, Err, length, sym, ap, ◌∙◌, subst, arith}
 use Rattle.space_builder.specs.declared.built.BuildStop.{BuildStop}
 use Rattle.space_builder.specs.declared.built.RowStop.TheVariants.{Refused}
-use Rattle.space_builder.specs.build.Lines.{FindsLine}
-use Rattle.space_builder.specs.build.NextRow.{AddsRow}
+use Rattle.space_builder.specs.calls.Lines.{FindsLine}
+use Rattle.space_builder.specs.calls.NextRow.{AddsRow}
 use Rattle.space_builder.specs.build.ReadRows.{ReadsRows}
-use Rattle.space_builder.specs.build.Stops.{stop_behind}
+use Rattle.space_builder.specs.calls.Stops.{stop_behind}
 use Rattle.space_builder.proofs.building.Reading.{IsReading, reading_none, reading_grown, reading_few, reading_ends}
 use Rattle.space_builder.proofs.building.Reading.{reading_more, stops_by_bytes, stops_by_row}
 use Rattle.space_builder.proofs.read_rows.read_rows.Goals as goal

@@ -1,5 +1,5 @@
 use Rattle.std.proofs.Common.{◌-◌, ◌≤◌}
-use Rattle.space_builder.specs.build.NextRow.{AreWide}
+use Rattle.space_builder.specs.calls.NextRow.{AreWide}
 use Rattle.space_builder.proofs.building.Reading.{IsReading}
 use Rattle.space_builder.proofs.read_rows.read_rows.Given as goal
 

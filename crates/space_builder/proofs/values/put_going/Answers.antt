@@ -3,7 +3,7 @@ use Rattle.std.proofs.lemmas.Result.{err_from_is_err_and}
 use Rattle.space_layout.specs.NumberedPages.{Numbered}
 use Rattle.row_layout.specs.HoldsValues.{stored_in}
 use Rattle.space_builder.specs.build.Puts.{PutsPages}
-use Rattle.space_builder.specs.build.Room.{KeepsRow, row_pages, row_first_pages}
+use Rattle.space_builder.specs.calls.Room.{KeepsRow, row_pages, row_first_pages}
 use Rattle.space_builder.proofs.Puts.{nothing_put, none_put, puts_all}
 use Rattle.space_builder.proofs.FirstPages.{no_pages, no_counts, ok_still, stays_kept, went_kept}
 use Rattle.space_builder.proofs.values.put_going.Goals as goal

@@ -4,7 +4,7 @@ use Rattle.space_layout.specs.Numbers.{segment_page}
 use Rattle.row_layout.specs.HoldsValues.{stored_in}
 use Rattle.space_builder.specs.layout.ValuePage.{pages_of_bytes}
 use Rattle.space_builder.specs.build.Puts.{PutsPages}
-use Rattle.space_builder.specs.build.Room.{HasLeafPages, first_page}
+use Rattle.space_builder.specs.calls.Room.{HasLeafPages, first_page}
 use Rattle.offpage_chain.specs.ValuePage.{pages_for}
 use Rattle.space_builder.proofs.ValueSteps.{FieldsPut, fields_none, fields_more, fields_all, fields_place, field_has}
 use Rattle.space_builder.proofs.ValueSteps.{field_takes, field_failed}

@@ -1,6 +1,6 @@
 use Rattle.std.proofs.Common.{◌≡◌, ℕ, ◌<◌, List, [], length, sym, subst, arith}
 use Rattle.std.proofs.lemmas.Result.{err_from_is_err_and}
-use Rattle.space_builder.specs.build.Room.{AreKept, pages_behind}
+use Rattle.space_builder.specs.calls.Room.{AreKept, pages_behind}
 use Rattle.space_builder.proofs.Puts.{nothing_put}
 use Rattle.space_builder.proofs.FirstPages.{none_kept, row_kept, all_kept}
 use Rattle.space_builder.proofs.ValueSteps.{RowsPut, rows_start, row_takes, row_failed, rows_next, rows_all}

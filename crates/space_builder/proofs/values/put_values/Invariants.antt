@@ -1,4 +1,4 @@
-use Rattle.space_builder.specs.build.Room.{AreKept}
+use Rattle.space_builder.specs.calls.Room.{AreKept}
 use Rattle.space_builder.proofs.ValueSteps.{RowsPut}
 use Rattle.space_builder.proofs.values.put_values.Given as goal
 

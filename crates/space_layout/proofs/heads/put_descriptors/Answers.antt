@@ -3,7 +3,7 @@ use Rattle.page_source.specs.Pages.{with_bytes}
 use Rattle.extent_map.specs.declared.extent.Extent.{Extent}
 use Rattle.extent_map.specs.Writing.{extent_bytes}
 use Rattle.space_layout.specs.Numbers.{size_at, extents_of, fragment_extents}
-use Rattle.space_layout.specs.Written.{with_descriptors}
+use Rattle.space_layout.specs.calls.Written.{with_descriptors}
 use Rattle.space_layout.proofs.PageNumbers.{extents_none, own_below, extents_follow}
 use Rattle.space_layout.proofs.HeadWrites.{no_descriptors, one_fragment, one_own}
 use Rattle.space_layout.proofs.heads.put_descriptors.Goals as goal

@@ -1,6 +1,6 @@
 use Rattle.std.proofs.Common.{◌≡◌, ◌+◌}
 use Rattle.space_layout.specs.Numbers.{extent_start}
-use Rattle.space_layout.specs.Written.{with_descriptors}
+use Rattle.space_layout.specs.calls.Written.{with_descriptors}
 use Rattle.space_layout.proofs.heads.put_descriptors.Given as goal
 
 abbrev pub invariant-loop-e : goal.invariant-loop-e

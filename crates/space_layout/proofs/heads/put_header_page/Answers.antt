@@ -6,7 +6,7 @@ use Rattle.space_header.specs.Writing.{with_header}
 use Rattle.space_layout.specs.Numbers.{extents_needed}
 use Rattle.space_layout.specs.Fields.{header}
 use Rattle.space_layout.specs.HeadPages.{zeros, header_page}
-use Rattle.space_layout.specs.Written.{with_descriptors}
+use Rattle.space_layout.specs.calls.Written.{with_descriptors}
 use Rattle.space_layout.proofs.HeadWrites.{all_descriptors}
 use Rattle.space_layout.proofs.heads.put_header_page.Goals as goal
 

@@ -5,7 +5,7 @@ use Rattle.fil_frame.specs.Kinds.{inode_kind}
 use Rattle.space_header.specs.Writing.{node_bytes}
 use Rattle.space_layout.specs.Fields.{lone_node}
 use Rattle.space_layout.specs.HeadPages.{zeros, inode_page}
-use Rattle.space_layout.specs.Written.{with_inodes}
+use Rattle.space_layout.specs.calls.Written.{with_inodes}
 use Rattle.space_layout.proofs.HeadWrites.{all_inodes}
 use Rattle.space_layout.proofs.heads.put_inode_page.Goals as goal
 

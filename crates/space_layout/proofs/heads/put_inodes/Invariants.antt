@@ -1,5 +1,5 @@
 use Rattle.std.proofs.Common.{◌≡◌}
-use Rattle.space_layout.specs.Written.{with_inodes}
+use Rattle.space_layout.specs.calls.Written.{with_inodes}
 use Rattle.space_layout.proofs.heads.put_inodes.Given as goal
 
 abbrev pub invariant-loop-s : goal.invariant-loop-s

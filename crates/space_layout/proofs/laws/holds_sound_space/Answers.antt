@@ -1,5 +1,7 @@
+use Rattle.space_layout.proofs.Known.{known}
 use Rattle.space_layout.proofs.Sound.{is_sound}
 use Rattle.space_layout.proofs.laws.holds_sound_space.Goals as goal
 
 pub returns : goal.returns
-returns c = is_sound
+returns c file sizes flags shape holds =
+    is_sound file sizes flags shape (known c.laws_below.ensures.uses file sizes flags holds)

@@ -3,7 +3,7 @@ use Rattle.std.specs.List.{range_with_len}
 use Rattle.std.proofs.lemmas.List.FromFn.{map-range_with_len_more}
 use Rattle.compact_record.specs.declared.parts.Part.{Part}
 use Rattle.page_packer.specs.Entries.{Entry}
-use Rattle.space_builder.specs.build.Picked.{first_page_in, clustered_part}
+use Rattle.space_builder.specs.calls.Picked.{first_page_in, clustered_part}
 use Rattle.space_builder.proofs.building.PickedParts.{first_parts}
 use Rattle.space_builder.proofs.clustered.ClusteredEntries.first_fields.Goals as goal
 

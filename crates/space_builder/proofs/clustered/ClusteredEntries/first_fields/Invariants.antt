@@ -1,6 +1,6 @@
 use Rattle.std.proofs.Common.{◌≡◌, map}
 use Rattle.std.specs.List.{range_with_len}
-use Rattle.space_builder.specs.build.Picked.{first_page_in, clustered_part}
+use Rattle.space_builder.specs.calls.Picked.{first_page_in, clustered_part}
 use Rattle.space_builder.proofs.clustered.ClusteredEntries.first_fields.Given as goal
 
 -- the fields so far

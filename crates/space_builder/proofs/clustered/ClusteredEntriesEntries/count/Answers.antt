@@ -1,5 +1,5 @@
 use Rattle.std.proofs.Common.{◌∙◌, sym}
-use Rattle.space_builder.specs.build.Picked.{first_page_in}
+use Rattle.space_builder.specs.calls.Picked.{first_page_in}
 use Rattle.space_builder.proofs.building.PickedParts.{count_clustered}
 use Rattle.space_builder.proofs.clustered.ClusteredEntriesEntries.count.Goals as goal
 

@@ -2,7 +2,7 @@ use Rattle.std.proofs.Common.{◌≡◌, ◌∙◌, ◌<◌, ℕ, min, length, t
 use Rattle.std.proofs.lemmas.Result.{IfOk-weaker}
 use Rattle.page_packer.specs.Entries.{Entry, entry_at}
 use Rattle.row_layout.specs.HoldsValues.{clustered_entry, clustered_entries}
-use Rattle.space_builder.specs.build.Picked.{first_page_in}
+use Rattle.space_builder.specs.calls.Picked.{first_page_in}
 use Rattle.space_builder.proofs.building.PickedParts.{count_clustered, clustered_at, clustered_width, take_least}
 use Rattle.space_builder.proofs.clustered.ClusteredEntriesLeaves.key.Goals as goal
 

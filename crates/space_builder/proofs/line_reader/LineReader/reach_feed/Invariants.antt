@@ -1,5 +1,5 @@
 use Rattle.std.proofs.Common.{◌-◌, ◌≤◌, length}
-use Rattle.space_builder.specs.build.Lines.{IsFeedPlace, GrewBehind}
+use Rattle.space_builder.specs.calls.Lines.{IsFeedPlace, GrewBehind}
 use Rattle.space_builder.proofs.line_reader.LineReader.reach_feed.Given as goal
 
 abbrev pub invariant-loop-size : goal.invariant-loop-size

@@ -1,6 +1,6 @@
 use Rattle.std.proofs.Common.{◌<◌, List, length, sym, subst}
-use Rattle.space_builder.specs.declared.stored.FieldSpot.{FieldSpot}
-use Rattle.space_builder.specs.build.Stored.{AreSpots}
+use Rattle.space_builder.specs.declared.marks.FieldSpot.{FieldSpot}
+use Rattle.space_builder.specs.calls.Stored.{AreSpots}
 use Rattle.space_builder.proofs.building.Spots.{within_spots, bytes_seen}
 use Rattle.space_builder.proofs.row_fields.RowFields.bytes.Goals as goal
 

@@ -1,7 +1,7 @@
 use Rattle.std.proofs.Common.{List, [], ◌∷◌, ◌++◌, false, ap, ◌∙◌, arith}
 use Rattle.row_layout.specs.StoredRow.{Stored}
-use Rattle.space_builder.specs.declared.stored.FieldSpot.{FieldSpot}
-use Rattle.space_builder.specs.build.Stored.{row_of}
+use Rattle.space_builder.specs.declared.marks.FieldSpot.{FieldSpot}
+use Rattle.space_builder.specs.calls.Stored.{row_of}
 use Rattle.space_builder.proofs.building.Spots.{row_more}
 use Rattle.space_builder.proofs.row_fields.RowFields.push.Goals as goal
 

@@ -2,7 +2,7 @@ use Rattle.std.proofs.Common.{◌≡◌, ◌∙◌, ℕ, take, ap, sym, arith}
 use Rattle.std.proofs.lemmas.List.{take-map}
 use Rattle.row_layout.specs.StoredRow.{stored_at}
 use Rattle.row_layout.specs.HoldsValues.{stored_in}
-use Rattle.space_builder.specs.build.Picked.{whole_part, picked_entry}
+use Rattle.space_builder.specs.calls.Picked.{whole_part, picked_entry}
 use Rattle.space_builder.proofs.secondary.SecondaryEntries.first_fields.Goals as goal
 
 pub returns : goal.returns

@@ -1,6 +1,6 @@
 use Rattle.std.proofs.Common.{◌≡◌, take}
 use Rattle.row_layout.specs.HoldsValues.{stored_in}
-use Rattle.space_builder.specs.build.Picked.{picked_entry}
+use Rattle.space_builder.specs.calls.Picked.{picked_entry}
 use Rattle.space_builder.proofs.secondary.SecondaryEntries.first_fields.Given as goal
 
 -- the fields so far

@@ -4,7 +4,7 @@ use Rattle.std.proofs.lemmas.Result.{IfOk-weaker}
 use Rattle.page_packer.specs.Entries.{Entry, entry_at}
 use Rattle.row_layout.specs.StoredRow.{stored_at}
 use Rattle.row_layout.specs.HoldsValues.{stored_in}
-use Rattle.space_builder.specs.build.Picked.{whole_part, picked_entry, picked_entries}
+use Rattle.space_builder.specs.calls.Picked.{whole_part, picked_entry, picked_entries}
 use Rattle.space_builder.proofs.building.PickedParts.{count_picked, picked_at}
 use Rattle.space_builder.proofs.secondary.SecondaryEntriesEntries.parts.Goals as goal
 

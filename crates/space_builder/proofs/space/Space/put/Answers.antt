@@ -3,7 +3,7 @@ use Rattle.std.proofs.lemmas.Result.{err_from_is_err_and}
 use Rattle.schema_text.specs.Formats.{flags_of}
 use Rattle.space_layout.specs.HeadPages.{header_page}
 use Rattle.space_builder.specs.build.Puts.{PutsPages}
-use Rattle.space_builder.specs.build.Room.{TakesPages}
+use Rattle.space_builder.specs.calls.Room.{TakesPages}
 use Rattle.space_builder.proofs.SpaceEnds.{no_page, can_size, not_sized, takes_pages, behind_failed, head_ends}
 use Rattle.space_builder.proofs.ValuePuts.{takes_still}
 use Rattle.space_builder.proofs.space.Space.put.Goals as goal

@@ -2,7 +2,7 @@ use Rattle.std.proofs.Common.{◌∙◌, ℕ, List, Ok, Err, sym, subst}
 use Rattle.std.proofs.lemmas.Result.{err_from_is_err_and}
 use Rattle.schema_text.specs.declared.table.Format.{Format}
 use Rattle.space_builder.specs.layout.Layout.{value_pages, trees_pages}
-use Rattle.space_builder.specs.build.Room.{TakesPages, TakesValues}
+use Rattle.space_builder.specs.calls.Room.{TakesPages, TakesValues}
 use Rattle.space_builder.proofs.Puts.{all_put}
 use Rattle.space_builder.proofs.SpaceSteps.{takes_values, first_pages_are, values_told, stop_in_values, stop_in_trees}
 use Rattle.space_builder.proofs.SpaceSteps.{ends_in_system}

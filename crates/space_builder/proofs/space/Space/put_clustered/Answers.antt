@@ -1,7 +1,7 @@
 use Rattle.std.proofs.Common.{List, subst}
 use Rattle.row_layout.specs.HoldsValues.{clustered_entries}
 use Rattle.space_layout.specs.NumberedPages.{Numbered}
-use Rattle.space_builder.specs.build.Picked.{first_page_in}
+use Rattle.space_builder.specs.calls.Picked.{first_page_in}
 use Rattle.space_builder.specs.build.Puts.{PutsPages}
 use Rattle.space_builder.proofs.SpaceSteps.{some_index}
 use Rattle.space_builder.proofs.TreeSpaces.{clustered_are, can_put, pages_are, tree_room}

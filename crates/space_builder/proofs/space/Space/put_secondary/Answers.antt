@@ -1,8 +1,8 @@
 use Rattle.std.proofs.Common.{◌∙◌, List, sym, subst}
 use Rattle.std.proofs.lemmas.Result.{err_from_is_err_and}
 use Rattle.space_layout.specs.NumberedPages.{Numbered}
-use Rattle.space_builder.specs.build.Order.{IsIndexOrder}
-use Rattle.space_builder.specs.build.Picked.{picked_entries}
+use Rattle.space_builder.specs.calls.Order.{IsIndexOrder}
+use Rattle.space_builder.specs.calls.Picked.{picked_entries}
 use Rattle.space_builder.specs.build.Puts.{PutsPages}
 use Rattle.space_builder.specs.layout.Layout.{index_pages}
 use Rattle.space_builder.proofs.Puts.{nothing_put}

@@ -1,5 +1,5 @@
 use Rattle.std.specs.List.{flat_map, range_with_len}
-use Rattle.space_builder.specs.build.Space.{OfSpace}
+use Rattle.space_builder.specs.calls.Space.{OfSpace}
 use Rattle.space_builder.specs.layout.Layout.{index_pages}
 use Rattle.space_builder.proofs.Puts.{ArePut}
 use Rattle.space_builder.proofs.space.Space.put_trees.Given as goal

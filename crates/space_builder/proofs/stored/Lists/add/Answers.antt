@@ -1,6 +1,6 @@
 use Rattle.std.proofs.Common.{◌≡◌, ◌∙◌, ◌++◌, ◌∷◌, [], ℕ, length, map, take, ap, arith}
 use Rattle.std.proofs.lemmas.List.{map-append, length-map, take-map}
-use Rattle.space_builder.specs.build.Arena.{Span, spot_of, span_of}
+use Rattle.space_builder.specs.calls.Arena.{Span, spot_of, span_of}
 use Rattle.space_builder.proofs.stored.Lists.add.Goals as goal
 
 pub returns-clause-ok : goal.returns-clause-ok

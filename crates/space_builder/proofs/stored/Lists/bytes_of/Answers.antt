@@ -1,5 +1,5 @@
 use Rattle.std.proofs.Common.{◌≡◌, List, ℕ, length, ap, arith}
-use Rattle.space_builder.specs.build.Arena.{Span, arena_of, span_at, span_of}
+use Rattle.space_builder.specs.calls.Arena.{Span, arena_of, span_at, span_of}
 use Rattle.space_builder.proofs.building.RowsIn.{lies_at, span_read}
 use Rattle.space_builder.proofs.stored.Lists.bytes_of.Goals as goal
 

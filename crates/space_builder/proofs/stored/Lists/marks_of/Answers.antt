@@ -1,7 +1,7 @@
 use Rattle.std.proofs.Common.{◌-◌, ◌≡◌, ◌+◌, ◌∙◌, List, length, map, take, drop, ap, arith}
 use Rattle.std.proofs.lemmas.List.{length-map}
-use Rattle.space_builder.specs.declared.stored.Mark.{Mark}
-use Rattle.space_builder.specs.build.Arena.{Span, arena_of, span_at, span_of, spot_of}
+use Rattle.space_builder.specs.declared.marks.Mark.{Mark}
+use Rattle.space_builder.specs.calls.Arena.{Span, arena_of, span_at, span_of, spot_of}
 use Rattle.space_builder.proofs.building.RowsIn.{lies_at, span_read, marks_read}
 use Rattle.space_builder.proofs.stored.Lists.marks_of.Goals as goal
 

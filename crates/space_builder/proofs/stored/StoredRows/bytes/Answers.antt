@@ -1,5 +1,5 @@
 use Rattle.std.proofs.Common.{refl}
-use Rattle.space_builder.specs.build.Arena.{arena_of, bytes_in, span_at, spots_in}
+use Rattle.space_builder.specs.calls.Arena.{arena_of, bytes_in, span_at, spots_in}
 use Rattle.space_builder.proofs.building.RowsIn.{span_within, spot_within, row_seen}
 use Rattle.space_builder.proofs.building.Spots.{bytes_seen}
 use Rattle.space_builder.proofs.stored.StoredRows.bytes.Goals as goal

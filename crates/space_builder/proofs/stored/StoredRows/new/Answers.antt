@@ -1,5 +1,5 @@
 use Rattle.std.proofs.Common.{ap, map}
-use Rattle.space_builder.specs.build.Arena.{span_of}
+use Rattle.space_builder.specs.calls.Arena.{span_of}
 use Rattle.space_builder.proofs.building.RowsIn.{none_in}
 use Rattle.space_builder.proofs.stored.StoredRows.new.Goals as goal
 

@@ -1,7 +1,7 @@
 use Rattle.std.proofs.Common.{◌∙◌, ◌++◌, ◌∷◌, List, [], ap}
 use Rattle.row_layout.specs.StoredRow.{Stored}
-use Rattle.space_builder.specs.build.Stored.{row_of}
-use Rattle.space_builder.specs.build.Arena.{arena_of}
+use Rattle.space_builder.specs.calls.Stored.{row_of}
+use Rattle.space_builder.specs.calls.Arena.{arena_of}
 use Rattle.space_builder.proofs.building.RowsIn.{row_added, rows_lie}
 use Rattle.space_builder.proofs.stored.StoredRows.push.Goals as goal
 

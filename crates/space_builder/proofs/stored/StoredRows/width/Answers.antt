@@ -1,5 +1,5 @@
 use Rattle.std.proofs.Common.{◌≡◌, ap, arith}
-use Rattle.space_builder.specs.build.Arena.{Span, arena_of, span_at, span_of}
+use Rattle.space_builder.specs.calls.Arena.{Span, arena_of, span_at, span_of}
 use Rattle.space_builder.proofs.building.RowsIn.{span_read, span_within, width_seen}
 use Rattle.space_builder.proofs.stored.StoredRows.width.Goals as goal
 
