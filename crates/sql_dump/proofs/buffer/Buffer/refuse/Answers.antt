@@ -1,6 +1,6 @@
 use Rattle.std.proofs.Common.{◌≡◌, ◌+◌, ◌-◌, ◌≤◌, ◌++◌, ℕ, List, length, take, drop, ap, sym, ◌∙◌, subst, arith}
 use Rattle.std.proofs.Common.{length-take-le}
-use Rattle.page_source.proofs.Edits.{whole_slice}
+use Rattle.std.proofs.Math.Seq.{take_at}
 use Rattle.sql_dump.specs.Buffer.{Held}
 use Rattle.sql_dump.proofs.buffer.Buffer.refuse.Goals as goal
 
@@ -15,7 +15,7 @@ filled items new held piece len used whole within room more same text =
     let front : length (take (65536 - used) piece) ≡ 65536 - used =
     length-take-le (65536 - used) piece (omega (arith, size, more)) in
     let all : used + length (take (65536 - used) piece) ≡ 65536 = omega (arith, front, within) in
-    ap (λ (t : List ℕ). take 65536 t) (whole_slice new items len whole)
+    ap (λ (t : List ℕ). take 65536 t) (take_at new (drop (length new) items) len whole)
     ∙ subst (λ (n : ℕ). take n new ≡ take used items ++ take (65536 - used) piece) all text
     ∙ ap (λ (t : List ℕ). t ++ take (65536 - used) piece) (sym same)
     ∙ ap (λ (n : ℕ). held ++ take (65536 - n) piece) (sym size)
