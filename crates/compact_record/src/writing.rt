@@ -228,8 +228,8 @@ pub struct RecordPlace {
 }
 
 /// Writes the record of these parts from byte `at` of the page on, with its number in the heap and its status, and
-/// answers the byte where its fields begin, and where it ends. It owns no record, and no record is next. The other bytes
-/// of the page stay.
+/// answers the byte where its fields begin, and where it ends. It owns no record, and no record is next. The other
+/// bytes of the page stay.
 pub fn place_record(
     page: &mut Page,
     at: usize,

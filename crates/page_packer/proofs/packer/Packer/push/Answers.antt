@@ -10,8 +10,10 @@ pub overflow_cast-placed : goal.overflow_cast-placed
 overflow_cast-placed c =
     let fields = c.args.fields.now in
     let parts = c.args.parts.now in
-    let room = room_more c.args.self.now c.self.inside.page c.self.inside.spots.items c.self.inside.count c.self.inside.top
-    (size_of_record fields parts) c.self.invariant (ap (λ (p : Packing). p.records) (sym c.self.view_is)) c.requires.room in
+    let inside = c.self.inside in
+    let room = room_more c.args.self.now inside.page inside.spots.items inside.count inside.top
+    (size_of_record fields parts) c.self.invariant (ap (λ (p : Packing). p.records) (sym c.self.view_is))
+    c.requires.room in
     omega (arith, room, c.place_record-placed.ensures.origin, size_is fields parts, origin_is fields parts)
 
 pub invariant_of-self : goal.invariant_of-self
