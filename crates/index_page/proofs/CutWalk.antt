@@ -7,6 +7,8 @@ use Rattle.std.proofs.lemmas.List.Elements.{All-nil, All-head, All-tail, All-pus
 use Rattle.compact_record.specs.Header.{next_origin, owned_by}
 use Rattle.index_page.specs.Header.{infimum, supremum, slot_count, record_count, slot_at, records_from, records_of}
 use Rattle.index_page.specs.Page.{HasGroupSize, IsGroup, Cuts, Closes, IsCut, IsChain}
+use Rattle.index_page.specs.declared.directory.Groups.{Groups}
+use Rattle.index_page.specs.Groups.{Grows, AreWhole}
 use Rattle.index_page.proofs.RecordWalk.{records_left, records_left_none}
 use Rattle.index_page.proofs.ChainWalk.{walk_of_chain, whole_chain}
 
@@ -214,3 +216,73 @@ pub cut_end : (page : List ℕ) (size slot origin n i : ℕ) → n ≤ i → Cut
 cut_end page size slot origin n i past goes =
     let P : List ℕ → Type 0 = λ xs. CutLeft page size slot xs ↔ IsCut page (records_of page) in
     subst P (records_left_none page origin n i past) goes.left
+
+-- the same in one direction, before the chain is known: where what is left of the walk closes, the whole walk does
+pub record CutReaches (page : List ℕ) (groups : Groups) (origin n i : ℕ) : Type 0 where
+  pub few : groups.size ≤ i
+  pub slots : groups.slot ≤ i
+  pub left : CutLeft page groups.size groups.slot (records_from page origin (n - i))
+      → CutLeft page 0 0 (records_from page infimum n)
+
+reach_start : (page : List ℕ) (n : ℕ) → CutReaches page (record { slot = 0; size = 0 }) infimum n 0
+reach_start page n =
+    let e : n - 0 ≡ n = omega arith in
+    record {
+      few = omega arith;
+      slots = omega arith;
+      left = λ closes. subst (λ (k : ℕ). CutLeft page 0 0 (records_from page infimum k)) e closes;
+    }
+
+grown_left : (page : List ℕ) (old new : Groups) (origin : ℕ) (rest : List ℕ) → Grows page old origin new
+    → CutLeft page new.size new.slot rest → CutLeft page old.size old.slot (origin ∷ rest)
+grown_left page old new origin rest (inl (none, is)) left =
+    let now : CutLeft page (old.size + 1) old.slot rest =
+    subst (λ (g : Groups). CutLeft page g.size g.slot rest) is left in
+    (λ _. now, λ owns. absurd (owns none))
+grown_left page old new origin rest (inr (owns, closes, is)) left =
+    let now : CutLeft page 0 (old.slot + 1) rest = subst (λ (g : Groups). CutLeft page g.size g.slot rest) is left in
+    (λ none. absurd (owns none), λ _. (closes, now))
+
+grown_few : (page : List ℕ) (old new : Groups) (origin : ℕ) → Grows page old origin new
+    → (new.size ≤ old.size + 1) × (new.slot ≤ old.slot + 1)
+grown_few page old new origin (inl (none, is)) = rw is (omega arith, omega arith)
+grown_few page old new origin (inr (owns, closes, is)) = rw is (omega arith, omega arith)
+
+-- one more record
+pub reach_more : (page : List ℕ) (old new : Groups) (origin next n i : ℕ) → i < n → next ≡ next_origin page origin
+    → Grows page old origin new → CutReaches page old origin n i → CutReaches page new next n (i + 1)
+reach_more page old new origin next n i below is grows goes =
+    let few = grown_few page old new origin grows in
+    let rest = records_from page (next_origin page origin) (n - (i + 1)) in
+    record {
+      few = omega (arith, few.0, goes.few);
+      slots = omega (arith, few.1, goes.slots);
+      left = λ closes.
+          goes.left (subst (CutLeft page old.size old.slot) (sym (records_left page origin n i below))
+          (grown_left page old new origin rest grows
+          (subst (λ (o : ℕ). CutLeft page new.size new.slot (records_from page o (n - (i + 1)))) is closes)));
+    }
+
+-- the infimum is the first
+pub reach_first : (page : List ℕ) (none groups : Groups) (next n : ℕ) → none ≡ record { slot = 0; size = 0 } → 0 < n
+    → next ≡ next_origin page infimum → Grows page none infimum groups → CutReaches page groups next n 1
+reach_first page none groups next n is some here grows =
+    reach_more page none groups infimum next n 0 some here grows
+    (subst (λ (g : Groups). CutReaches page g infimum n 0) (sym is) (reach_start page n))
+
+-- and the supremum the last
+pub reach_end : (page : List ℕ) (groups : Groups) (origin n i : ℕ) → IsChain page (records_of page)
+    → n ≡ record_count page + 2 → i + 1 ≡ n → origin ≡ supremum → AreWhole page groups
+    → CutReaches page groups origin n i → IsCut page (records_of page)
+reach_end page groups origin n i is counted last here whole goes =
+    let more = reach_more page groups whole.last origin (next_origin page origin) n i (omega (arith, last)) refl
+    (subst (λ (o : ℕ). Grows page groups o whole.last) (sym here) whole.grows) goes in
+    let past : n ≤ i + 1 = omega (arith, last) in
+    let none = records_left_none page (next_origin page origin) n (i + 1) past in
+    let closed = more.left (subst (CutLeft page whole.last.size whole.last.slot) (sym none)
+    (whole.slots, whole.closed)) in
+    let list = infimum ∷ records_of page ++ supremum ∷ [] in
+    let all : records_from page infimum n ≡ list =
+    ap (λ k. records_from page infimum k) counted ∙ whole_chain page (walk_of_chain page is) in
+    let count : 0 + slot_count page ≡ slot_count page = omega arith in
+    cut_of page list [] 0 (slot_count page) (All-nil (Unowned page)) count (subst (CutLeft page 0 0) all closed)

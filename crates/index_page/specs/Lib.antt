@@ -1,5 +1,6 @@
 pub mod Header
 pub mod Page
+pub mod Groups
 pub mod PageChecks
 pub mod Marks
 pub mod Readings

@@ -95,13 +95,14 @@ fn first_broken(
     if !has_ends(page) {
         return Some(Rule::PageEnds);
     }
-    if let Some(rule) = chain_fault(&mut scratch.numbers, page) {
+    let mut cut = false;
+    if let Some(rule) = chain_fault(&mut scratch.numbers, page, &mut cut) {
         return Some(rule);
     }
     if !has_free_list(&mut scratch.numbers, page) {
         return Some(Rule::FreeList);
     }
-    if !has_directory(page) {
+    if !has_directory(page, cut) {
         return Some(Rule::Directory);
     }
     let lowest = is_lowest_first(leaf, leftmost);

@@ -1,15 +1,16 @@
 //! The heap numbers of the chain's records and of the free ones, and the free list.
 
-ghost use Rattle.std.specs.Prelude.{◌≡◌, ◌≤◌, ◌↔◌, IsTrue, IsNone};
+ghost use Rattle.std.specs.Prelude.{◌≡◌, ◌≤◌, ◌↔◌, IsTrue, IsNone, true};
 ghost use Rattle.page_source.specs.Verdict.{Check, Then};
 ghost use Rattle.page_source.specs.declared.rule.Rule.{Rule};
 ghost use Rattle.compact_record.specs.Reading.{IsHeapOrigin};
 ghost use Rattle.index_page.specs.Header.{records_from, records_of};
-ghost use Rattle.index_page.specs.Page.{HasHeader, AreOrigins, IsChain, HasHeapNumbers, IsFreeWalk};
+ghost use Rattle.index_page.specs.Page.{HasHeader, AreOrigins, IsChain, IsCut, HasHeapNumbers, IsFreeWalk};
 ghost use Rattle.index_page.specs.PageChecks.{HasFreeList};
 ghost use Rattle.index_page.specs.Marks.{bits_of, PassInTurn, seen_after, IsNew, with_number, chain_numbers};
 
 use crate::chain::has_chain;
+use crate::directory::{Groups, are_whole, grow};
 use crate::header::{
     INFIMUM, SUPREMUM, first_free, free_count, heap_count, is_origin, record_count,
 };
@@ -66,14 +67,20 @@ fn has_heap_numbers(numbers: &mut Marks, page: &Page) -> bool
 }
 
 /// Whether the records lead from the infimum to the supremum, as many as the header says, and their heap numbers are
-/// found to come once, in one walk, with a mark for each of them. They may do so after false, too.
+/// found to come once, and the slots to cut them into groups, in one walk, with a mark for each of them. They may do so
+/// after false, too.
 fn has_numbered_chain(numbers: &mut Marks, page: &Page) -> bool
     requires header { HasHeader page.now }
     ensures chain { IsTrue result → IsChain page.now (records_of page.now) }
     ensures had { IsTrue result → HasHeapNumbers page.now (records_of page.now) }
+    ensures cut { IsTrue result → IsCut page.now (records_of page.now) }
     ensures marks { IsTrue result → bits_of numbers.new ≡ chain_numbers page.now }
 {
     numbers.clear();
+    let none = Groups { slot: 0, size: 0 };
+    let Some(mut groups) = grow(page, none, INFIMUM) else {
+        return false;
+    };
     let mut origin = next_origin(page, INFIMUM);
     for i in 0..record_count(page) {
         if !is_origin(page, origin) {
@@ -82,19 +89,29 @@ fn has_numbered_chain(numbers: &mut Marks, page: &Page) -> bool
         if !mark_number(numbers, page, origin) {
             return false;
         }
+        let Some(more) = grow(page, groups, origin) else {
+            return false;
+        };
+        groups = more;
         origin = next_origin(page, origin);
+    }
+    if !are_whole(page, groups) {
+        return false;
     }
     origin == SUPREMUM
 }
 
 /// The rule that the record chain or its heap numbers break first, and a mark for each of these where they break none.
-pub(crate) fn chain_fault(numbers: &mut Marks, page: &Page) -> Option<Rule>
+/// `cut` tells whether the slots were found to cut the chain into groups.
+pub(crate) fn chain_fault(numbers: &mut Marks, page: &Page, cut: &mut bool) -> Option<Rule>
     requires header { HasHeader page.now }
     ensures exact { Then (Check Rule.RecordChain (IsChain page.now (records_of page.now)))
         (Check Rule.HeapNumbers (HasHeapNumbers page.now (records_of page.now))) result }
     ensures marks { IsNone result → bits_of numbers.new ≡ chain_numbers page.now }
+    ensures cut { IsNone result → cut.new ≡ true → IsCut page.now (records_of page.now) }
 {
-    if has_numbered_chain(numbers, page) {
+    *cut = has_numbered_chain(numbers, page);
+    if *cut {
         return None;
     }
     if !has_chain(page) {

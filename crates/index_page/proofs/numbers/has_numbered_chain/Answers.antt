@@ -1,8 +1,9 @@
-use Rattle.std.proofs.Common.{sym, ◌∙◌, arith, eqb-true}
-use Rattle.index_page.specs.Header.{first_record, records_of}
+use Rattle.std.proofs.Common.{◌+◌, refl, sym, ◌∙◌, arith, eqb-true}
+use Rattle.index_page.specs.Header.{first_record, record_count, records_of}
 use Rattle.index_page.specs.Page.{IsOrigin}
 use Rattle.index_page.proofs.RecordWalk.{record_at_none, places_more}
 use Rattle.index_page.proofs.ChainWalk.{place_next, chain_ended}
+use Rattle.index_page.proofs.CutWalk.{reach_first, reach_more, reach_end}
 use Rattle.index_page.proofs.HeapNumbers.{numbers_of_turns}
 use Rattle.index_page.proofs.Turns.{turn_start, turn_next, turn_end}
 use Rattle.index_page.proofs.numbers.has_numbered_chain.Goals as goal
@@ -14,6 +15,7 @@ loop-i-init c =
     record {
       place = first ∙ sym (record_at_none page (first_record page));
       origins = λ k below. absurd (omega (arith, below));
+      reaches = reach_first page _ _ _ _ refl (omega arith) first c.in-Some.ensures;
       goes = rw (c.clear.ensures, first) (turn_start page _ _ _ _ _);
     }
 
@@ -26,6 +28,8 @@ loop-i-preserved c =
       place = place_next page (first_record page) c.loop-i.i _ _ here.place next;
       origins = places_more page (IsOrigin page) (first_record page) c.loop-i.i _ here.place
           (c.is_origin.ensures.0 c.if-not-is_origin.false) here.origins;
+      reaches = reach_more page _ _ _ _ _ _ (omega (arith, c.loop-i-test.true, c.record_count-i-end.ensures.value)) next
+          c.in-Some-grow.ensures here.reaches;
       goes = turn_next page _ _ _ _ _ _ _ _ _ _ c.loop-i-test.true next
           (c.mark_number.ensures.exact.0 c.if-not-mark_number.false)
           (c.mark_number.ensures.marks c.if-not-mark_number.false) here.goes;
@@ -46,3 +50,12 @@ pub returns-clause-marks : goal.returns-clause-marks
 returns-clause-marks c = λ _.
     let end = turn_end c.args.page.now _ _ _ _ _ _ _ _ c.loop-i-test.false c.loop-i.invariant.goes in
     rw c.record_count-i-end.ensures.value at end.1
+
+pub returns-clause-cut : goal.returns-clause-cut
+returns-clause-cut c = λ last.
+    let page = c.args.page.now in
+    let end = eqb-true _ _ last in
+    let chain = chain_ended page c.loop-i.i c.loop-i.origin (omega arith) c.loop-i.invariant.place
+    c.loop-i.invariant.origins end in
+    reach_end page c.loop-i.groups c.loop-i.origin (record_count page + 2) (c.loop-i.i + 1) chain refl (omega arith) end
+    (c.are_whole.ensures c.if-not-are_whole.false) c.loop-i.invariant.reaches
