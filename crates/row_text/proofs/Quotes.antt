@@ -17,7 +17,7 @@ pub record HasLetter (byte : ℕ) : Type 0 where
   pub known : IsLetter (escape_letter byte)
 
 -- a byte that is none of these stands for itself
-pub plain_byte : (b : ℕ) → b ≢ 0 → b ≢ 10 → b ≢ 13 → b ≢ 92 → b ≢ 39 → b ≢ 34 → b ≢ 26 → escape_letter b ≡ 0
+plain_byte : (b : ℕ) → b ≢ 0 → b ≢ 10 → b ≢ 13 → b ≢ 92 → b ≢ 39 → b ≢ 34 → b ≢ 26 → escape_letter b ≡ 0
 plain_byte b n0 n1 n2 n3 n4 n5 n6 =
     rw (ne_eqb b 0 n0, ne_eqb b 10 n1, ne_eqb b 13 n2, ne_eqb b 92 n3, ne_eqb b 39 n4, ne_eqb b 34 n5, ne_eqb b 26 n6)
     refl

@@ -1,8 +1,8 @@
 -- A text in quotes that is read piece by piece.
 use Rattle.std.proofs.Common.{◌≡◌, ◌≢◌, ℕ, ◌+◌, ◌-◌, ◌<◌, ◌≤◌, List, [], ◌∷◌, ◌++◌, length, take, drop}
 use Rattle.std.proofs.Common.{set, get_or, subst, refl, sym, ap, ◌∙◌, arith, append_assoc, length-append}
-use Rattle.std.proofs.lemmas.List.{drop_at, drop-drop, length-drop, length-set, length-take-le, take_more_set, take-append-drop}
-use Rattle.std.proofs.lemmas.List.{take-take, drop_more}
+use Rattle.std.proofs.lemmas.List.{drop_at, drop-drop, length-drop, length-set, length-take-le, take_more_set}
+use Rattle.std.proofs.lemmas.List.{take-append-drop, take-take, drop_more}
 use Rattle.std.proofs.lemmas.Slice.{take-put_mid}
 use Rattle.std.proofs.Math.Seq.{take-append-add}
 use borrow.Rule.Slice.PartMut.{mid_of, put_mid, mid_len, same_len_mid}

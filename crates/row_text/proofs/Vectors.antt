@@ -1,9 +1,11 @@
 -- What the operations on vectors of 16 bytes hold at each lane.
-use Rattle.std.proofs.Common.{◌≡◌, ◌≢◌, ◌↔◌, ℕ, inl, inr, take, subst, ◌%◌, ◌^◌, ◌≤◌, ◌<◌, List, [], ◌∷◌, Bool, true, false, cond, eqb, leb, length, get_or, map, replicate, refl, sym, ap, ◌∙◌, arith, w8}
+use Rattle.std.proofs.Common.{◌≡◌, ◌≢◌, ◌↔◌, ℕ, ◌%◌, ◌^◌, ◌≤◌, ◌<◌, List, [], ◌∷◌, Bool, true, false, cond, eqb, leb}
+use Rattle.std.proofs.Common.{length, take, get_or, map, replicate, subst, refl, sym, ap, ◌∙◌, arith, w8}
 use Rattle.std.specs.Int.{bit_at}
 use Rattle.std.specs.Simd.Lanes.{zip2, sel_l, mask_l, top}
-use Rattle.std.proofs.lemmas.Simd.{length-zip2, get_or-zip2, get_or-replicate, length-sel_l, get_or-sel_l, bit_mask_l, tops_compared, mask_l-mod}
-use Rattle.std.proofs.lemmas.Bool.{leb-true, leb-false, cases_eq, ne_eqb, eq-eqb}
+use Rattle.std.proofs.lemmas.Simd.{length-zip2, get_or-zip2, get_or-replicate, length-sel_l, get_or-sel_l}
+use Rattle.std.proofs.lemmas.Simd.{bit_mask_l, tops_compared, mask_l-mod}
+use Rattle.std.proofs.lemmas.Bool.{leb-true, leb-false}
 use Rattle.std.proofs.lemmas.List.{length-map, get_or-take, get_or_default, length-take-le}
 use Rattle.std.proofs.Math.ListN.{get_or-map}
 use Rattle.row_text.specs.calls.Lanes.{HasLanes}
@@ -11,14 +13,16 @@ use Rattle.row_text.specs.Values.{escape_letter, IsPlain}
 
 -- 255 where the lanes of one vector are a byte, and else the lanes of another
 pub marked_lanes : (a z : List ℕ) (x : ℕ) → length a ≡ 16 → length z ≡ 16
-    → HasLanes (sel_l (zip2 eqb a (replicate 16 x)) (replicate 16 255) z) (λ k. cond (eqb (get_or a k 0) x) 255 (get_or z k 0))
+    → HasLanes (sel_l (zip2 eqb a (replicate 16 x)) (replicate 16 255) z)
+    (λ k. cond (eqb (get_or a k 0) x) 255 (get_or z k 0))
 marked_lanes a z x p q =
     let long : length (zip2 eqb a (replicate 16 x)) ≡ 16 = length-zip2 eqb a (replicate 16 x) p ∙ p in
     record {
       long = length-sel_l _ (replicate 16 255) z long (long ∙ sym q) ∙ long;
       each = λ k l.
           get_or-sel_l _ (replicate 16 255) z k 0 (omega arith) l (omega arith)
-          ∙ (λ i. cond ((get_or-zip2 eqb a (replicate 16 x) k 0 0 false (omega arith) l ∙ ap (eqb (get_or a k 0)) (get_or-replicate 16 k x 0 l)) i) (get_or-replicate 16 k 255 0 l i) (get_or z k 0));
+          ∙ (λ i. cond ((get_or-zip2 eqb a (replicate 16 x) k 0 0 false (omega arith) l
+          ∙ ap (eqb (get_or a k 0)) (get_or-replicate 16 k x 0 l)) i) (get_or-replicate 16 k 255 0 l i) (get_or z k 0));
     }
 
 -- the test of a lane's top bit
@@ -32,7 +36,8 @@ set_tells x false e = (λ h. absurd (omega arith), λ h. omega (arith, leb-false
 -- a bit of the mask of the lanes' top bits
 pub bit_of_mask : (v : List ℕ) (k : ℕ) → (bit_at (mask_l (map is_set v)) k ≡ 1) ↔ (128 ≤ get_or v k 0)
 bit_of_mask v k =
-    let e : bit_at (mask_l (map is_set v)) k ≡ cond (is_set (get_or v k 0)) 1 0 = bit_mask_l (map is_set v) k ∙ ap (λ b. cond b 1 0) (get_or-map is_set v k 0) in
+    let e : bit_at (mask_l (map is_set v)) k ≡ cond (is_set (get_or v k 0)) 1 0 =
+    bit_mask_l (map is_set v) k ∙ ap (λ b. cond b 1 0) (get_or-map is_set v k 0) in
     let t = set_tells (get_or v k 0) _ refl in
     (λ h. t.0 (sym e ∙ h), λ h. e ∙ t.1 h)
 
@@ -44,20 +49,9 @@ splat_zip2 f x (y ∷ ys) = ap (λ rest. f x y ∷ rest) (splat_zip2 f x ys)
 pub top_bitmask : (v : List ℕ) (n : ℕ) → length v ≡ n → n ≤ 64
     → mask_l (map (top 7) (zip2 (λ a b. cond (leb a b) 255 0) (replicate n 128) v)) % 2 ^ 64 ≡ mask_l (map is_set v)
 top_bitmask v n long small =
-    ap (λ ms. mask_l ms % 2 ^ 64) (tops_compared w8 leb (replicate n 128) v ∙ ap (λ m. zip2 leb (replicate m 128) v) (sym long) ∙ splat_zip2 leb 128 v)
+    ap (λ ms. mask_l ms % 2 ^ 64) (tops_compared w8 leb (replicate n 128) v
+    ∙ ap (λ m. zip2 leb (replicate m 128) v) (sym long) ∙ splat_zip2 leb 128 v)
     ∙ mask_l-mod (map is_set v) 64 (omega (arith, length-map v is_set))
-
--- where a mark isn't set, the byte is another one, and the mark before wasn't set
-pub unmarked : (x l b y : ℕ) → x ≡ cond (eqb l b) 255 y → x < 128 → (l ≢ b) × (y < 128)
-unmarked x l b y e low = elim (cases_eq l b) [
-  | inl is ↦ let f : x ≡ 255 = e ∙ ap (λ t. cond t 255 y) (eq-eqb l b is) in absurd (omega (arith, f, low))
-  | inr other ↦ let f : x ≡ y = e ∙ ap (λ t. cond t 255 y) (ne_eqb l b other) in (other, omega (arith, f, low))
-]
-
-pub plain_byte : (b : ℕ) → b ≢ 0 → b ≢ 10 → b ≢ 13 → b ≢ 92 → b ≢ 39 → b ≢ 34 → b ≢ 26 → escape_letter b ≡ 0
-plain_byte b n0 n1 n2 n3 n4 n5 n6 =
-    rw (ne_eqb b 0 n0, ne_eqb b 10 n1, ne_eqb b 13 n2, ne_eqb b 92 n3, ne_eqb b 39 n4, ne_eqb b 34 n5, ne_eqb b 26 n6)
-    refl
 
 -- the bytes of a run before the first mark stand for themselves
 pub plain_run : (run lanes marks : List ℕ) (bits n : ℕ) → length run ≡ 16 → HasLanes lanes (λ k. get_or run k 0)

@@ -70,8 +70,8 @@ fn plain_at(text: &[u8], at: usize) -> Option<u8>
 #[inline(always)]
 fn escaped_at(text: &[u8], at: usize) -> Option<u8>
     requires { at + 2 ≤ length text.now }
-    ensures { IfSome result (λ byte. (slice_index text.now at ≡ 92) × (escape_letter byte ≡ slice_index text.now (at + 1))
-        × (slice_index text.now (at + 1) ≢ 0)) }
+    ensures { IfSome result (λ byte. (slice_index text.now at ≡ 92)
+        × (escape_letter byte ≡ slice_index text.now (at + 1)) × (slice_index text.now (at + 1) ≢ 0)) }
 {
     if text[at] != b'\\' {
         return None;

@@ -1,12 +1,11 @@
 //! Texts in quotes, which are read in pieces and each once.
 
-ghost use Rattle.std.specs.Prelude.{◌≡◌, ◌≢◌, ℕ, ◌+◌, ◌*◌, ◌≤◌, ◌↔◌, true, length, MatchOption, IfSome, IsTrue, IfOk};
+ghost use Rattle.std.specs.Prelude.{◌≡◌, ◌≤◌, ◌↔◌, true, length, MatchOption, IsTrue, IfOk};
 ghost use Rattle.column_values.specs.declared.value.Value.{Value};
 ghost use Rattle.column_values.specs.Types.{IsColumnType};
 ghost use Rattle.column_values.specs.Spell.{IsSpelling, IsTrimmed, IsValueOf};
-ghost use Rattle.row_text.specs.Values.{escaped_text};
 ghost use Rattle.row_text.specs.calls.Values.{EndsValue, FindsValue};
-ghost use Rattle.row_text.specs.calls.Texts.{FindsText, LeadsByte, LeadsNoByte, IsWritten, TakesText, is_quoted};
+ghost use Rattle.row_text.specs.calls.Texts.{FindsText, LeadsByte, LeadsNoByte, TakesText, is_quoted};
 
 use crate::bytes::{is_escaped, plain_front};
 use crate::ends::behind;

@@ -13,7 +13,8 @@ loop-i-preserved c =
     let here : n < length room = omega (arith, c.loop-i-test.true, c.requires.room, so.same) in
     record {
       written = written_more c.args.text.now room (drop at c.args.text.now) n at c.in-Some.byte 1 _ _ here so.written
-          refl (leads_plain c.args.text.now at c.in-Some.byte (omega (arith, c.loop-i-test.true, c.requires.text)) c.in-Some.ensures.0 c.in-Some.ensures.1)
+          refl (leads_plain c.args.text.now at c.in-Some.byte (omega (arith, c.loop-i-test.true, c.requires.text))
+          c.in-Some.ensures.0 c.in-Some.ensures.1)
           (omega arith) (omega arith);
       same = length-set room n c.in-Some.byte ∙ so.same;
     }
