@@ -1,7 +1,7 @@
 //! Texts and bytes as they stand in a line.
 
-ghost use Rattle.std.specs.Prelude.{◌≡◌, ◌≢◌, ◌*◌, ◌<◌, ◌≤◌, position, length, take, slice_index, Some, MatchOption, IfSome, IsNone, IsTrue};
-ghost use Rattle.std.specs.Prelude.{◌==◌, if◌then◌else◌, map};
+ghost use Rattle.std.specs.Prelude.{◌≡◌, ◌≢◌, ◌*◌, ◌<◌, ◌≤◌, position, length, take, slice_index, map};
+ghost use Rattle.std.specs.Prelude.{◌==◌, if◌then◌else◌, Some, MatchOption, IfSome, IsNone, IsTrue};
 ghost use Rattle.hex.specs.Hex.{encode_lower, lower_digits};
 ghost use Rattle.page_source.specs.Calls.{Puts};
 ghost use Rattle.page_source.specs.Pages.{AreBytes};
@@ -15,9 +15,10 @@ use page_source::{ByteSink, Failed, put_pieces};
 /// How many bytes are turned to digits, or to a text with escapes, at a time.
 const CHUNK: usize = 256;
 
-/// How many bytes of a text are looked at together, and where fewer are left.
+/// How many bytes of a text are looked at together.
 const RUN: usize = 32;
 
+/// How many where fewer are left.
 const SHORT_RUN: usize = 8;
 
 /// How many bytes of a text with escapes are copied together.

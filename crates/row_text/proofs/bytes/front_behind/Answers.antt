@@ -1,4 +1,4 @@
-use Rattle.std.proofs.Common.{ℕ, List, take, subst, ap}
+use Rattle.std.proofs.Common.{ℕ, List, take, subst}
 use Rattle.row_text.specs.Values.{IsPlain}
 use Rattle.row_text.proofs.Escapes.{plain_run}
 use Rattle.row_text.proofs.bytes.front_behind.Goals as goal

@@ -1,4 +1,4 @@
-use Rattle.std.proofs.Common.{◌≡◌, ◌<◌, arith}
+use Rattle.std.proofs.Common.{◌<◌, arith}
 use Rattle.row_text.proofs.Groups.{plain_group, escape_behind}
 use Rattle.row_text.proofs.bytes.write_group.Goals as goal
 

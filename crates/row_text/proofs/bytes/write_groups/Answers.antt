@@ -1,4 +1,4 @@
-use Rattle.std.proofs.Common.{◌≡◌, List, ℕ, take, refl, ap, ◌∙◌, arith}
+use Rattle.std.proofs.Common.{List, ℕ, take, refl, ap, ◌∙◌, arith}
 use Rattle.row_text.specs.Values.{escaped_text}
 use Rattle.row_text.proofs.Groups.{written_behind}
 use Rattle.row_text.proofs.bytes.write_groups.Goals as goal
