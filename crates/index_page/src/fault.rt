@@ -7,12 +7,12 @@ ghost use Rattle.index_page.specs.PageChecks.{PageChecks};
 
 use crate::directory::has_directory;
 use crate::header::{has_ends, has_header, record_count};
+use crate::heap_numbers::{chain_fault, has_free_list};
 use crate::keys::keys_rise;
 use crate::marks::Marks;
-use crate::numbers::{chain_fault, has_free_list};
 use crate::pass::pass;
-use crate::records::{have_kind, heap_is_spelled};
 use crate::room::have_room;
+use crate::spelling::{have_kind, heap_is_spelled};
 use column_values::FieldList;
 use compact_record::Located;
 use page_source::{NoMemory, Page, Rule};

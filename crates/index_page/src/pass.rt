@@ -12,8 +12,8 @@ ghost use Rattle.index_page.specs.Marks.{bits_of, none_seen, PassInTurn, seen_af
 use crate::header::{HEAP_START, INFIMUM, first_free, free_count, heap_top, record_count};
 use crate::keys::rise;
 use crate::marks::Marks;
-use crate::records::{are_spelled, has_kind};
 use crate::room::mark_records;
+use crate::spelling::{are_spelled, has_kind};
 use column_values::FieldList;
 use compact_record::{Located, next_origin};
 use page_source::Page;

@@ -1,79 +1,56 @@
-//! What each record of the page has to be: its kind, and how it is spelled.
+//! The records of a page, each with the places of its fields.
 
-ghost use Rattle.std.specs.Prelude.{◌≡◌, ◌≤◌, ◌↔◌, IsTrue, All, length};
-ghost use Rattle.compact_record.specs.Reading.{IsHeapOrigin};
-ghost use Rattle.index_page.specs.Header.{records_from, records_of, heap_of};
-ghost use Rattle.index_page.specs.Page.{HasHeader, AreOrigins, IsChain, HasKind, AreSpelled};
-ghost use Rattle.index_page.specs.PageChecks.{HasFreeList};
+ghost use Rattle.std.specs.Prelude.{◌≡◌, IfOk};
+ghost use Rattle.index_page.specs.Header.{records_of};
+ghost use Rattle.index_page.specs.Page.{HasHeader, IsChain, AreSpelled};
+ghost use Rattle.index_page.specs.Readings.{AreRead};
 
-use crate::header::{INFIMUM, first_free, free_count, record_count};
+use crate::header::{INFIMUM, record_count};
 use column_values::FieldList;
-use compact_record::{Located, next_origin, status};
-use page_source::Page;
+use compact_record::{Located, next_origin};
+use page_source::{NoMemory, Page};
+use std::alloc::Global;
+use std::marker::Model;
 
-/// Whether the record is a row, of status 0, or above the leaves a node pointer, of status 1.
-pub(crate) fn has_kind(page: &Page, leaf: bool, origin: usize) -> bool
-    requires { IsHeapOrigin origin }
-    ensures { IsTrue result ↔ HasKind page.now leaf origin }
-{
-    let kind = if leaf { 0 } else { 1 };
-    status(page, origin) == kind
+/// The records of a page in chain order, with the places of their fields.
+#[derive(Debug, Drop)]
+pub struct Records {
+    items: Vec<Located>,
 }
 
-/// Whether the records of the chain are those of a leaf, or node pointers.
-pub(crate) fn have_kind(page: &Page, leaf: bool) -> bool
-    requires header { HasHeader page.now }
-    requires chain { IsChain page.now (records_of page.now) }
-    ensures { IsTrue result ↔ All (HasKind page.now leaf) (records_of page.now) }
-{
-    let mut origin = next_origin(page, INFIMUM);
-    for _ in 0..record_count(page) {
-        if !has_kind(page, leaf, origin) {
-            return false;
+impl Model for Records {
+    ghost use Rattle.std.specs.Prelude.{List};
+    ghost use Rattle.compact_record.specs.Reading.{Reading};
+
+    ghost Value = { List Reading };
+
+    ghost view = { λ records. records.items.items };
+}
+
+impl Records {
+    /// Reads the records of a page that was checked. Only memory may run out.
+    pub fn of(alloc: Global, page: &Page, fields: &FieldList) -> Result<Records, NoMemory>
+        requires header { HasHeader page.now }
+        requires chain { IsChain page.now (records_of page.now) }
+        requires spelled { AreSpelled page.now fields.now (records_of page.now) }
+        ensures { IfOk result (λ records. AreRead page.now fields.now (records_of page.now) records) }
+    {
+        let members = fields.fields().len() as u32;
+        let mut items = Vec::new(alloc);
+        let mut origin = next_origin(page, INFIMUM);
+        for _ in 0..record_count(page) {
+            let mut located = Located::with_room(alloc, members)?;
+            located.again(page, origin, fields);
+            items.push(located)?;
+            origin = next_origin(page, origin);
         }
-        origin = next_origin(page, origin);
+        Ok(Records { items })
     }
-    true
-}
 
-/// Whether `count` records from `first` on are spelled as they must be.
-pub(crate) fn are_spelled(
-    reader: &mut Located,
-    page: &Page,
-    fields: &FieldList,
-    first: usize,
-    count: usize,
-) -> bool
-    requires header { HasHeader page.now }
-    requires origins { AreOrigins page.now first count }
-    requires room { length fields.now.fields ≤ reader.old.members }
-    ensures exact { IsTrue result ↔ AreSpelled page.now fields.now (records_from page.now first count) }
-    ensures members { reader.new.members ≡ reader.old.members }
-{
-    let mut origin = first;
-    for _ in 0..count {
-        if !reader.again(page, origin, fields) {
-            return false;
-        }
-        origin = next_origin(page, origin);
+    /// The records, in chain order.
+    pub fn items(&self) -> &[Located]
+        ensures { result.now ≡ self.now }
+    {
+        &self.items
     }
-    true
-}
-
-/// Whether the records of the heap are spelled as they must be.
-pub(crate) fn heap_is_spelled(reader: &mut Located, page: &Page, fields: &FieldList) -> bool
-    requires header { HasHeader page.now }
-    requires chain { IsChain page.now (records_of page.now) }
-    requires free { HasFreeList page.now }
-    requires room { length fields.now.fields ≤ reader.old.members }
-    ensures exact { IsTrue result ↔ AreSpelled page.now fields.now (heap_of page.now) }
-    ensures members { reader.new.members ≡ reader.old.members }
-{
-    are_spelled(
-        reader,
-        page,
-        fields,
-        next_origin(page, INFIMUM),
-        record_count(page),
-    ) && are_spelled(reader, page, fields, first_free(page), free_count(page))
 }

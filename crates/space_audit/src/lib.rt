@@ -2,20 +2,20 @@
 //! type each is.
 #![tactic(auto)]
 
+mod audit_file;
+mod claims;
 mod counts;
 mod frames;
-mod holders;
 mod homes;
 pub mod laws;
 mod lists;
 mod marks;
 mod numbering;
 mod owner;
-mod settle;
+mod page_owners;
 mod space;
-mod stages;
 
+pub use audit_file::audit;
 pub use marks::Marks;
 pub use owner::Owner;
 pub use space::Space;
-pub use stages::audit;

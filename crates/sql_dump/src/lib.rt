@@ -3,6 +3,7 @@
 
 mod buffer;
 mod cell;
+mod dump_table;
 pub mod laws;
 mod line;
 mod long;
@@ -10,11 +11,10 @@ mod reader;
 mod row;
 mod rows;
 mod stop;
-mod text;
 
 pub use buffer::Buffer;
+pub use dump_table::dump;
 pub use long::ChainRoom;
 pub use reader::RowReader;
 pub use row::{Row, put_row};
 pub use stop::{DumpStop, WriteStop};
-pub use text::dump;

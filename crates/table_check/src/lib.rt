@@ -2,6 +2,7 @@
 #![tactic(auto)]
 
 mod any_bytes;
+mod check_file;
 mod ends;
 pub mod laws;
 mod leaf;
@@ -12,11 +13,10 @@ mod trees;
 mod unreached;
 mod value;
 mod values;
-mod whole;
 
+pub use check_file::{check, check_table, check_whole};
 pub use ends::EndsList;
 pub use leaf::RowLeaf;
 pub use record::check_row_values;
 pub use rows::LiveRows;
 pub use table::{Checked, Table, Whole};
-pub use whole::{check, check_table, check_whole};

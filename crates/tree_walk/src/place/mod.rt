@@ -1,15 +1,15 @@
 //! The checks of one place: of a node pointer, and of the page that it leads to.
 
-mod free;
+mod child_place;
 mod keys;
+mod page;
 mod records;
-mod spot;
 pub(crate) mod tally;
 
-pub(crate) use free::{is_place, is_root, is_used_by};
+pub(crate) use child_place::{is_place, is_root, is_used_by};
+pub use page::check_node;
+pub(crate) use page::{INDEX_ID, LEVEL, NEXT, check_spot};
 pub(crate) use records::{FIRST_ORIGIN, INFIMUM, read_record};
-pub use spot::check_node;
-pub(crate) use spot::{INDEX_ID, LEVEL, NEXT, check_spot};
 
 /// Where a page stands in its tree, and between which neighbours.
 #[derive(Clone, Copy, Debug, PartialEq, Eq)]
