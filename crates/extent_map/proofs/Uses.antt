@@ -1,7 +1,7 @@
 -- The used pages of an extent, by the bits of its descriptor.
 use Rattle.std.proofs.Common.{◌≡◌, ℕ, zero, suc, ◌+◌, ◌-◌, ◌*◌, ◌/◌, ◌%◌, ◌^◌, ◌<◌, ◌≤◌, ◌↔◌, IsTrue, Bool, true, false}
-use Rattle.std.proofs.Common.{cond, eqb, nat_lt, List, ◌∷◌, length, get_or, All, Contains, filter, refl, sym, ◌∙◌, ap, inl}
-use Rattle.std.proofs.Common.{inr, arith}
+use Rattle.std.proofs.Common.{cond, eqb, nat_lt, List, ◌∷◌, length, get_or, All, Contains, filter, refl, sym, ◌∙◌, ap}
+use Rattle.std.proofs.Common.{inl, inr, arith}
 use Rattle.std.specs.List.{range_with_len}
 use Rattle.std.specs.Int.RustNames.{count_ones}
 use Rattle.std.proofs.lemmas.List.Sums.{length-filter}

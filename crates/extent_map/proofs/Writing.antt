@@ -15,7 +15,7 @@ use Rattle.space_header.specs.Writing.{node_bytes, address_bytes}
 use Rattle.extent_map.specs.declared.extent.Extent.{Extent}
 use Rattle.extent_map.specs.Extents.{is_bit_clear, used_mask, extent_at}
 use Rattle.space_header.specs.Laws.{WrittenFieldsAreRead}
-use Rattle.extent_map.specs.Writing.{FitsExtent, bitmap_byte, bitmap_bytes, extent_bytes}
+use Rattle.extent_map.specs.Writing.{bitmap_byte, bitmap_bytes, extent_bytes}
 use Rattle.extent_map.specs.Laws.{WrittenExtentsAreRead}
 use Rattle.extent_map.proofs.Masks.{bit, mask, mask_same, mask_sum}
 

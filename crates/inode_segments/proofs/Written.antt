@@ -9,7 +9,7 @@ use Rattle.page_source.proofs.Written.{num_from_bytes, num-with_bytes_at}
 use Rattle.space_header.specs.Writing.{base_bytes}
 use Rattle.space_header.specs.Laws.{WrittenFieldsAreRead}
 use Rattle.inode_segments.specs.Inodes.{inode_at, slots_at}
-use Rattle.inode_segments.specs.Writing.{FitsInode, inode_bytes, slots_bytes}
+use Rattle.inode_segments.specs.Writing.{slots_bytes}
 use Rattle.inode_segments.specs.Laws.{WrittenInodesAreRead}
 use Rattle.inode_segments.proofs.Writing.{put, put_after, base_size, slots_size, slots_read, inode_read, inode_written}
 

@@ -38,8 +38,8 @@ pub fn owners_are_claims()
     used_pages_are_of_extents();
 }
 
-/// Where each used page of a fragment extent is claimed once, all claims are a partition, and a segment uses exactly the
-/// used pages that it claims.
+/// Where each used page of a fragment extent is claimed once, all claims are a partition, and a segment uses exactly
+/// the used pages that it claims.
 pub fn fragment_claims_are_enough()
     ensures { FragmentClaimsAreEnough }
 {

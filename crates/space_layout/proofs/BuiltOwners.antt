@@ -29,7 +29,7 @@ use Rattle.space_layout.proofs.Ranges.{in_range}
 use Rattle.space_layout.proofs.Spaces.{head_limit, head_size, own_given, used_place}
 use Rattle.space_layout.proofs.Inodes.{segment_there, inode_page_two}
 use Rattle.space_layout.proofs.HomeLists.{own_are}
-use Rattle.space_layout.proofs.SlotPages.{slots_are, fragment_once, fragment_use}
+use Rattle.space_layout.proofs.SlotPages.{slots_are, fragment_use}
 
 -- page i of segment s is used
 pub page_used : (file sizes : List ℕ) (flags : ℕ) → IsShape sizes → KnownHeads file sizes flags → (s i : ℕ)

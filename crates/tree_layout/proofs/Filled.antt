@@ -1,8 +1,8 @@
 -- The pages of a tree fill its places.
-use Rattle.std.proofs.Common.{◌≡◌, ℕ, zero, suc, ◌+◌, ◌-◌, ◌*◌, ◌<◌, ◌≤◌, List, length, cond}
+use Rattle.std.proofs.Common.{◌≡◌, ℕ, zero, suc, ◌+◌, ◌-◌, ◌*◌, ◌<◌, List, length, cond}
 use Rattle.std.proofs.Common.{true, false, refl, sym, ap, ◌∙◌, arith, inl, inr, slice_index}
 use Rattle.std.proofs.lemmas.Bool.{ne_eqb, eq-eqb, cases_lt}
-use Rattle.tree_layout.specs.Places.{pages_above, is_leaf_row, segment_for, place_for, top_size, leaf_size}
+use Rattle.tree_layout.specs.Places.{pages_above, is_leaf_row, top_size, leaf_size}
 use Rattle.tree_layout.specs.Places.{IsTreePlace, FitsSegments}
 use Rattle.tree_layout.specs.PlaceLaws.{PageAt, FillPlaces, PagesFillPlaces}
 use Rattle.tree_layout.proofs.Numbers.{leaves, upper, row_of, leaf_place, leaf_segment_for, top_place, top_segment_for}

@@ -1,7 +1,7 @@
 //! What the definitions of a tree say together, each the contract of a function that does nothing.
 
-ghost use Rattle.tree_walk.specs.Laws.{LinksAreDescent, KeysRiseOverLeaves, LeavesAreSound, RowsCanBeRead, ChecksGiveTree};
-ghost use Rattle.tree_walk.specs.Laws.{ChecksAreWholeness, LevelsHaveThePages, RowsByLeaves};
+ghost use Rattle.tree_walk.specs.Laws.{LinksAreDescent, KeysRiseOverLeaves, LeavesAreSound, RowsCanBeRead};
+ghost use Rattle.tree_walk.specs.Laws.{ChecksGiveTree, ChecksAreWholeness, LevelsHaveThePages, RowsByLeaves};
 
 use index_page::laws::{checks_are_an_index_page, page_has_one_chain};
 
