@@ -17,12 +17,12 @@ ghost use Rattle.space_audit.specs.Audit.{audit_steps, audit_fetches};
 ghost use Rattle.space_audit.specs.Space.{IsAuditOf};
 ghost use Rattle.space_audit.specs.Read.{IsRead, IsSpaceOf};
 
-use crate::claims::{check_holders, claim_segments, first_holders};
 use crate::counts::check_counts;
 use crate::frames::check_frames;
 use crate::homes::{Homes, count_uses, number_homes};
 use crate::lists::check_lists;
 use crate::numbering::Numbering;
+use crate::page_claims::{check_holders, claim_segments, first_holders};
 use crate::page_owners::settle_owners;
 use crate::space::Space;
 use extent_map::laws::{

@@ -3,7 +3,6 @@
 #![tactic(auto)]
 
 mod audit_file;
-mod claims;
 mod counts;
 mod frames;
 mod homes;
@@ -12,6 +11,7 @@ mod lists;
 mod marks;
 mod numbering;
 mod owner;
+mod page_claims;
 mod page_owners;
 mod space;
 

@@ -7,8 +7,8 @@ ghost use Rattle.space_audit.specs.Owners.{owner_of, owner_by_holder, owner_at_h
 ghost use Rattle.space_audit.specs.Holders.{AreHeld, held_after, no_holder, claims_in};
 ghost use Rattle.space_audit.specs.Read.{IsOwned};
 
-use crate::claims::INODE_HOLDER;
 use crate::owner::{Owner, number_of};
+use crate::page_claims::INODE_HOLDER;
 use extent_map::states::{FREE, FSEG};
 use extent_map::{Extents, is_system_page};
 

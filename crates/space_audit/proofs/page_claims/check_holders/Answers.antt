@@ -5,9 +5,9 @@ use Rattle.space_audit.proofs.Fragments.{and_left, and_right, both_true, used_be
 use Rattle.space_audit.specs.Audit.{ClaimCheck}
 use Rattle.space_audit.specs.Holders.{IsOnce}
 use Rattle.space_audit.proofs.ClaimSteps.{holder_tells, used_in_size}
-use Rattle.space_audit.proofs.claims.check_holders.Goals.{else-is_claimable-via-then-is_claimable+else-not-is_once}
-use Rattle.space_audit.proofs.claims.check_holders.Goals.{else-is_claimable-via-else-is_claimable}
-use Rattle.space_audit.proofs.claims.check_holders.Goals as goal
+use Rattle.space_audit.proofs.page_claims.check_holders.Goals.{else-is_claimable-via-then-is_claimable+else-not-is_once}
+use Rattle.space_audit.proofs.page_claims.check_holders.Goals.{else-is_claimable-via-else-is_claimable}
+use Rattle.space_audit.proofs.page_claims.check_holders.Goals as goal
 
 pub returns-then-not-is_once : goal.returns-then-not-is_once
 returns-then-not-is_once c = λ file h.

@@ -1,7 +1,7 @@
 use Rattle.std.proofs.Common.{◌≡◌, ℕ, get_or, refl, sym, ◌∙◌, ap}
 use Rattle.space_audit.specs.Holders.{held_more}
 use Rattle.space_audit.proofs.Held.{held_claim, held_taken}
-use Rattle.space_audit.proofs.claims.claim.Goals as goal
+use Rattle.space_audit.proofs.page_claims.claim.Goals as goal
 
 pub returns-then-holders-page : goal.returns-then-holders-page
 returns-then-holders-page c = λ claims a.

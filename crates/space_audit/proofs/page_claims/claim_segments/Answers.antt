@@ -4,7 +4,7 @@ use Rattle.inode_segments.specs.Inodes.{segments, inode_pages}
 use Rattle.space_audit.specs.Holders.{AreHeld, claims_from, inode_claims}
 use Rattle.space_audit.proofs.ClaimSteps.{segment_read, slots_checked, segments_more, segment_claims, first_held}
 use Rattle.space_audit.proofs.ClaimSteps.{claims_all}
-use Rattle.space_audit.proofs.claims.claim_segments.Goals as goal
+use Rattle.space_audit.proofs.page_claims.claim_segments.Goals as goal
 
 pub returns-in_err-claim_slots-clause-exact : goal.returns-in_err-claim_slots-clause-exact
 returns-in_err-claim_slots-clause-exact c = λ file h size.

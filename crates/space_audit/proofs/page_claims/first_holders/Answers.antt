@@ -2,8 +2,8 @@ use Rattle.std.proofs.Common.{◌≡◌, ◌∷◌, [], ◌++◌, cond, map, ap,
 use Rattle.std.specs.List.{range_with_len}
 use Rattle.std.proofs.lemmas.List.FromFn.{map-range_with_len_more}
 use Rattle.space_audit.specs.Holders.{first_holder, inode_holder, no_holder}
-use Rattle.space_audit.proofs.claims.first_holders.Goals.{then-is_inode_page, else-is_inode_page}
-use Rattle.space_audit.proofs.claims.first_holders.Goals as goal
+use Rattle.space_audit.proofs.page_claims.first_holders.Goals.{then-is_inode_page, else-is_inode_page}
+use Rattle.space_audit.proofs.page_claims.first_holders.Goals as goal
 
 pub loop-n-preserved : goal.loop-n-preserved
 loop-n-preserved c =

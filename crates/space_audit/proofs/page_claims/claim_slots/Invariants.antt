@@ -4,7 +4,7 @@ use Rattle.space_header.specs.Header.{size_of}
 use Rattle.extent_map.specs.Extents.{AreExtents}
 use Rattle.space_audit.specs.Audit.{SlotCheck}
 use Rattle.space_audit.specs.Holders.{Claim, AreHeld, claims_of}
-use Rattle.space_audit.proofs.claims.claim_slots.Given as goal
+use Rattle.space_audit.proofs.page_claims.claim_slots.Given as goal
 
 abbrev pub invariant-loop-slot : goal.invariant-loop-slot
 invariant-loop-slot l =

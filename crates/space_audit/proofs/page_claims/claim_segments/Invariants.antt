@@ -5,7 +5,7 @@ use Rattle.inode_segments.specs.Inodes.{segments}
 use Rattle.space_audit.specs.Read.{IsRead}
 use Rattle.space_audit.specs.Audit.{SlotsCheck}
 use Rattle.space_audit.specs.Holders.{Claim, AreHeld, claims_from}
-use Rattle.space_audit.proofs.claims.claim_segments.Given as goal
+use Rattle.space_audit.proofs.page_claims.claim_segments.Given as goal
 
 abbrev pub invariant-loop-s : goal.invariant-loop-s
 invariant-loop-s l =

@@ -5,10 +5,10 @@ use Rattle.space_audit.specs.Holders.{Claim, AreHeld, claims_of}
 use Rattle.space_audit.proofs.ListSteps.{get_other}
 use Rattle.space_audit.proofs.Held.{claims_more_yes, claims_more_no}
 use Rattle.space_audit.proofs.ClaimSteps.{slot_holds, slot_breaks, slot_past, slots_more}
-use Rattle.space_audit.proofs.claims.claim_slots.Goals.{then-slot+else-slot-size+else-not-is_claimable, else-slot}
-use Rattle.space_audit.proofs.claims.claim_slots.Goals.{then-slot-size-via-then-slot-size}
-use Rattle.space_audit.proofs.claims.claim_slots.Goals.{then-slot-size-via-else-slot-size+then-not-is_claimable}
-use Rattle.space_audit.proofs.claims.claim_slots.Goals as goal
+use Rattle.space_audit.proofs.page_claims.claim_slots.Goals.{then-slot+else-slot-size+else-not-is_claimable, else-slot}
+use Rattle.space_audit.proofs.page_claims.claim_slots.Goals.{then-slot-size-via-then-slot-size}
+use Rattle.space_audit.proofs.page_claims.claim_slots.Goals.{then-slot-size-via-else-slot-size+then-not-is_claimable}
+use Rattle.space_audit.proofs.page_claims.claim_slots.Goals as goal
 
 pub returns-then-slot-size-clause-exact : goal.returns-then-slot-size-clause-exact
 returns-then-slot-size-clause-exact c = λ file are size.
