@@ -1,18 +1,15 @@
 -- What is ahead of a text that is read on.
-use Rattle.std.proofs.Common.{◌≡◌, ◌≢◌, ℕ, ◌+◌, ◌<◌, ◌≤◌, true, false, List, [], ◌∷◌, ◌++◌, length, take}
+use Rattle.std.proofs.Common.{◌≡◌, ◌≢◌, ℕ, ◌+◌, ◌<◌, ◌≤◌, List, [], ◌++◌, length, take}
 use Rattle.std.proofs.Common.{drop, get_or, Some, None, Option, Ok, sym, ap, ◌∙◌}
 use Rattle.std.proofs.Common.{subst, arith, inl, inr}
 use Rattle.std.proofs.lemmas.Bool.{cases_lt}
-use Rattle.std.proofs.lemmas.List.{append_assoc, append-nil, length-append, length-take-le}
+use Rattle.std.proofs.lemmas.List.{append_assoc, length-append, length-take-le}
 use Rattle.std.proofs.Math.Seq.{take-append-add}
 use Rattle.std.proofs.lemmas.List.{take_at, take-take}
-use Rattle.std.proofs.lemmas.List.{take_all, take-append-le, take-append-drop, get_or-take, get_or_append_left}
-use Rattle.std.proofs.lemmas.List.{drop_more, drop_all}
-use Rattle.std.proofs.lemmas.List.Elements.{All-from_get_or}
+use Rattle.std.proofs.lemmas.List.{take_all, take-append-le, take-append-drop, get_or_append_left}
+use Rattle.std.proofs.lemmas.List.{drop_all}
 use Rattle.page_source.specs.Objects.{TakesBytes}
-use Rattle.schema_text.specs.Grammar.{line_feed}
-use Rattle.schema_text.specs.Cuts.{Lacks}
-use Rattle.space_builder.specs.calls.Lines.{StandsFirst, GivesBytes, IsAtEnd, ComeBehind}
+use Rattle.space_builder.specs.calls.Lines.{GivesBytes, IsAtEnd, ComeBehind}
 use Rattle.space_builder.specs.calls.Lines.{GrewBehind, IsFeedPlace}
 use Rattle.space_builder.proofs.building.Reading.{gives_more}
 
@@ -92,36 +89,3 @@ place_on a b xs ys zs count size place before all come same within lacks feed =
     (subst (λ (bytes : List ℕ). place ≤ length bytes) same within)
     (λ k least below. subst (λ (bytes : List ℕ). get_or bytes k 0 ≢ 10) same (lacks k least below))
     (subst (λ (bytes : List ℕ). place < length bytes → get_or bytes place 0 ≡ 10) same feed)
-
--- the line up to a place
-lacks_before : (bytes : List ℕ) (place : ℕ) → IsFeedPlace bytes place → Lacks line_feed (take place bytes)
-lacks_before bytes place is =
-    let within = is.within in
-    let size = length-take-le place bytes within in
-    All-from_get_or (λ b. b ≢ line_feed) (take place bytes) 0
-    (λ k below same.
-    let front : k < place = omega arith in
-    is.lacks k front (sym (get_or-take place bytes k 0 front) ∙ same))
-
-stands_fed : (bytes : List ℕ) (place : ℕ) → IsFeedPlace bytes place → place < length bytes
-    → StandsFirst bytes (take place bytes) true (drop (place + 1) bytes)
-stands_fed bytes place is less = record {
-  is =
-      sym (take-append-drop place bytes)
-      ∙ ap (λ (xs : List ℕ). take place bytes ++ xs)
-      (drop_more bytes place 0 less ∙ ap (λ b. b ∷ drop (place + 1) bytes) (is.feed less));
-  lacks = lacks_before bytes place is;
-  last = λ never. cc;
-}
-
-stands_unfed : (bytes : List ℕ) (place : ℕ) → IsFeedPlace bytes place → place ≡ length bytes
-    → StandsFirst bytes (take place bytes) false (drop (place + 0) bytes)
-stands_unfed bytes place is all =
-    let past : drop (place + 0) bytes ≡ [] = drop_all (place + 0) bytes (omega arith) in
-    record {
-      is =
-          sym (take_all place bytes (omega arith)) ∙ sym (append-nil (take place bytes))
-          ∙ ap (λ (xs : List ℕ). take place bytes ++ xs) (sym past);
-      lacks = lacks_before bytes place is;
-      last = λ unfed. past;
-    }
