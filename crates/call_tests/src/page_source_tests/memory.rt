@@ -126,9 +126,9 @@ fn a_store_fails_where_listed(rt: HostRuntime) -> Result<(), Fail> {
     let page = Page::zeroed(alloc)?;
     let mut store = MemoryStore::new(alloc, 64, Fails::of(alloc, &[3])?)?;
     store.set_size(64)?;
-    for (n, answer) in [(63, Ok(())), (0, Err(Failed)), (0, Ok(()))] {
-        assert!(rt; store.put(n, &page) == answer);
-    }
+    assert!(rt; store.put(63, &page) == Ok(()));
+    assert!(rt; store.put(0, &page) == Err(Failed));
+    assert!(rt; store.put(0, &page) == Ok(()));
     Ok(())
 }
 
