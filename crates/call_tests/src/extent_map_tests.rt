@@ -92,18 +92,25 @@ fn reads_a_small_tablespace(rt: HostRuntime) -> Result<(), Fail> {
     let alloc = rt.alloc();
     let mut file = file_of(alloc, first_page(alloc, 6, 64)?)?;
     let extents = read::<Brand>(alloc, &mut file, Blank::new(1))?;
-    assert_eq!(rt; extents.count(), 1);
-    for (page, used) in [(0, true), (3, true), (4, false), (63, false), (64, false)] {
-        assert_eq!(rt; extents.is_used(page), used, "page {page}");
-    }
+    assert!(rt; extents.count() == 1);
+    let used = used_pages(&extents, [0, 3, 4, 63, 64]);
+    assert!(rt; used == [true, true, false, false, false]);
     let fragments = extents.fragment_pages(alloc)?;
-    assert_eq!(rt; fragments.flags().len(), 64);
-    assert!(rt;
-        fragments
-            .flags()
-            .starts_with(&[false, false, true, true, false])
-    );
+    let first = [false, false, true, true, false];
+    assert!(rt; fragments.flags().len() == 64 && fragments.flags().starts_with(&first));
     Ok(())
+}
+
+/// Which of these pages are used.
+fn used_pages(extents: &Extents, pages: [u32; 5]) -> [bool; 5] {
+    let [a, b, c, d, e] = pages;
+    [
+        extents.is_used(a),
+        extents.is_used(b),
+        extents.is_used(c),
+        extents.is_used(d),
+        extents.is_used(e),
+    ]
 }
 
 /// The calls are those for the number of pages, for page 0 twice, and for page 16384.
@@ -114,7 +121,7 @@ fn says_which_call_of_the_source_failed(rt: HostRuntime) -> Result<(), Fail> {
         let mut file = large(alloc, &[call])?;
         let answer = read::<Brand>(alloc, &mut file, Blank::new(1));
         let failed = matches!(answer, Err(Stop::Source));
-        assert_eq!(rt; failed, call < 5, "call {call}");
+        assert!(rt; failed == (call < 5), "call {call}");
     }
     Ok(())
 }
@@ -132,40 +139,48 @@ fn writes_what_it_reads(rt: HostRuntime) -> Result<(), Fail> {
         used: 0x8000_0000_0000_000F,
     };
     write_extent(&mut page, 16344, &extent);
-    assert_eq!(rt; read_extent(&page, 16344), extent);
-    assert_eq!(rt;
-        &page.bytes()[16344..],
-        [
-            1, 2, 3, 4, 5, 6, 7, 8, 0, 0, 0, 0, 0, 158, 255, 255, 255, 255, 0, 0, 0, 0, 0, 4, 0xAA,
-            255, 255, 255, 255, 255, 255, 255, 255, 255, 255, 255, 255, 255, 255, 0xBF
-        ]
-        .as_slice()
+    assert!(rt; read_extent(&page, 16344) == extent);
+    assert!(rt;
+        &page.bytes()[16344..]
+            == [
+                1, 2, 3, 4, 5, 6, 7, 8, 0, 0, 0, 0, 0, 158, 255, 255, 255, 255, 0, 0, 0, 0, 0, 4,
+                0xAA, 255, 255, 255, 255, 255, 255, 255, 255, 255, 255, 255, 255, 255, 255, 0xBF
+            ]
+            .as_slice()
     );
     Ok(())
+}
+
+/// The node of extent `i` where the extents 1 to 255 are linked in their order.
+fn node_in_row(i: usize) -> Node
+    requires { (1 ≤ i) × (i < 256) }
+{
+    let (prev, next) = (
+        descriptor_address(i as u32 - 1),
+        descriptor_address(i as u32 + 1),
+    );
+    Node {
+        prev: if i == 1 { NULL } else { prev },
+        next: if i == 255 { NULL } else { next },
+    }
+}
+
+/// Page 16384, two pages of whose extent are used.
+fn second_page(alloc: Global) -> Result<Page, NoMemory> {
+    let mut page = Page::zeroed(alloc)?;
+    put_descriptor(&mut page, 0, ALONE, 2, 3);
+    seal(&mut page, 16384, 23, 1, 9);
+    Ok(page)
 }
 
 /// A tablespace of 16,448 pages: page 0, and page 16384 with a descriptor of its own.
 fn large(alloc: Global, fails: &[u64]) -> Result<SparsePages, NoMemory> {
     let mut page = first_page(alloc, 16448, 16448)?;
     for i in 1..256usize {
-        let node = Node {
-            prev: if i == 1 {
-                NULL
-            } else {
-                descriptor_address(i as u32 - 1)
-            },
-            next: if i == 255 {
-                NULL
-            } else {
-                descriptor_address(i as u32 + 1)
-            },
-        };
-        put_descriptor(&mut page, i, node, 1, 0);
+        put_descriptor(&mut page, i, node_in_row(i), 1, 0);
     }
     seal(&mut page, 0, 23, 1, 8);
-    let mut second = Page::zeroed(alloc)?;
-    put_descriptor(&mut second, 0, ALONE, 2, 3);
-    seal(&mut second, 16384, 23, 1, 9);
+    let second = second_page(alloc)?;
     let mut held = PageMap::new(alloc);
     held.put(0, page)?;
     held.put(16384, second)?;
@@ -192,24 +207,26 @@ fn reads_two_descriptor_pages(rt: HostRuntime) -> Result<(), Fail> {
     let alloc = rt.alloc();
     let mut file = large(alloc, &[])?;
     let extents = read::<Brand>(alloc, &mut file, Blank::new(1))?;
-    assert_eq!(rt; extents.count(), 257);
-    assert_eq!(rt; extents.extent(256).state, 2);
-    for (page, used) in [
-        (4, false),
-        (16384, true),
-        (16385, true),
-        (16386, false),
-        (16448, false),
-    ] {
-        assert_eq!(rt; extents.is_used(page), used, "page {page}");
-    }
+    assert!(rt; extents.count() == 257);
+    assert!(rt; extents.extent(256).state == 2);
+    let used = used_pages(&extents, [4, 16384, 16385, 16386, 16448]);
+    assert!(rt; used == [false, true, true, false, false]);
+    Ok(())
+}
+
+/// The extents 1 to 255.
+#[test]
+fn reads_a_list_of_255_extents(rt: HostRuntime) -> Result<(), Fail> {
+    let alloc = rt.alloc();
+    let mut file = large(alloc, &[])?;
+    let extents = read::<Brand>(alloc, &mut file, Blank::new(1))?;
+    assert!(rt; extents.nodes().len() <= 65536);
     let free = Base {
         length: 255,
         first: descriptor_address(1),
         last: descriptor_address(255),
     };
-    assert!(rt; extents.nodes().len() <= 65536);
     let list = followed::<Brand>(alloc, &free, extents.nodes(), Blank::new(1))?;
-    assert_eq!(rt; list.items().len(), 255);
+    assert!(rt; list.items().len() == 255);
     Ok(())
 }

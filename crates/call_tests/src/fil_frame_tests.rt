@@ -39,11 +39,11 @@ fn gives_known_checksums(rt: HostRuntime) {
         (b"a", 0xC1D0_4330),
     ];
     for (bytes, want) in cases {
-        assert_eq!(rt; crc32c(bytes), want, "of {bytes:?}");
+        assert!(rt; crc32c(bytes) == want, "of {bytes:?}");
     }
     for length in 0..=40usize {
         let bytes = &rising[..length];
-        assert_eq!(rt; crc32c(bytes), plain_crc32c(bytes), "of {bytes:?}");
+        assert!(rt; crc32c(bytes) == plain_crc32c(bytes), "of {bytes:?}");
     }
 }
 
@@ -56,7 +56,7 @@ fn gives_known_folds(rt: HostRuntime) {
         (&[0, 0], 0xD37B_B700),
     ];
     for (bytes, want) in cases {
-        assert_eq!(rt; fold(bytes), want, "of {bytes:?}");
+        assert!(rt; fold(bytes) == want, "of {bytes:?}");
     }
 }
 
@@ -83,8 +83,8 @@ fn sums_pages_as_the_plain_program_does(rt: HostRuntime) -> Result<(), Fail> {
     ];
     for (seed, want) in cases {
         let page = noise(rt.alloc(), seed)?;
-        assert_eq!(rt; page_sum(&page), want, "from {seed}");
-        assert_eq!(rt; plain_page_sum(&page), want, "from {seed}");
+        assert!(rt; page_sum(&page) == want, "from {seed}");
+        assert!(rt; plain_page_sum(&page) == want, "from {seed}");
     }
     Ok(())
 }
@@ -110,7 +110,7 @@ fn breaks_at(page: &mut Page, at: usize) -> bool
 
 #[test]
 fn seals_pages(rt: HostRuntime) -> Result<(), Fail> {
-    let mut page = sealed_page(rt.alloc(), SumKind::Crc32)?;
+    let page = sealed_page(rt.alloc(), SumKind::Crc32)?;
     let header = [
         0xBF, 0x57, 0xF9, 0xD7, 0, 0, 0, 7, 0xA5, 0xA5, 0xA5, 0xA5, 0xA5, 0xA5, 0xA5, 0xA5, 1, 2,
         3, 4, 5, 6, 7, 8, 0x45, 0xBF, 0xA5, 0xA5, 0xA5, 0xA5, 0xA5, 0xA5, 0xA5, 0xA5, 0, 0, 0, 23,
@@ -119,25 +119,38 @@ fn seals_pages(rt: HostRuntime) -> Result<(), Fail> {
     let trailer = [0xA5, 0xBF, 0x57, 0xF9, 0xD7, 5, 6, 7, 8];
     assert!(rt; page.bytes().starts_with(&header));
     assert!(rt; page.bytes().ends_with(&trailer));
-    assert_eq!(rt; page_sum(&page), 0xBF57_F9D7);
-    assert_eq!(rt; kind(&page), 17855);
+    assert!(rt; page_sum(&page) == 0xBF57_F9D7 && kind(&page) == 17855);
+    Ok(())
+}
 
-    assert!(rt; !frame_fault(&page, 7, 23));
-    assert!(rt; frame_fault(&page, 8, 23));
-    assert!(rt; frame_fault(&page, 7, 24));
-    // Only the flush LSN may be any.
+/// Only the flush LSN may be any.
+#[test]
+fn finds_a_broken_frame(rt: HostRuntime) -> Result<(), Fail> {
+    let mut page = sealed_page(rt.alloc(), SumKind::Crc32)?;
+    for (n, space, broken) in [(7, 23, false), (8, 23, true), (7, 24, true)] {
+        assert!(rt; frame_fault(&page, n, space) == broken);
+    }
     for at in [
         0, 3, 4, 7, 8, 15, 16, 19, 20, 23, 24, 25, 26, 33, 34, 37, 38, 16375, 16376, 16379, 16380,
         16383,
     ] {
         assert!(rt; at < PAGE_SIZE);
-        assert_eq!(rt;
-            breaks_at(&mut page, at),
-            !(26..34).contains(&at),
+        assert!(rt;
+            breaks_at(&mut page, at) == !(26..34).contains(&at),
             "at {at}"
         );
     }
     Ok(())
+}
+
+/// The two checksums of a page, their kind, and whether the frame is broken.
+fn sums(page: &Page) -> (u64, u64, Option<SumKind>, bool) {
+    (
+        read_be::<4>(page, 0),
+        read_be::<4>(page, 16376),
+        sum_kind(page),
+        frame_fault(page, 7, 23),
+    )
 }
 
 #[test]
@@ -149,19 +162,22 @@ fn knows_the_kinds_of_checksums(rt: HostRuntime) -> Result<(), Fail> {
     ];
     for (sum, first, second) in cases {
         let mut page = sealed_page(rt.alloc(), sum)?;
-        assert_eq!(rt; read_be::<4>(&page, 0), first, "{sum:?}");
-        assert_eq!(rt; read_be::<4>(&page, 16376), second, "{sum:?}");
-        assert_eq!(rt; sum_kind(&page), Some(sum));
-        assert!(rt; !frame_fault(&page, 7, 23), "{sum:?}");
-
+        assert!(rt; sums(&page) == (first, second, Some(sum), false), "{sum:?}");
         // The echo belongs to the frame of each kind.
         assert!(rt; breaks_at(&mut page, 16383), "{sum:?}");
         write_be::<4>(&mut page, 16376, 0xDEAD_BEEF);
-        assert_eq!(rt; frame_fault(&page, 7, 23), sum != SumKind::Fixed, "{sum:?}");
+        assert!(rt;
+            frame_fault(&page, 7, 23) == (sum != SumKind::Fixed),
+            "{sum:?}"
+        );
     }
+    Ok(())
+}
 
+#[test]
+fn seals_a_page_of_another_kind_anew(rt: HostRuntime) -> Result<(), Fail> {
     let mut page = sealed_page(rt.alloc(), SumKind::Fixed)?;
     seal(&mut page, 7, 23, 1, 0);
-    assert_eq!(rt; sum_kind(&page), Some(SumKind::Crc32));
+    assert!(rt; sum_kind(&page) == Some(SumKind::Crc32));
     Ok(())
 }

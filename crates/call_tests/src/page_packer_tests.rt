@@ -76,16 +76,17 @@ fn keeps_rules(rt: &impl Abort, scratch: &mut Scratch, page: &Page, fields: &Fie
     page_fault(scratch, page, fields, true, true, true).is_none()
 }
 
-#[test]
-fn packs_two_rows(rt: HostRuntime) -> Result<(), Fail> {
-    let fields = fields(rt.alloc())?;
-    let mut page = Page::zeroed(rt.alloc())?;
-    let mut packer = Packer::new(rt.alloc())?;
+/// A root of two rows, between other pages.
+fn two_rows(rt: &impl Abort, alloc: Global, fields: &FieldList) -> Result<Page, NoMemory>
+    requires { fields.now ≡ record { fields = ID ∷ NOTE ∷ []; nullable = 1; keys = 1 } }
+{
+    let mut page = Page::zeroed(alloc)?;
+    let first = bare(alloc, 0, 5)?;
+    let second = noted(alloc, 6)?;
+    let mut packer = Packer::new(alloc)?;
     packer.begin(0);
-    let first = bare(rt.alloc(), 0, 5)?;
-    let second = noted(rt.alloc(), 6)?;
-    push(&rt, &mut packer, &fields, &first);
-    push(&rt, &mut packer, &fields, &second);
+    push(rt, &mut packer, fields, &first);
+    push(rt, &mut packer, fields, &second);
     let heads = Heads {
         space: 1,
         page: 2,
@@ -93,20 +94,33 @@ fn packs_two_rows(rt: HostRuntime) -> Result<(), Fail> {
         top: 50,
     };
     packer.finish(0xFFFF_FFFF, 7, 3, Some(heads), &mut page);
+    Ok(page)
+}
+
+#[test]
+fn packs_two_rows(rt: HostRuntime) -> Result<(), Fail> {
+    let fields = fields(rt.alloc())?;
+    let page = two_rows(&rt, rt.alloc(), &fields)?;
     let mut scratch = Scratch::new(rt.alloc(), 2)?;
-    let kept = keeps_rules(&rt, &mut scratch, &page, &fields);
-    assert!(rt; kept);
-    let bytes = page.bytes();
-    assert_eq!(rt; &bytes[8..16], b"\xFF\xFF\xFF\xFF\0\0\0\x07".as_slice());
-    assert_eq!(rt;
-        &bytes[38..94],
-        b"\0\x02\0\x8F\x80\x04\0\0\0\0\0\0\0\x05\0\0\0\x02\0\0\0\0\0\0\0\0\0\0\0\0\0\0\0\0\0\x03\0\0\0\x01\0\0\0\x02\0\xF2\0\0\0\x01\0\0\0\x02\0\x32".as_slice()
-    );
-    assert_eq!(rt;
-        &bytes[94..144],
-        b"\x01\0\x02\0\x1Binfimum\0\x03\0\x0B\0\0supremum\x01\0\0\x10\0\x0B\0\0\0\x05\x02\0\0\0\x18\xFF\xE7\0\0\0\x06ab\0".as_slice()
-    );
-    assert_eq!(rt; &bytes[16372..16376], b"\0\x70\0\x63".as_slice());
+    assert!(rt; keeps_rules(&rt, &mut scratch, &page, &fields));
+    let pieces: [(usize, &[u8]); 4] = [
+        (8, b"\xFF\xFF\xFF\xFF\0\0\0\x07"),
+        (
+            38,
+            b"\0\x02\0\x8F\x80\x04\0\0\0\0\0\0\0\x05\0\0\0\x02\0\0\0\0\0\0\0\0\0\0\0\0\0\0\0\0\0\x03\0\0\0\x01\0\0\0\x02\0\xF2\0\0\0\x01\0\0\0\x02\0\x32",
+        ),
+        (
+            94,
+            b"\x01\0\x02\0\x1Binfimum\0\x03\0\x0B\0\0supremum\x01\0\0\x10\0\x0B\0\0\0\x05\x02\0\0\0\x18\xFF\xE7\0\0\0\x06ab\0",
+        ),
+        (16372, b"\0\x70\0\x63"),
+    ];
+    for (at, bytes) in pieces {
+        assert!(rt;
+            at <= 16384 && page.bytes()[at..].starts_with(bytes),
+            "at {at}"
+        );
+    }
     Ok(())
 }
 
@@ -130,20 +144,27 @@ fn push_many(
     Ok(true)
 }
 
-#[test]
-fn packs_full_page(rt: HostRuntime) -> Result<(), Fail> {
-    let fields = fields(rt.alloc())?;
-    let mut page = Page::zeroed(rt.alloc())?;
-    let mut packer = Packer::new(rt.alloc())?;
+/// A root of as many rows as fit.
+fn full_page(rt: &impl Abort, alloc: Global, fields: &FieldList) -> Result<Page, NoMemory>
+    requires { fields.now ≡ record { fields = ID ∷ NOTE ∷ []; nullable = 1; keys = 1 } }
+{
+    let mut page = Page::zeroed(alloc)?;
+    let mut packer = Packer::new(alloc)?;
     packer.begin(0);
     let mut all = true;
     for high in 0..8 {
-        all = push_many(&rt, rt.alloc(), &mut packer, &fields, high)?;
+        all = push_many(rt, alloc, &mut packer, fields, high)?;
     }
     assert!(rt; !all);
     packer.finish(0xFFFF_FFFF, 0xFFFF_FFFF, 1, None, &mut page);
+    Ok(page)
+}
+
+#[test]
+fn packs_full_page(rt: HostRuntime) -> Result<(), Fail> {
+    let fields = fields(rt.alloc())?;
+    let page = full_page(&rt, rt.alloc(), &fields)?;
     let mut scratch = Scratch::new(rt.alloc(), 2)?;
-    let kept = keeps_rules(&rt, &mut scratch, &page, &fields);
-    assert!(rt; kept);
+    assert!(rt; keeps_rules(&rt, &mut scratch, &page, &fields));
     Ok(())
 }

@@ -44,13 +44,13 @@ fn small(rows: u32, bytes: u64, sum: u32) -> Sample {
 
 #[test]
 fn samples_no_row(rt: HostRuntime) -> Result<(), Fail> {
-    assert_eq!(rt; answer_of(rt.alloc(), 0), Ok(small(0, 0, 0)));
+    assert!(rt; answer_of(rt.alloc(), 0) == Ok(small(0, 0, 0)));
     Ok(())
 }
 
 #[test]
 fn samples_few_rows(rt: HostRuntime) -> Result<(), Fail> {
-    assert_eq!(rt; answer_of(rt.alloc(), 1), Ok(small(1, 163, 0x2fe0_b6f9)));
-    assert_eq!(rt; answer_of(rt.alloc(), 2), Ok(small(2, 338, 0x5768_50ff)));
+    assert!(rt; answer_of(rt.alloc(), 1) == Ok(small(1, 163, 0x2fe0_b6f9)));
+    assert!(rt; answer_of(rt.alloc(), 2) == Ok(small(2, 338, 0x5768_50ff)));
     Ok(())
 }

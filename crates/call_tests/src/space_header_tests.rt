@@ -57,72 +57,82 @@ fn linked() -> (Base, [Node; 4]) {
 fn follows_a_list(rt: HostRuntime) -> Result<(), Fail> {
     let (base, nodes) = linked();
     let list = followed::<Brand>(rt.alloc(), &base, &nodes, Blank::new(1))?;
-    assert_eq!(rt; list.items(), [2, 0, 3].as_slice());
+    assert!(rt; list.items() == [2, 0, 3].as_slice());
     let none = Base {
         length: 0,
         first: NULL,
         last: NULL,
     };
     let list = followed::<Brand>(rt.alloc(), &none, &[], Blank::new(1))?;
-    assert_eq!(rt; list.items(), [].as_slice());
+    assert!(rt; list.items() == [].as_slice());
     Ok(())
 }
 
+/// Whether these nodes are no list of this base.
+fn is_refused(alloc: Global, base: &Base, nodes: &[Node; 4]) -> bool {
+    let answer = followed::<Brand>(alloc, base, nodes, Blank::new(1));
+    matches!(answer, Err(FollowError::ChainBroken))
+}
+
+/// A byte at which no node stands, and a node on a page past the first.
+const OFF: Address = Address {
+    page: 0,
+    offset: 159,
+};
+
+const NEXT_PAGE: Address = Address {
+    page: 1,
+    offset: 158,
+};
+
 #[test]
-fn refuses_what_is_no_list(rt: HostRuntime) {
-    let off = Address {
-        page: 0,
-        offset: 159,
-    };
-    let next_page = Address {
-        page: 1,
-        offset: 158,
-    };
-    let (good, _) = linked();
-    let bases = [
-        Base { length: 2, ..good },
-        Base { length: 4, ..good },
-        Base { length: 5, ..good },
-        Base {
-            first: NULL,
-            ..good
-        },
-        Base {
-            first: next_page,
-            ..good
-        },
-        Base { last: NULL, ..good },
-        Base {
-            last: descriptor_address(0),
-            ..good
-        },
-    ];
-    for base in bases {
-        let (_, nodes) = linked();
-        let answer = followed::<Brand>(rt.alloc(), &base, &nodes, Blank::new(1));
-        assert!(rt; matches!(answer, Err(FollowError::ChainBroken)), "{base:?}");
+fn refuses_another_base(rt: HostRuntime) {
+    let (good, nodes) = linked();
+    let (second, last) = (descriptor_address(2), descriptor_address(3));
+    for (length, first, last) in [
+        (2, second, last),
+        (4, second, last),
+        (5, second, last),
+        (3, NULL, last),
+        (3, NEXT_PAGE, last),
+        (3, second, NULL),
+        (3, second, descriptor_address(0)),
+    ] {
+        let base = Base {
+            length,
+            first,
+            last,
+        };
+        assert!(rt; is_refused(rt.alloc(), &base, &nodes), "{base:?}");
     }
-    // The next address of extent 0: itself, a neighbour, extent 1, past the end, no node, no extent.
+    assert!(rt; !is_refused(rt.alloc(), &good, &nodes));
+}
+
+/// The next address of extent 0: itself, a neighbour, extent 1, past the end, no node, no extent.
+#[test]
+fn refuses_another_next_address(rt: HostRuntime) {
+    let (base, mut nodes) = linked();
     for next in [
         descriptor_address(0),
         descriptor_address(2),
         descriptor_address(1),
         descriptor_address(4),
-        off,
-        next_page,
+        OFF,
+        NEXT_PAGE,
         NULL,
     ] {
-        let (base, mut nodes) = linked();
         nodes[0].next = next;
-        let answer = followed::<Brand>(rt.alloc(), &base, &nodes, Blank::new(1));
-        assert!(rt; matches!(answer, Err(FollowError::ChainBroken)), "{next:?}");
+        assert!(rt; is_refused(rt.alloc(), &base, &nodes), "{next:?}");
     }
-    // Its previous address: none, itself, the one after it.
+}
+
+/// Its previous address: none, itself, the one after it.
+#[test]
+fn refuses_another_previous_address(rt: HostRuntime) {
+    let (base, mut nodes) = linked();
     for prev in [NULL, descriptor_address(0), descriptor_address(3)] {
-        let (base, mut nodes) = linked();
         nodes[0].prev = prev;
-        let answer = followed::<Brand>(rt.alloc(), &base, &nodes, Blank::new(1));
-        assert!(rt; matches!(answer, Err(FollowError::ChainBroken)), "{prev:?}");
+        assert!(rt; is_refused(rt.alloc(), &base, &nodes), "{prev:?}");
     }
 }
 
@@ -157,19 +167,16 @@ fn follows_255_extents(rt: HostRuntime) -> Result<(), Fail> {
         },
     };
     let nodes = rising_nodes(rt.alloc())?;
-    assert_eq!(rt; nodes.len(), 257);
+    assert!(rt; nodes.len() == 257);
     let list = followed::<Brand>(rt.alloc(), &base, &nodes, Blank::new(1))?;
-    assert_eq!(rt; list.items().len(), 255);
-    assert_eq!(rt; list.items().first(), Some(&1));
-    assert_eq!(rt; list.items().last(), Some(&255));
+    assert!(rt; list.items().len() == 255);
+    assert!(rt; (list.items().first(), list.items().last()) == (Some(&1), Some(&255)));
     Ok(())
 }
 
-#[test]
-fn writes_what_it_reads(rt: HostRuntime) -> Result<(), Fail> {
-    let mut page = Page::zeroed(rt.alloc())?;
-    let (base, nodes) = linked();
-    let header = SpaceHeader {
+/// A header whose lists are all this one.
+fn header_with(base: Base) -> SpaceHeader {
+    SpaceHeader {
         space: 23,
         size: 64,
         limit: 64,
@@ -181,20 +188,30 @@ fn writes_what_it_reads(rt: HostRuntime) -> Result<(), Fail> {
         full_frag: base,
         inodes_full: base,
         inodes_free: base,
-    };
+    }
+}
+
+#[test]
+fn writes_the_header_that_it_reads(rt: HostRuntime) -> Result<(), Fail> {
+    let mut page = Page::zeroed(rt.alloc())?;
+    let (base, _) = linked();
+    let header = header_with(base);
     header.write(&mut page);
-    assert_eq!(rt; SpaceHeader::read(&page), header);
-    assert_eq!(rt;
-        &page.bytes()[38..78],
-        [
-            0, 0, 0, 23, 0, 0, 0, 0, 0, 0, 0, 64, 0, 0, 0, 64, 0, 0, 0, 33, 0, 0, 0, 4, 0, 0, 0, 3,
-            0, 0, 0, 0, 0, 238, 0, 0, 0, 0, 1, 22
-        ]
-        .as_slice()
+    assert!(rt; SpaceHeader::read(&page) == header);
+    assert!(rt;
+        page.bytes()[38..].starts_with(
+            b"\0\0\0\x17\0\0\0\0\0\0\0\x40\0\0\0\x40\0\0\0\x21\0\0\0\x04\0\0\0\x03\0\0\0\0\0\xEE\0\0\0\0\x01\x16"
+        )
     );
+    Ok(())
+}
+
+#[test]
+fn writes_what_it_reads(rt: HostRuntime) -> Result<(), Fail> {
+    let mut page = Page::zeroed(rt.alloc())?;
+    let (base, nodes) = linked();
     write_base(&mut page, 200, &base);
-    assert_eq!(rt; read_base(&page, 200), base);
     write_node(&mut page, 16372, &nodes[0]);
-    assert_eq!(rt; read_node(&page, 16372), nodes[0]);
+    assert!(rt; read_base(&page, 200) == base && read_node(&page, 16372) == nodes[0]);
     Ok(())
 }

@@ -60,11 +60,10 @@ fn counts_a_sound_file(rt: HostRuntime) -> Result<(), Fail> {
         (Which::G, [8, 8, 2, 0, 0]),
     ] {
         let table = table_of(alloc, which)?;
-        let mut file = LoggedPages::new(alloc, file(alloc, which)?, 1000)?;
-        let found = check_of(alloc, &mut file, &table)?;
-        assert_eq!(rt; found, checked(numbers), "{which:?}");
-        let most = 4 * (numbers[0] as usize) + 64;
-        assert!(rt; file.log().len() <= most, "{which:?}");
+        let (found, fetches) = logged(alloc, which, &table)?;
+        assert!(rt; found == Ok(checked(numbers)), "{which:?}");
+        let most = 4 * u64::from(numbers[0]) + 64;
+        assert!(rt; fetches <= most, "{which:?}");
     }
     Ok(())
 }
@@ -77,8 +76,31 @@ fn names_a_broken_rule(rt: HostRuntime) -> Result<(), Fail> {
     let bytes = edited(alloc, Which::G, &[&[(6, 12, b"\0\0\0\x05")]])?;
     let mut file = MemoryPages::new(bytes, Fails::of(alloc, &[])?);
     let found = check_of(alloc, &mut file, &table);
-    assert_eq!(rt; found, Err(Stop::Broken(Rule::Sibling.at(6))));
+    assert!(rt; found == Err(Stop::Broken(Rule::Sibling.at(6))));
     Ok(())
+}
+
+/// The answer over a named file, and how many pages are fetched.
+fn logged(
+    alloc: Global,
+    which: Which,
+    table: &Schema,
+) -> Result<(Result<Checked, Stop>, u64), Fail> {
+    let mut logged = LoggedPages::new(alloc, file(alloc, which)?, 1000)?;
+    let whole = check_of(alloc, &mut logged, table);
+    Ok((whole, logged.log().len() as u64))
+}
+
+/// The answer where this call of the file fails.
+fn failing(
+    alloc: Global,
+    which: Which,
+    table: &Schema,
+    call: u64,
+) -> Result<Result<Checked, Stop>, Fail> {
+    let bytes = file(alloc, which)?;
+    let mut failing = MemoryPages::new(bytes, Fails::of(alloc, &[call])?);
+    Ok(check_of(alloc, &mut failing, table))
 }
 
 /// The calls are that of the size, and those of the fetches.
@@ -87,18 +109,12 @@ fn stops_at_each_call_that_fails(rt: HostRuntime) -> Result<(), Fail> {
     let alloc = rt.alloc();
     for which in [Which::D, Which::E, Which::G] {
         let table = table_of(alloc, which)?;
-        let mut logged = LoggedPages::new(alloc, file(alloc, which)?, 1000)?;
-        let whole = check_of(alloc, &mut logged, &table);
-        let fetches = logged.log().len() as u64;
+        let (whole, fetches) = logged(alloc, which, &table)?;
         for call in 1..fetches.wrapping_add(3) {
-            let fails = Fails::of(alloc, &[call])?;
-            let mut failing = MemoryPages::new(file(alloc, which)?, fails);
-            let found = check_of(alloc, &mut failing, &table);
-            if call <= fetches.wrapping_add(1) {
-                assert_eq!(rt; found, Err(Stop::Source), "call {call} of {which:?}");
-            } else {
-                assert_eq!(rt; found, whole, "{which:?}");
-            }
+            let is_made = call <= fetches.wrapping_add(1);
+            let wanted = if is_made { Err(Stop::Source) } else { whole };
+            let found = failing(alloc, which, &table, call)?;
+            assert!(rt; found == wanted, "call {call} of {which:?}");
         }
     }
     Ok(())
@@ -142,7 +158,7 @@ fn loses(
     let first = file(alloc, Which::C)?;
     let second = edited(alloc, Which::C, &[&[piece]])?;
     let found = rows_of::<Brand>(alloc, first, second, Blank::new(1))?;
-    assert_eq!(rt; found, (count, Err(Halt::Broken(fault))), "{piece:?}");
+    assert!(rt; found == (count, Err(Halt::Broken(fault))), "{piece:?}");
     Ok(())
 }
 

@@ -20,8 +20,8 @@ fn makes_each_file(rt: HostRuntime) -> Result<(), Fail> {
     ];
     for (which, pages, sum) in files {
         let bytes = file(rt.alloc(), which)?;
-        assert_eq!(rt; bytes.bytes().len(), pages * PAGE_SIZE, "{which:?}");
-        assert_eq!(rt; crc32c(bytes.bytes()), sum, "{which:?}");
+        assert!(rt; bytes.bytes().len() == pages * PAGE_SIZE, "{which:?}");
+        assert!(rt; crc32c(bytes.bytes()) == sum, "{which:?}");
     }
     Ok(())
 }
@@ -37,6 +37,6 @@ fn puts_edits_where_they_fit(rt: HostRuntime) -> Result<(), Fail> {
             &[(6, 0, b"none"), (4, 16382, b"\0\0\0"), (4, 20000, b"\0")],
         ],
     )?;
-    assert_eq!(rt; crc32c(bytes.bytes()), 0xB9BE_7C27);
+    assert!(rt; crc32c(bytes.bytes()) == 0xB9BE_7C27);
     Ok(())
 }

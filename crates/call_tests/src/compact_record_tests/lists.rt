@@ -9,7 +9,7 @@ use page_source::NoMemory;
 use std::alloc::Global;
 
 /// An index, by its columns: `id int` is the key of each table.
-#[derive(Clone, Copy, Debug, PartialEq, Eq)]
+#[derive(Clone, Copy)]
 pub enum Shape {
     /// Rows with a `varchar 300`.
     Wide,

@@ -63,24 +63,18 @@ fn reads_what_is_placed(rt: HostRuntime) -> Result<(), Fail> {
     let fields = fields(rt.alloc())?;
     let parts = parts(rt.alloc())?;
     let mut page = Page::zeroed(rt.alloc())?;
-    assert_eq!(rt; record_size(&fields, &parts), 234);
+    assert!(rt; record_size(&fields, &parts) == 234);
     let origin = place(&mut page, 120, &fields, &parts, 2, 1, true);
-    assert_eq!(rt; origin, 130);
-    assert_eq!(rt;
-        &page.bytes()[118..136],
-        b"\0\0\xC8\x80\x14\xC0\x01\x10\0\x11\0\0\x80\0\0\x05\x07\x07".as_slice()
+    assert!(rt; origin == 130);
+    assert!(rt;
+        &page.bytes()[118..136]
+            == b"\0\0\xC8\x80\x14\xC0\x01\x10\0\x11\0\0\x80\0\0\x05\x07\x07".as_slice()
     );
     let located = locate(rt.alloc(), &page, origin, &fields)?;
-    assert_eq!(rt; (located.start(), located.end()), (120, 354));
+    assert!(rt; (located.start(), located.end()) == (120, 354));
     let places = located.places();
     assert!(rt; places.len() == 4);
-    assert_eq!(rt;
-        (places[1].null, places[2].external, places[3].external),
-        (true, true, false)
-    );
-    assert_eq!(rt;
-        (places[2].from, places[3].from, places[3].until),
-        (134, 154, 354)
-    );
+    assert!(rt; (places[1].null, places[2].external, places[3].external) == (true, true, false));
+    assert!(rt; (places[2].from, places[3].from, places[3].until) == (134, 154, 354));
     Ok(())
 }

@@ -71,38 +71,54 @@ fn records_of(
     }
 }
 
+/// A page of three rows.
+fn three_rows(rt: &impl Abort, alloc: Global) -> Result<Page, NoMemory> {
+    let mut page = Page::zeroed(alloc)?;
+    put_pieces(rt, &mut page, &pages::THREE_ROWS);
+    Ok(page)
+}
+
+/// The same, of which the second is free.
+fn two_rows(rt: &impl Abort, alloc: Global) -> Result<Page, NoMemory> {
+    let mut page = three_rows(rt, alloc)?;
+    put_pieces(rt, &mut page, &pages::SECOND_FREE);
+    Ok(page)
+}
+
 #[test]
 fn reads_records(rt: HostRuntime) -> Result<(), Fail> {
-    let mut page = Page::zeroed(rt.alloc())?;
-    put_pieces(&rt, &mut page, &pages::THREE_ROWS);
-    put_pieces(&rt, &mut page, &pages::SECOND_FREE);
+    let page = two_rows(&rt, rt.alloc())?;
     let fields = rows(rt.alloc())?;
-    let records = records_of(&rt, rt.alloc(), &page, &fields)?.map_err(|_| "a rule is broken")?;
-    assert_eq!(rt; records.items().len(), 2);
+    let Ok(records) = records_of(&rt, rt.alloc(), &page, &fields)? else {
+        return Err(Fail::from("a rule is broken"));
+    };
+    assert!(rt; records.items().len() == 2);
     for (record, want) in records.items().iter().zip([(120, 142), (164, 186)]) {
-        assert_eq!(rt; (record.start(), record.end()), want);
-        assert_eq!(rt; record.places().len(), 3);
+        assert!(rt; (record.start(), record.end()) == want && record.places().len() == 3);
     }
+    Ok(())
+}
+
+#[test]
+fn goes_from_record_to_record(rt: HostRuntime) -> Result<(), Fail> {
+    let mut page = two_rows(&rt, rt.alloc())?;
     for (origin, next) in [(99, Some(125)), (125, Some(169)), (169, None), (147, None)] {
-        assert_eq!(rt; next_record(&page, origin), next, "{origin}");
+        assert!(rt; next_record(&page, origin) == next, "{origin}");
     }
     // A way to the first byte of the page is one, and leads to no record.
     page.put_bytes(145, &[0x3F, 0x6D]);
-    assert_eq!(rt; next_record(&page, 147), Some(0));
+    assert!(rt; next_record(&page, 147) == Some(0));
     Ok(())
 }
 
 /// The first row has the mark of the least pointer, and then the supremum owns one record less too.
 #[test]
 fn names_a_broken_rule(rt: HostRuntime) -> Result<(), Fail> {
-    let mut page = Page::zeroed(rt.alloc())?;
-    put_pieces(&rt, &mut page, &pages::THREE_ROWS);
     let fields = rows(rt.alloc())?;
-    page.put_bytes(120, &[0x10]);
-    let found = records_of(&rt, rt.alloc(), &page, &fields)?;
-    assert_eq!(rt; found.err(), Some(Rule::MinimumMark));
-    page.put_bytes(107, &[3]);
-    let found = records_of(&rt, rt.alloc(), &page, &fields)?;
-    assert_eq!(rt; found.err(), Some(Rule::Directory));
+    let mut page = three_rows(&rt, rt.alloc())?;
+    for (at, byte, rule) in [(120, 0x10, Rule::MinimumMark), (107, 3, Rule::Directory)] {
+        page.put_bytes(at, &[byte]);
+        assert!(rt; records_of(&rt, rt.alloc(), &page, &fields)?.err() == Some(rule));
+    }
     Ok(())
 }

@@ -28,11 +28,11 @@ fn references_are_written_and_read(rt: HostRuntime) {
     let written = [
         0, 0, 0, 23, 0, 0, 0, 4, 0, 0, 0, 38, 0, 0, 0, 0, 0, 0, 0x9C, 0x40,
     ];
-    assert_eq!(rt; bytes, written);
+    assert!(rt; bytes == written);
     // The flags of the owner and the high bytes of the length aren't read.
     bytes[12] = 0xC0;
     bytes[15] = 1;
-    assert_eq!(rt; read_reference(&bytes), VALUE);
+    assert!(rt; read_reference(&bytes) == VALUE);
 }
 
 /// Seven pages, of which 4, 5 and 6 have parts of these lengths and lead to these pages.
@@ -89,10 +89,10 @@ fn chains_are_read_in_parts(rt: HostRuntime) -> Result<(), Fail> {
         Ok(Some(7_340)),
         Ok(None),
     ];
-    assert_eq!(rt; read::<Brand>(rt.alloc(), whole, 3, Blank::new(1))?, all);
+    assert!(rt; read::<Brand>(rt.alloc(), whole, 3, Blank::new(1))? == all);
     // A page is due and no fetch is left.
     let cut = [Ok(Some(16_330)), Ok(Some(16_330)), broken(6), broken(6)];
-    assert_eq!(rt; read::<Brand>(rt.alloc(), whole, 2, Blank::new(1))?, cut);
+    assert!(rt; read::<Brand>(rt.alloc(), whole, 2, Blank::new(1))? == cut);
     Ok(())
 }
 
@@ -117,7 +117,7 @@ fn bad_parts_are_named(rt: HostRuntime) -> Result<(), Fail> {
                 .all(|answer| *answer == Ok(Some(16_330))),
             "{page}"
         );
-        assert_eq!(rt; answers[good], broken(page));
+        assert!(rt; answers[good] == broken(page));
     }
     Ok(())
 }

@@ -58,18 +58,30 @@ pub(super) fn dump_of<S: PageSource>(
     dumped::<S, Brand>(alloc, source, table, sink, Blank::new(1))
 }
 
-/// Of the file with one page of rows: page 0 as the head and for its descriptors, the inode page, the other used pages,
+/// The file with one page of rows, behind a check of it.
+fn checked_file(alloc: Global, table: &Schema) -> Result<LoggedPages, Fail> {
+    let mut file = LoggedPages::new(alloc, file(alloc, Which::B)?, 50)?;
+    check_of(alloc, &mut file, table)?;
+    Ok(file)
+}
+
+/// The same, behind a dump.
+fn dumped_file(alloc: Global, table: &Schema) -> Result<LoggedPages, Fail> {
+    let mut file = LoggedPages::new(alloc, file(alloc, Which::B)?, 50)?;
+    let mut sink = MemorySink::new(alloc, 1000, Fails::of(alloc, &[])?)?;
+    dump_of(alloc, &mut file, table, &mut sink)?;
+    Ok(file)
+}
+
+/// Of that file: page 0 as the head and for its descriptors, the inode page, the other used pages,
 /// the root, and the one leaf, which is the root, for its values and for its lines.
 #[test]
 fn pages_are_fetched_in_order(rt: HostRuntime) -> Result<(), Fail> {
     let alloc = rt.alloc();
     let table = Schema::read(alloc, schema(Which::B).as_bytes())?;
-    let mut first = LoggedPages::new(alloc, file(alloc, Which::B)?, 50)?;
-    check_of(alloc, &mut first, &table)?;
-    assert_eq!(rt; first.log(), [0, 0, 2, 0, 1, 3, 3, 3].as_slice());
-    let mut second = LoggedPages::new(alloc, file(alloc, Which::B)?, 50)?;
-    let mut sink = MemorySink::new(alloc, 1000, Fails::of(alloc, &[])?)?;
-    dump_of(alloc, &mut second, &table, &mut sink)?;
-    assert_eq!(rt; second.log(), [0, 0, 2, 0, 1, 3, 3, 3, 3].as_slice());
+    let file = checked_file(alloc, &table)?;
+    assert!(rt; file.log() == [0, 0, 2, 0, 1, 3, 3, 3].as_slice());
+    let file = dumped_file(alloc, &table)?;
+    assert!(rt; file.log() == [0, 0, 2, 0, 1, 3, 3, 3, 3].as_slice());
     Ok(())
 }

@@ -3,18 +3,19 @@
 ghost use Rattle.std.specs.Prelude.{◌≡◌, ◌<◌};
 
 use page_source::{
-    ByteList, ByteSink, ByteSource, Failed, FileBytes, FilePages, FileStore, Page, PageSource,
-    PageStore, Rule, StdSink, Steps, read_be, write_be,
+    ByteList, ByteSink, ByteSource, Failed, FileBytes, FilePages, FileStore, NoMemory, Page,
+    PageSource, PageStore, Rule, StdSink, Steps, read_be, write_be,
 };
+use std::alloc::Global;
 use std::fs;
-use std::fs::{Files, OpenOptions};
+use std::fs::OpenOptions;
 use std::io::{Seek, SeekFrom, Write};
 use std::marker::Brand;
 use std::sync::ledger::{Blank, Ledger};
 use std::test::Fail;
 
-fn fetch<R: Files, L: Ledger>(
-    source: &mut FilePages<R>,
+fn fetch<L: Ledger>(
+    source: &mut FilePages<HostRuntime>,
     n: u32,
     page: &mut Page,
     blank: Blank,
@@ -23,36 +24,34 @@ fn fetch<R: Files, L: Ledger>(
     requires parts { blank.parts ≡ L.parts }
     requires shared { 0 < blank.parts }
 {
-    let mut steps = Steps::<L>::new(blank);
-    source.fetch(n, page, &mut steps)
+    source.fetch(n, page, &mut Steps::<L>::new(blank))
+}
+
+/// A file of two pages, and five bytes more.
+fn write_two_pages(rt: &HostRuntime) -> Result<(), Fail> {
+    let mut bytes = Vec::from_elem(rt.alloc(), 7, 16384)?;
+    bytes.extend_from_slice(&[8; 16384])?;
+    bytes.extend_from_slice(&[9; 5])?;
+    fs::write(rt, "two.ibd", bytes.as_slice())?;
+    Ok(())
 }
 
 #[test]
 fn pages_of_a_file_are_read(rt: HostRuntime) -> Result<(), Fail> {
-    let alloc = rt.alloc();
-    let mut bytes = Vec::from_elem(alloc, 7, 16384)?;
-    bytes.extend_from_slice(&[8; 16384])?;
-    bytes.extend_from_slice(&[9; 5])?;
-    fs::write(&rt, "two.ibd", bytes.as_slice())?;
-    fs::create_dir(&rt, "folder")?;
-    let mut page = Page::zeroed(alloc)?;
-
+    write_two_pages(&rt)?;
+    let mut page = Page::zeroed(rt.alloc())?;
     let mut file = FilePages::new(&rt, Some(b"two.ibd"));
-    assert_eq!(rt; file.pages(), Ok(2));
-    assert_eq!(rt;
-        fetch::<HostRuntime, Brand>(&mut file, 1, &mut page, Blank::new(1)),
-        Ok(())
-    );
-    assert_eq!(rt; page.bytes(), [8; 16384].as_slice());
-    assert_eq!(rt;
-        fetch::<HostRuntime, Brand>(&mut file, 2, &mut page, Blank::new(1)),
-        Err(Failed)
-    );
-    assert_eq!(rt;
-        fetch::<HostRuntime, Brand>(&mut file, 0, &mut page, Blank::new(1)),
-        Ok(())
-    );
-    assert_eq!(rt; page.bytes(), [7; 16384].as_slice());
+    assert!(rt; file.pages() == Ok(2));
+    for (n, answer, byte) in [(1, Ok(()), 8), (2, Err(Failed), 0), (0, Ok(()), 7)] {
+        assert!(rt; fetch::<Brand>(&mut file, n, &mut page, Blank::new(1)) == answer);
+        assert!(rt; answer.is_err() || page.bytes() == [byte; 16384].as_slice());
+    }
+    Ok(())
+}
+
+#[test]
+fn words_that_name_no_file_of_pages(rt: HostRuntime) -> Result<(), Fail> {
+    fs::create_dir(&rt, "folder")?;
     for word in [
         None,
         Some(b"none.ibd".as_slice()),
@@ -60,29 +59,32 @@ fn pages_of_a_file_are_read(rt: HostRuntime) -> Result<(), Fail> {
         Some(b"folder"),
         Some(b""),
     ] {
-        assert_eq!(rt; FilePages::new(&rt, word).pages(), Err(Failed));
+        assert!(rt; FilePages::new(&rt, word).pages() == Err(Failed));
     }
     Ok(())
 }
 
-/// A page past the reach of a place of 32 bits, in a file that is nearly all holes.
-#[test]
-fn pages_of_a_large_file_are_read(rt: HostRuntime) -> Result<(), Fail> {
+/// A file of 262,146 pages that is nearly all holes.
+fn write_large_file(rt: &HostRuntime) -> Result<(), Fail> {
     let mut file = OpenOptions::new()
         .write(true)
         .create(true)
-        .open(&rt, "large.ibd")?;
+        .open(rt, "large.ibd")?;
     file.set_len(262_146 * 16384)?;
     file.seek(SeekFrom::Start(262_145 * 16384))?;
     file.write_all(b"the last page")?;
+    Ok(())
+}
+
+/// A page past the reach of a place of 32 bits.
+#[test]
+fn pages_of_a_large_file_are_read(rt: HostRuntime) -> Result<(), Fail> {
+    write_large_file(&rt)?;
     let mut page = Page::zeroed(rt.alloc())?;
     let mut source = FilePages::new(&rt, Some(b"large.ibd"));
-    assert_eq!(rt; source.pages(), Ok(262_146));
-    assert_eq!(rt;
-        fetch::<HostRuntime, Brand>(&mut source, 262_145, &mut page, Blank::new(1)),
-        Ok(())
-    );
-    assert_eq!(rt; &page.bytes()[..13], b"the last page".as_slice());
+    assert!(rt; source.pages() == Ok(262_146));
+    let found = fetch::<Brand>(&mut source, 262_145, &mut page, Blank::new(1));
+    assert!(rt; found == Ok(()) && page.bytes().starts_with(b"the last page"));
     Ok(())
 }
 
@@ -91,95 +93,92 @@ fn bytes_of_a_file_are_read(rt: HostRuntime) -> Result<(), Fail> {
     fs::write(&rt, "schema", "table t dynamic\n")?;
     let mut buffer = [0u8; 9];
     let mut file = FileBytes::new(&rt, Some(b"schema"));
-    assert_eq!(rt; file.read(&mut buffer), Ok(9));
-    assert_eq!(rt; buffer, *b"table t d");
-    assert_eq!(rt; file.read(&mut buffer), Ok(7));
-    assert_eq!(rt; &buffer[..7], b"ynamic\n".as_slice());
-    assert_eq!(rt; file.read(&mut buffer), Ok(0));
-    assert_eq!(rt; FileBytes::new(&rt, None).read(&mut buffer), Err(Failed));
-    fs::create_dir(&rt, "texts")?;
-    assert_eq!(rt;
-        FileBytes::new(&rt, Some(b"texts")).read(&mut buffer),
-        Err(Failed)
-    );
+    for (answer, left) in [
+        (Ok(9), b"table t d"),
+        (Ok(7), b"ynamic\n d"),
+        (Ok(0), b"ynamic\n d"),
+    ] {
+        assert!(rt; file.read(&mut buffer) == answer);
+        assert!(rt; buffer == *left);
+    }
     Ok(())
 }
 
 #[test]
-fn a_file_of_pages_is_made_anew(rt: HostRuntime) -> Result<(), Fail> {
-    let alloc = rt.alloc();
-    fs::write(&rt, "made.ibd", "what stood here before")?;
+fn words_that_name_no_file_of_bytes(rt: HostRuntime) -> Result<(), Fail> {
+    fs::create_dir(&rt, "texts")?;
+    for word in [None, Some(b"texts".as_slice())] {
+        assert!(rt; FileBytes::new(&rt, word).read(&mut [0; 9]) == Err(Failed));
+    }
+    Ok(())
+}
+
+/// A page with numbers at both its ends.
+fn marked(alloc: Global) -> Result<Page, NoMemory> {
     let mut page = Page::zeroed(alloc)?;
     write_be::<2>(&mut page, 0, 0xABCD);
     write_be::<2>(&mut page, 16382, 0x1234);
-    let mut store = FileStore::new(&rt, Some(b"made.ibd"));
-    assert_eq!(rt; store.set_size(64), Ok(()));
-    assert_eq!(rt; store.put(3, &page), Ok(()));
-    let bytes = fs::read(&rt, "made.ibd")?;
-    assert_eq!(rt; bytes.len(), 64 * 16384);
-    assert_eq!(rt; &bytes[..4], [0u8; 4].as_slice());
-    assert_eq!(rt;
-        &bytes[3 * 16384..3 * 16384 + 4],
-        [0xAB, 0xCD, 0, 0].as_slice()
-    );
-    assert_eq!(rt;
-        &bytes[4 * 16384 - 4..4 * 16384],
-        [0, 0, 0x12, 0x34].as_slice()
-    );
-    assert_eq!(rt;
-        FileStore::new(&rt, Some(b"none/made.ibd")).set_size(64),
-        Err(Failed)
-    );
+    Ok(page)
+}
+
+/// Where a file has been, 64 pages are made, of which the fourth is put.
+fn make_anew(rt: &HostRuntime) -> Result<Vec<u8>, Fail> {
+    fs::write(rt, "made.ibd", "what stood here before")?;
+    let page = marked(rt.alloc())?;
+    let mut store = FileStore::new(rt, Some(b"made.ibd"));
+    store.set_size(64)?;
+    store.put(3, &page)?;
+    Ok(fs::read(rt, "made.ibd")?)
+}
+
+#[test]
+fn a_file_of_pages_is_made_anew(rt: HostRuntime) -> Result<(), Fail> {
+    let bytes = make_anew(&rt)?;
+    assert!(rt; bytes.len() == 64 * 16384);
+    assert!(rt; bytes[..4] == [0u8; 4]);
+    assert!(rt; bytes[3 * 16384..3 * 16384 + 4] == [0xAB, 0xCD, 0, 0]);
+    assert!(rt; bytes[4 * 16384 - 4..4 * 16384] == [0, 0, 0x12, 0x34]);
+    assert!(rt; FileStore::new(&rt, Some(b"none/made.ibd")).set_size(64) == Err(Failed));
     Ok(())
 }
 
 #[test]
 fn standard_streams_are_written(rt: HostRuntime) {
     let mut out = StdSink::new(rt.stdout());
-    assert_eq!(rt; out.put(b""), Ok(()));
-    assert_eq!(rt; out.put(b"a line on the standard output\n"), Ok(()));
+    assert!(rt; out.put(b"") == Ok(()));
+    assert!(rt; out.put(b"a line on the standard output\n") == Ok(()));
     let mut err = StdSink::new(rt.stderr());
-    assert_eq!(rt; err.put(b"a line on the standard error\n"), Ok(()));
+    assert!(rt; err.put(b"a line on the standard error\n") == Ok(()));
 }
 
 #[test]
 fn numbers_stand_on_a_page(rt: HostRuntime) -> Result<(), Fail> {
     let mut page = Page::zeroed(rt.alloc())?;
     page.put_bytes(16376, &[0xE3, 0x06, 0x92, 0x83, 0, 0, 0, 1]);
-    assert_eq!(rt; read_be::<4>(&page, 16376), 0xE306_9283);
-    assert_eq!(rt; read_be::<8>(&page, 16376), 0xE306_9283_0000_0001);
-    assert_eq!(rt; read_be::<3>(&page, 16374), 0xE3);
+    assert!(rt; read_be::<4>(&page, 16376) == 0xE306_9283);
+    assert!(rt; read_be::<8>(&page, 16376) == 0xE306_9283_0000_0001);
+    assert!(rt; read_be::<3>(&page, 16374) == 0xE3);
     write_be::<3>(&mut page, 16377, 0x01_0203);
-    assert_eq!(rt;
-        &page.bytes()[16375..],
-        [0, 0xE3, 1, 2, 3, 0, 0, 0, 1].as_slice()
-    );
+    assert!(rt; &page.bytes()[16375..] == [0, 0xE3, 1, 2, 3, 0, 0, 0, 1].as_slice());
     page.clear();
-    assert_eq!(rt; page.bytes(), [0u8; 16384].as_slice());
+    assert!(rt; page.bytes() == [0u8; 16384].as_slice());
     Ok(())
 }
 
 #[test]
 fn rules_are_named(rt: HostRuntime) {
-    assert_eq!(rt;
-        (Rule::FileSize.number(), Rule::FileSize.name()),
-        (1, "file-size")
-    );
-    assert_eq!(rt;
-        (Rule::RecordChain.number(), Rule::RecordChain.name()),
-        (35, "record-chain")
-    );
-    assert_eq!(rt;
-        (Rule::UnreachedKind.number(), Rule::UnreachedKind.name()),
-        (50, "unreached-kind")
+    assert!(rt; (Rule::FileSize.number(), Rule::FileSize.name()) == (1, "file-size"));
+    assert!(rt; (Rule::RecordChain.number(), Rule::RecordChain.name()) == (35, "record-chain"));
+    assert!(rt;
+        (Rule::UnreachedKind.number(), Rule::UnreachedKind.name()) == (50, "unreached-kind")
     );
 }
 
 #[test]
 fn a_list_of_bytes_grows(rt: HostRuntime) -> Result<(), Fail> {
     let mut list = ByteList::new(rt.alloc());
-    assert_eq!(rt; list.push(1), Ok(()));
-    assert_eq!(rt; list.extend(&[2, 3]), Ok(()));
-    assert_eq!(rt; list.bytes(), [1u8, 2, 3].as_slice());
+    assert!(rt; list.push(1) == Ok(()));
+    assert!(rt; list.extend(&[2, 3]) == Ok(()));
+    assert!(rt; list.bytes() == [1u8, 2, 3].as_slice());
     Ok(())
 }

@@ -13,22 +13,19 @@ use std::marker::Brand;
 use std::sync::ledger::{Blank, Ledger};
 use std::test::Fail;
 
-/// What the four fetches in turn answer, with the page's first byte after each.
+/// What a fetch answers, with the page's first byte after it.
 fn fetched<L: Ledger>(
     file: &mut MemoryPages,
     page: &mut Page,
-    numbers: [u32; 4],
+    n: u32,
     blank: Blank,
-) -> [(Result<(), Failed>, u8); 4]
+) -> (Result<(), Failed>, u8)
     requires name { blank.name ≡ L.name }
     requires parts { blank.parts ≡ L.parts }
     requires shared { 0 < blank.parts }
 {
-    let mut steps = Steps::<L>::new(blank);
-    numbers.map(|n| {
-        let answer = file.fetch(n, page, &mut steps);
-        (answer, page.bytes()[0])
-    })
+    let answer = file.fetch(n, page, &mut Steps::<L>::new(blank));
+    (answer, page.bytes()[0])
 }
 
 fn whole_pages<P: PageSource>(file: &mut P) -> Result<u32, Failed> {
@@ -62,17 +59,17 @@ fn pages_fail_where_listed_or_not_there(rt: HostRuntime) -> Result<(), Fail> {
     let alloc = rt.alloc();
     let fails = Fails::of(alloc, &[1, 4])?;
     let mut file = MemoryPages::new(two_pages_and_a_byte(alloc)?, fails);
-    assert_eq!(rt; whole_pages(&mut file), Err(Failed));
-    assert_eq!(rt; file.pages(), Ok(2));
+    assert!(rt; whole_pages(&mut file) == Err(Failed));
+    assert!(rt; file.pages() == Ok(2));
     let mut page = Page::zeroed(alloc)?;
-    let found = fetched::<Brand>(&mut file, &mut page, [1, 0, 0, 2], Blank::new(1));
-    let wanted = [
-        (Ok(()), 0x22),
-        (Err(Failed), 0x22),
-        (Ok(()), 0x11),
-        (Err(Failed), 0x11),
-    ];
-    assert_eq!(rt; found, wanted);
+    for (n, answer) in [
+        (1, (Ok(()), 0x22)),
+        (0, (Err(Failed), 0x22)),
+        (0, (Ok(()), 0x11)),
+        (2, (Err(Failed), 0x11)),
+    ] {
+        assert!(rt; fetched::<Brand>(&mut file, &mut page, n, Blank::new(1)) == answer);
+    }
     Ok(())
 }
 
@@ -89,8 +86,8 @@ fn bytes_fail_where_listed(rt: HostRuntime) -> Result<(), Fail> {
         (Ok(2), b"lol"),
         (Ok(0), b"lol"),
     ] {
-        assert_eq!(rt; read_three(&mut text, &mut buffer), answer);
-        assert_eq!(rt; &buffer, left);
+        assert!(rt; read_three(&mut text, &mut buffer) == answer);
+        assert!(rt; &buffer == left);
     }
     Ok(())
 }
@@ -107,25 +104,31 @@ fn a_sink_fails_where_listed_or_full(rt: HostRuntime) -> Result<(), Fail> {
         ("f", Err(Failed)),
         ("", Ok(())),
     ] {
-        assert_eq!(rt; put_text(&mut sink, piece), answer);
+        assert!(rt; put_text(&mut sink, piece) == answer);
     }
-    assert_eq!(rt; sink.bytes(), b"abcde".as_slice());
+    assert!(rt; sink.bytes() == b"abcde".as_slice());
     Ok(())
 }
 
 #[test]
-fn a_store_fails_where_listed_or_too_small(rt: HostRuntime) -> Result<(), Fail> {
+fn a_store_is_sized_where_it_has_room(rt: HostRuntime) -> Result<(), Fail> {
     let alloc = rt.alloc();
     for (room, listed, answer) in [(64, 0, Ok(())), (63, 0, Err(Failed)), (64, 1, Err(Failed))] {
         let mut store = MemoryStore::new(alloc, room, Fails::of(alloc, &[listed])?)?;
-        assert_eq!(rt; size_to(&mut store, 64), answer);
+        assert!(rt; size_to(&mut store, 64) == answer);
     }
+    Ok(())
+}
+
+#[test]
+fn a_store_fails_where_listed(rt: HostRuntime) -> Result<(), Fail> {
+    let alloc = rt.alloc();
+    let page = Page::zeroed(alloc)?;
     let mut store = MemoryStore::new(alloc, 64, Fails::of(alloc, &[3])?)?;
     store.set_size(64)?;
-    let page = Page::zeroed(alloc)?;
-    assert_eq!(rt; store.put(63, &page), Ok(()));
-    assert_eq!(rt; store.put(0, &page), Err(Failed));
-    assert_eq!(rt; store.put(0, &page), Ok(()));
+    assert!(rt; store.put(63, &page) == Ok(()));
+    assert!(rt; store.put(0, &page) == Err(Failed));
+    assert!(rt; store.put(0, &page) == Ok(()));
     Ok(())
 }
 
@@ -165,7 +168,7 @@ fn pages_that_are_not_held_are_zeros(rt: HostRuntime) -> Result<(), Fail> {
     let alloc = rt.alloc();
     let mut file = SparsePages::new(70_001, two_held(alloc)?, Fails::of(alloc, &[3])?);
     let mut page = page_of(alloc, 0xFF)?;
-    assert_eq!(rt; whole_pages(&mut file), Ok(70_001));
+    assert!(rt; whole_pages(&mut file) == Ok(70_001));
     for (n, answer) in [
         (2, (Ok(()), 0x22)),
         (3, (Err(Failed), 0x22)),
@@ -174,21 +177,27 @@ fn pages_that_are_not_held_are_zeros(rt: HostRuntime) -> Result<(), Fail> {
         (70_001, (Err(Failed), 0x33)),
     ] {
         let found = last_byte::<Brand>(&mut file, &mut page, n, Blank::new(1));
-        assert_eq!(rt; found, answer, "{n}");
+        assert!(rt; found == answer, "{n}");
     }
     Ok(())
+}
+
+/// The file of a store with 64 pages, of which two were put.
+fn stored(alloc: Global) -> Result<SparsePages, Fail> {
+    let (first, last) = (page_of(alloc, 0x11)?, page_of(alloc, 0x22)?);
+    let mut store = MemoryStore::new(alloc, 128, Fails::of(alloc, &[])?)?;
+    store.set_size(64)?;
+    store.put(0, &first)?;
+    store.put(63, &last)?;
+    Ok(store.into_pages(Fails::of(alloc, &[])?)?)
 }
 
 #[test]
 fn a_store_becomes_a_file(rt: HostRuntime) -> Result<(), Fail> {
     let alloc = rt.alloc();
-    let mut store = MemoryStore::new(alloc, 128, Fails::of(alloc, &[])?)?;
-    store.set_size(64)?;
-    store.put(0, &page_of(alloc, 0x11)?)?;
-    store.put(63, &page_of(alloc, 0x22)?)?;
-    let mut file = store.into_pages(Fails::of(alloc, &[])?)?;
+    let mut file = stored(alloc)?;
     let mut page = Page::zeroed(alloc)?;
-    assert_eq!(rt; file.pages(), Ok(64));
+    assert!(rt; file.pages() == Ok(64));
     for (n, answer) in [
         (63, (Ok(()), 0x22)),
         (1, (Ok(()), 0)),
@@ -196,24 +205,22 @@ fn a_store_becomes_a_file(rt: HostRuntime) -> Result<(), Fail> {
         (64, (Err(Failed), 0x11)),
     ] {
         let found = last_byte::<Brand>(&mut file, &mut page, n, Blank::new(1));
-        assert_eq!(rt; found, answer, "{n}");
+        assert!(rt; found == answer, "{n}");
     }
     Ok(())
 }
 
-/// What the fetches in turn answer.
 fn logged<L: Ledger>(
     file: &mut LoggedPages,
     page: &mut Page,
-    numbers: [u32; 4],
+    n: u32,
     blank: Blank,
-) -> [Result<(), Failed>; 4]
+) -> Result<(), Failed>
     requires name { blank.name ≡ L.name }
     requires parts { blank.parts ≡ L.parts }
     requires shared { 0 < blank.parts }
 {
-    let mut steps = Steps::<L>::new(blank);
-    numbers.map(|n| file.fetch(n, page, &mut steps))
+    file.fetch(n, page, &mut Steps::<L>::new(blank))
 }
 
 #[test]
@@ -221,39 +228,43 @@ fn a_file_keeps_what_was_fetched(rt: HostRuntime) -> Result<(), Fail> {
     let alloc = rt.alloc();
     let mut file = LoggedPages::new(alloc, two_pages_and_a_byte(alloc)?, 2)?;
     let mut page = Page::zeroed(alloc)?;
-    assert_eq!(rt; whole_pages(&mut file), Ok(2));
-    let found = logged::<Brand>(&mut file, &mut page, [1, 2, 0, 1], Blank::new(1));
-    assert_eq!(rt; found, [Ok(()), Err(Failed), Ok(()), Ok(())]);
-    assert_eq!(rt; file.log(), [1, 0].as_slice());
+    assert!(rt; whole_pages(&mut file) == Ok(2));
+    for (n, answer) in [(1, Ok(())), (2, Err(Failed)), (0, Ok(())), (1, Ok(()))] {
+        assert!(rt; logged::<Brand>(&mut file, &mut page, n, Blank::new(1)) == answer);
+    }
+    assert!(rt; file.log() == [1, 0].as_slice());
     Ok(())
 }
 
-/// What the two fetches answer.
+fn one_page(alloc: Global) -> Result<ByteList, NoMemory> {
+    let mut bytes = ByteList::new(alloc);
+    bytes.extend(&[0x11; 16384])?;
+    Ok(bytes)
+}
+
 fn changed<L: Ledger>(
     file: &mut ChangingPages,
     page: &mut Page,
-    numbers: [u32; 2],
+    n: u32,
     blank: Blank,
-) -> [Result<(), Failed>; 2]
+) -> Result<(), Failed>
     requires name { blank.name ≡ L.name }
     requires parts { blank.parts ≡ L.parts }
     requires shared { 0 < blank.parts }
 {
-    let mut steps = Steps::<L>::new(blank);
-    numbers.map(|n| file.fetch(n, page, &mut steps))
+    file.fetch(n, page, &mut Steps::<L>::new(blank))
 }
 
 #[test]
 fn a_file_changes(rt: HostRuntime) -> Result<(), Fail> {
     let alloc = rt.alloc();
-    let mut first = ByteList::new(alloc);
-    first.extend(&[0x11; 16384])?;
-    let mut file = ChangingPages::new(first, two_pages_and_a_byte(alloc)?, 2);
-    assert_eq!(rt; whole_pages(&mut file), Ok(1));
-    assert_eq!(rt; file.pages(), Ok(2));
+    let mut file = ChangingPages::new(one_page(alloc)?, two_pages_and_a_byte(alloc)?, 2);
+    assert!(rt; whole_pages(&mut file) == Ok(1));
+    assert!(rt; file.pages() == Ok(2));
     let mut page = Page::zeroed(alloc)?;
-    let found = changed::<Brand>(&mut file, &mut page, [1, 2], Blank::new(1));
-    assert_eq!(rt; found, [Ok(()), Err(Failed)]);
-    assert_eq!(rt; page.bytes()[0], 0x22);
+    for (n, answer) in [(1, Ok(())), (2, Err(Failed))] {
+        assert!(rt; changed::<Brand>(&mut file, &mut page, n, Blank::new(1)) == answer);
+    }
+    assert!(rt; page.bytes()[0] == 0x22);
     Ok(())
 }

@@ -60,8 +60,8 @@ fn writes_the_whole_piece_or_fails(rt: HostRuntime) -> Result<(), Fail> {
             interrupts: Cell::new(false),
             taken: RefCell::new(ByteList::new(rt.alloc())),
         };
-        assert_eq!(rt; StdSink::new(&stream).put(b"broken 5"), want, "{room}");
-        assert_eq!(rt; stream.taken.into_inner().bytes(), written, "{room}");
+        assert!(rt; StdSink::new(&stream).put(b"broken 5") == want, "{room}");
+        assert!(rt; stream.taken.into_inner().bytes() == written, "{room}");
     }
     Ok(())
 }

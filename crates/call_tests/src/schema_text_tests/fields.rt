@@ -50,9 +50,8 @@ fn lists_the_fields_of_each_index(rt: HostRuntime) -> Result<(), Fail> {
         (&hidden, 1, false, "C?RN 1 2"),
     ];
     for (schema, index, leaf, wanted) in table {
-        assert_eq!(rt;
-            fields_text(schema, alloc, index, leaf)?.as_str(),
-            wanted,
+        assert!(rt;
+            fields_text(schema, alloc, index, leaf)?.as_str() == wanted,
             "{index} {leaf}"
         );
     }

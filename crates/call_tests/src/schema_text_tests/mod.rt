@@ -25,9 +25,9 @@ fn reads_each_part(rt: HostRuntime) -> Result<(), Fail> {
         schema.indexes(),
         schema.indexes().first().map(|index| index.columns.items())
     )?;
-    assert_eq!(rt;
-        parts.as_str(),
-        "[116] Dynamic 33 \
+    assert!(rt;
+        parts.as_str()
+            == "[116] Dynamic 33 \
         [Column { name: ByteList { bytes: [97] }, kind: Int { width: 4, signed: true }, nullable: false }, \
         Column { name: ByteList { bytes: [98] }, kind: Int { width: 8, signed: false }, nullable: false }] \
         [IndexDef { name: ByteList { bytes: [] }, root: 30, columns: ColumnList { positions: [1] }, line: 4 }] \
@@ -78,6 +78,6 @@ fn reads_what_was_printed(rt: HostRuntime) -> Result<(), Fail> {
         .as_slice();
     let schema = Schema::read(alloc, text)?;
     let again = read_again(alloc, &schema)?;
-    assert_eq!(rt; again.print(alloc)?.bytes(), text);
+    assert!(rt; again.print(alloc)?.bytes() == text);
     Ok(())
 }

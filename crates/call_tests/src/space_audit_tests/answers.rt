@@ -25,7 +25,7 @@ pub fn audited(alloc: Global, mut file: SparsePages) -> Result<Space, Stop> {
 /// Fails the test where one of these pages has another owner, or none is known.
 pub fn expect_owners(rt: &impl Abort, space: &Space, owners: &[(u32, Option<Owner>)]) {
     for (n, wanted) in owners {
-        assert_eq!(rt; owner(space, *n), *wanted, "page {n}");
+        assert!(rt; owner(space, *n) == *wanted, "page {n}");
     }
 }
 

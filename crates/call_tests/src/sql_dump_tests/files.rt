@@ -72,9 +72,9 @@ fn expect_lines(
     let mut file = LoggedPages::new(alloc, bytes, 1000)?;
     let mut sink = sink_of(alloc, ROOM, &[])?;
     let checked = dump_of(alloc, &mut file, table, &mut sink)?;
-    assert_eq!(rt; sink.bytes(), lines.as_bytes());
-    assert_eq!(rt; checked.pages, pages);
-    assert_eq!(rt; checked.rows, u64::from(rows));
+    assert!(rt; sink.bytes() == lines.as_bytes());
+    assert!(rt; checked.pages == pages);
+    assert!(rt; checked.rows == u64::from(rows));
     assert!(rt; file.log().len() <= most_fetches(pages));
     Ok(())
 }
@@ -104,7 +104,7 @@ fn writes_nothing_of_a_broken_file(rt: HostRuntime) -> Result<(), Fail> {
     let mut file = MemoryPages::new(bytes, Fails::of(alloc, &[])?);
     let mut sink = sink_of(alloc, ROOM, &[])?;
     let found = dump_of(alloc, &mut file, &table, &mut sink);
-    assert_eq!(rt; found, Err(DumpStop::Broken(Rule::Sibling.at(5))));
+    assert!(rt; found == Err(DumpStop::Broken(Rule::Sibling.at(5))));
     assert!(rt; sink.bytes().is_empty());
     Ok(())
 }
@@ -127,8 +127,20 @@ fn fails_with(
     let mut source = MemoryPages::new(bytes, Fails::of(alloc, file_fails)?);
     let mut sink = sink_of(alloc, room, sink_fails)?;
     let found = dump_of(alloc, &mut source, &table, &mut sink);
-    assert_eq!(rt; found, Err(want), "{file_fails:?} {room} {sink_fails:?}");
+    assert!(rt; found == Err(want), "{file_fails:?} {room} {sink_fails:?}");
     assert!(rt; LINES.as_bytes().starts_with(sink.bytes()));
+    Ok(())
+}
+
+/// A sink that has room for the lines alone.
+#[test]
+fn fills_a_sink(rt: HostRuntime) -> Result<(), Fail> {
+    let alloc = rt.alloc();
+    let table = table_of(alloc, Which::C)?;
+    let mut source = MemoryPages::new(file(alloc, Which::C)?, Fails::of(alloc, &[])?);
+    let mut sink = sink_of(alloc, LINES.len(), &[])?;
+    let checked = dump_of(alloc, &mut source, &table, &mut sink)?;
+    assert!(rt; checked.rows == 4 && sink.bytes() == LINES.as_bytes());
     Ok(())
 }
 
@@ -140,13 +152,7 @@ fn stops_at_each_call_that_fails(rt: HostRuntime) -> Result<(), Fail> {
     for room in [0, LINES.len().saturating_sub(1)] {
         fails_with(&rt, alloc, &[], room, &[], DumpStop::Sink)?;
     }
-    let table = table_of(alloc, Which::C)?;
-    let mut logged = LoggedPages::new(alloc, file(alloc, Which::C)?, 1000)?;
-    let mut sink = sink_of(alloc, LINES.len(), &[])?;
-    let whole = dump_of(alloc, &mut logged, &table, &mut sink);
-    assert_eq!(rt; whole.map(|checked| checked.rows), Ok(4));
-    assert_eq!(rt; sink.bytes(), LINES.as_bytes());
-    for call in 1..(logged.log().len() as u64).wrapping_add(2) {
+    for call in 1..call_of_the_rows(alloc)?.wrapping_add(2) {
         fails_with(&rt, alloc, &[call], ROOM, &[], DumpStop::Source)?;
     }
     fails_with(&rt, alloc, &[], ROOM, &[1], DumpStop::Sink)
@@ -173,7 +179,7 @@ fn loses(
     let mut changing = ChangingPages::new(file(alloc, Which::C)?, second, call);
     let mut sink = sink_of(alloc, ROOM, &[])?;
     let found = dump_of(alloc, &mut changing, &table, &mut sink);
-    assert_eq!(rt; found, Err(DumpStop::Broken(fault)), "{piece:?}");
+    assert!(rt; found == Err(DumpStop::Broken(fault)), "{piece:?}");
     Ok(())
 }
 

@@ -48,7 +48,7 @@ fn fetches_a_leaf_once_and_a_page_above_twice(rt: HostRuntime) -> Result<(), Fai
         let bytes = bytes_with(&rt, alloc, plan, &[])?;
         let mut file = LoggedPages::new(alloc, bytes, 200)?;
         let (ends, before) = audited_and_walked::<Brand>(alloc, &mut file, Blank::new(1))?;
-        assert_eq!(rt; ends.leaves, 2);
+        assert!(rt; ends.leaves == 2);
         for (n, most) in wanted.iter().enumerate() {
             let fetched = file.log().iter().skip(before);
             let times = fetched.filter(|page| **page as usize == n).count();

@@ -5,7 +5,7 @@ ghost use Rattle.std.specs.Prelude.{◌≡◌, ◌<◌, false};
 use super::file::file_with;
 use super::plan::TWO_LEVELS;
 use super::walks::{audited, walked};
-use page_source::{ByteList, ChangingPages, FIL_NULL, Halt, Page, Rule, Steps, write_be};
+use page_source::{ByteList, ChangingPages, FIL_NULL, Fault, Halt, Page, Rule, Steps, write_be};
 use std::alloc::Global;
 use std::marker::Brand;
 use std::process::Abort;
@@ -15,33 +15,44 @@ use tree_walk::{LeafCursor, TreeEnds};
 
 const SUPREMUM: usize = 112;
 
-/// The first of two leaves: its next field, its records, and where the last of them leads. The second one is page 1,
-/// with a record at 126, and none behind it. Then how many leaves there should be, how many rows the cursor gives, on
-/// what page it ends, the last origin, and the end.
-#[derive(Clone, Copy)]
-struct Case {
-    next: u32,
-    origins: &'static [usize],
-    end: usize,
-    leaves: u32,
-    rows: u32,
-    number: u32,
-    last: usize,
-    ends: Result<Option<usize>, Halt>,
-}
+/// How many rows the cursor gives, on what page it ends, the last origin, and the end.
+type Found = (u32, u32, usize, Result<Option<usize>, Halt>);
 
-const fn two_rows(next: u32, end: usize, leaves: u32) -> Case {
-    Case {
-        next,
-        origins: &[126, 200],
-        end,
-        leaves,
-        rows: 2,
-        number: 0,
-        last: 200,
-        ends: Ok(None),
-    }
-}
+/// The first of two leaves: its next field, its records, and where the last of them leads. The second one is page 1,
+/// with a record at 126, and none behind it. Then how many leaves there should be, and what the cursor gives.
+type Case = (u32, &'static [usize], usize, u32, Found);
+
+const TWO: &[usize] = &[126, 200];
+
+const NONE: &[usize] = &[];
+
+/// No such leaf follows the first, or the second.
+const FIRST: Halt = Halt::Broken(Fault {
+    rule: Rule::Sibling,
+    page: 0,
+});
+
+const SECOND: Halt = Halt::Broken(Fault {
+    rule: Rule::Sibling,
+    page: 1,
+});
+
+/// The records of the first leaf lead to no record.
+const CHAIN: Halt = Halt::Broken(Fault {
+    rule: Rule::RecordChain,
+    page: 0,
+});
+
+const CASES: [Case; 8] = [
+    (1, TWO, SUPREMUM, 2, (3, 1, 126, Ok(None))),
+    (1, TWO, SUPREMUM, 1, (2, 0, 200, Err(FIRST))),
+    (1, TWO, SUPREMUM, 3, (3, 1, 126, Err(SECOND))),
+    (0, TWO, SUPREMUM, 3, (6, 0, 200, Err(FIRST))),
+    (1, TWO, 50, 2, (2, 0, 200, Err(CHAIN))),
+    (9, TWO, SUPREMUM, 2, (2, 0, 200, Err(Halt::Source))),
+    (1, NONE, SUPREMUM, 2, (1, 1, 126, Ok(None))),
+    (FIL_NULL, NONE, SUPREMUM, 1, (0, 0, 0, Ok(None))),
+];
 
 /// The ends of a tree that was walked, as if page 0 were its first leaf.
 fn ends_from_zero(rt: &impl Abort, alloc: Global) -> Result<TreeEnds, Fail> {
@@ -78,11 +89,7 @@ fn put_leaf(
 }
 
 /// How many rows the cursor gives, at most nine, with its number, the last origin and the end.
-fn rows_of<L: Ledger>(
-    file: &mut ChangingPages,
-    cursor: &mut LeafCursor,
-    blank: Blank,
-) -> (u32, u32, usize, Result<Option<usize>, Halt>)
+fn rows_of<L: Ledger>(file: &mut ChangingPages, cursor: &mut LeafCursor, blank: Blank) -> Found
     requires fresh { cursor.old.ended ≡ false }
     requires name { blank.name ≡ L.name }
     requires parts { blank.parts ≡ L.parts }
@@ -99,72 +106,31 @@ fn rows_of<L: Ledger>(
     (9, cursor.number(), last, Ok(Some(last)))
 }
 
+/// What the cursor gives of the two leaves.
+fn found_of(
+    rt: &impl Abort,
+    alloc: Global,
+    ends: &mut TreeEnds,
+    case: &Case,
+) -> Result<Found, Fail> {
+    let (next, origins, end, leaves, _) = *case;
+    let mut page = Page::zeroed(alloc)?;
+    let mut bytes = ByteList::new(alloc);
+    put_leaf(rt, &mut bytes, &mut page, next, origins, end)?;
+    put_leaf(rt, &mut bytes, &mut page, FIL_NULL, &[126], SUPREMUM)?;
+    let mut file = ChangingPages::new(bytes, ByteList::new(alloc), 100);
+    ends.leaves = leaves;
+    let mut cursor = LeafCursor::start(alloc, ends)?;
+    Ok(rows_of::<Brand>(&mut file, &mut cursor, Blank::new(1)))
+}
+
 #[test]
 fn rows_come_leaf_by_leaf(rt: HostRuntime) -> Result<(), Fail> {
-    let alloc = rt.alloc();
-    let mut page = Page::zeroed(alloc)?;
-    let mut ends = ends_from_zero(&rt, alloc)?;
-    for wanted in [
-        Case {
-            rows: 3,
-            number: 1,
-            last: 126,
-            ..two_rows(1, SUPREMUM, 2)
-        },
-        Case {
-            ends: Err(Halt::Broken(Rule::Sibling.at(0))),
-            ..two_rows(1, SUPREMUM, 1)
-        },
-        Case {
-            rows: 3,
-            number: 1,
-            last: 126,
-            ends: Err(Halt::Broken(Rule::Sibling.at(1))),
-            ..two_rows(1, SUPREMUM, 3)
-        },
-        Case {
-            rows: 6,
-            ends: Err(Halt::Broken(Rule::Sibling.at(0))),
-            ..two_rows(0, SUPREMUM, 3)
-        },
-        Case {
-            ends: Err(Halt::Broken(Rule::RecordChain.at(0))),
-            ..two_rows(1, 50, 2)
-        },
-        Case {
-            ends: Err(Halt::Source),
-            ..two_rows(9, SUPREMUM, 2)
-        },
-        Case {
-            origins: &[],
-            rows: 1,
-            number: 1,
-            last: 126,
-            ..two_rows(1, SUPREMUM, 2)
-        },
-        Case {
-            origins: &[],
-            rows: 0,
-            last: 0,
-            ..two_rows(FIL_NULL, SUPREMUM, 1)
-        },
-    ] {
-        let mut bytes = ByteList::new(alloc);
-        put_leaf(
-            &rt,
-            &mut bytes,
-            &mut page,
-            wanted.next,
-            wanted.origins,
-            wanted.end,
-        )?;
-        put_leaf(&rt, &mut bytes, &mut page, FIL_NULL, &[126], SUPREMUM)?;
-        let mut file = ChangingPages::new(bytes, ByteList::new(alloc), 100);
-        ends.leaves = wanted.leaves;
-        let mut cursor = LeafCursor::start(alloc, &ends)?;
-        let found = rows_of::<Brand>(&mut file, &mut cursor, Blank::new(1));
-        let wanted = (wanted.rows, wanted.number, wanted.last, wanted.ends);
-        assert_eq!(rt; found, wanted);
+    let mut ends = ends_from_zero(&rt, rt.alloc())?;
+    for case in &CASES {
+        let (next, _, _, leaves, wanted) = *case;
+        let found = found_of(&rt, rt.alloc(), &mut ends, case)?;
+        assert!(rt; found == wanted, "{next} {leaves}");
     }
     Ok(())
 }

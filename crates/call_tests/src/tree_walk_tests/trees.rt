@@ -14,11 +14,8 @@ fn a_tree_of_three_levels_has_these_ends(rt: HostRuntime) -> Result<(), Fail> {
     let mut file = file_with(&rt, alloc, &THREE_LEVELS, &[])?;
     let space = audited::<Brand>(alloc, &mut file, Blank::new(1))?;
     let ends = walked::<Brand>(alloc, &space, &mut file, Blank::new(1))??;
-    assert_eq!(rt;
-        (ends.index_id, ends.root_level, ends.first_leaf, ends.leaves),
-        (41, 2, 6, 2)
-    );
-    assert_eq!(rt; (ends.leaf_segment, ends.top_segment), (1, 0));
+    assert!(rt; (ends.index_id, ends.root_level, ends.first_leaf, ends.leaves) == (41, 2, 6, 2));
+    assert!(rt; (ends.leaf_segment, ends.top_segment) == (1, 0));
     Ok(())
 }
 
@@ -30,9 +27,6 @@ fn names_a_broken_rule(rt: HostRuntime) -> Result<(), Fail> {
     let mut file = file_with(&rt, alloc, &THREE_LEVELS, &edits)?;
     let space = audited::<Brand>(alloc, &mut file, Blank::new(1))?;
     let answer = walked::<Brand>(alloc, &space, &mut file, Blank::new(1))?;
-    assert_eq!(rt;
-        answer.map(|ends| ends.leaves),
-        Err(Halt::Broken(Rule::Sibling.at(6)))
-    );
+    assert!(rt; answer.map(|ends| ends.leaves) == Err(Halt::Broken(Rule::Sibling.at(6))));
     Ok(())
 }

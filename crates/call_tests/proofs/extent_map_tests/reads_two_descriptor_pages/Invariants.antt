@@ -2,6 +2,3 @@ use Rattle.call_tests.proofs.extent_map_tests.reads_two_descriptor_pages.Given a
 
 abbrev pub ghosts-read : goal.ghosts-read
 ghosts-read g a = record { name = a.blank.name; parts = a.blank.parts }
-
-abbrev pub ghosts-followed : goal.ghosts-followed
-ghosts-followed g a = record { name = a.blank.name; parts = a.blank.parts }
