@@ -9,7 +9,7 @@ use Rattle.page_source.specs.Pages.{page_of, page_count}
 use Rattle.page_source.specs.Lists.{AreDistinct}
 use Rattle.page_source.specs.Verdict.{Reaches}
 use Rattle.page_source.proofs.Members.{distinct_below}
-use Rattle.page_source.proofs.Decided.{IsDecided, given_decided, number_decided, below_decided, most_decided, all_decided}
+use Rattle.page_source.proofs.Decided.{given_decided, number_decided, below_decided, most_decided, all_decided}
 use Rattle.page_source.proofs.Answered.{HasAnswer, All-answered}
 use Rattle.page_source.proofs.Answered.{EachOf-answered, Along-answered}
 use Rattle.fil_frame.specs.Frame.{space_of}

@@ -1,25 +1,24 @@
 -- Each condition of the checks of a space is decided.
-use Rattle.std.proofs.Common.{◌≡◌, ◌≢◌, ℕ, ◌+◌, ◌*◌, ◌/◌, ◌%◌, ◌<◌, ◌≤◌, ◌⊎◌, Bool, true, false, List, [], ◌∷◌, length, map, All}
-use Rattle.std.proofs.Common.{Option, Some, None, refl, ap, inl, inr, arith}
-use Rattle.std.specs.List.{Contains}
-use Rattle.page_source.specs.Pages.{page_of, page_count, num, fil_null}
+use Rattle.std.proofs.Common.{◌≡◌, ◌≢◌, ℕ, ◌+◌, ◌*◌, ◌/◌, ◌%◌, ◌⊎◌, Bool, true, false, List, [], ◌∷◌, length, map}
+use Rattle.std.proofs.Common.{Option, Some, None, ap, inl, inr}
+use Rattle.page_source.specs.Pages.{page_of, num, fil_null}
 use Rattle.page_source.specs.Lists.{AreDistinct, HaveSameMembers}
 use Rattle.page_source.proofs.Decided.{IsDecided, same_decided, both_decided, three_decided, either_decided, not_decided}
 use Rattle.page_source.proofs.Decided.{given_decided, number_decided, below_decided, most_decided, truth_decided}
-use Rattle.page_source.proofs.Decided.{all_decided, pairs_decided, contains_decided, members_decided, SomeList}
+use Rattle.page_source.proofs.Decided.{pairs_decided, contains_decided, members_decided}
 use Rattle.page_source.proofs.Decided.{list_decided}
 use Rattle.fil_frame.specs.declared.frame.SumKind.{SumKind}
 use Rattle.fil_frame.specs.declared.frame.SumKind.TheVariants.{Crc32, Innodb, Fixed}
 use Rattle.fil_frame.specs.Sums.{HasSums, HasSomeSums, first_sum_of, second_sum_of}
 use Rattle.fil_frame.specs.Kinds.{allocated_kind, blob_kind, index_kind, inode_kind}
-use Rattle.fil_frame.specs.Frame.{IsFramed, Framed, kind_of, space_of}
+use Rattle.fil_frame.specs.Frame.{IsFramed, kind_of, space_of}
 use Rattle.space_header.specs.declared.address.Address.{Address}
 use Rattle.space_header.specs.declared.address.Base.{Base}
 use Rattle.space_header.specs.declared.address.Node.{Node}
 use Rattle.space_header.specs.Header.{IsNull, extent_address, head_of, size_of, space_flags}
-use Rattle.space_header.specs.Linked.{PointsTo, Leads, Linked, node_in}
+use Rattle.space_header.specs.Linked.{PointsTo, Leads, node_in}
 use Rattle.extent_map.specs.Head.{HasFlags, IsSize, IsLimit}
-use Rattle.extent_map.specs.Extents.{is_used, is_fragment_extent, used_count, used_in, extent_of, extent_state, IsUsed}
+use Rattle.extent_map.specs.Extents.{is_used, is_fragment_extent, extent_of, extent_state, IsUsed}
 use Rattle.extent_map.specs.Descriptors.{IsState, FitsUse, HasSystemPages}
 use Rattle.inode_segments.specs.InodeChecks.{IsAddress, IsStep, IsFilled, EndsAfter, IsNewId}
 use Rattle.inode_segments.specs.Inodes.{segments, segment_id}

@@ -1,12 +1,11 @@
 -- Each condition of the checks of an index page is decided.
-use Rattle.std.proofs.Common.{◌≡◌, ◌≢◌, ◌==◌, ℕ, zero, suc, ◌+◌, ◌-◌, ◌*◌, ◌<◌, ◌≤◌, ◌⊎◌, Bool, true, false, List, [], ◌∷◌, ◌++◌}
+use Rattle.std.proofs.Common.{◌≡◌, ◌≢◌, ℕ, zero, suc, ◌+◌, ◌-◌, ◌*◌, ◌<◌, Bool, true, false, List, [], ◌∷◌, ◌++◌}
 use Rattle.std.proofs.Common.{length, take, drop, map, get_or, All, refl, sym, ap, ◌∙◌, subst, inl, inr, arith}
 use Rattle.std.specs.Prelude.{codes, slice_range}
 use Rattle.std.specs.List.{AllPairs}
 use Rattle.std.specs.declared.cmp.Ordering.{Ordering}
 use Rattle.std.specs.declared.cmp.Ordering.TheVariants.{Less, Equal, Greater}
-use Rattle.std.proofs.lemmas.Bool.{false≢true, true≢false}
-use Rattle.page_source.specs.Lists.{AreDistinct}
+use Rattle.std.proofs.lemmas.Bool.{false≢true}
 use Rattle.page_source.proofs.Decided.{IsDecided, same_decided, both_decided, three_decided, either_decided, not_decided}
 use Rattle.page_source.proofs.Decided.{given_decided, number_decided, below_decided, most_decided, truth_decided}
 use Rattle.page_source.proofs.Decided.{text_decided, all_decided, pairs_decided, some_decided, every_decided}
@@ -17,9 +16,9 @@ use Rattle.compact_record.specs.Reading.{head_length, has_long_length, is_extern
 use Rattle.compact_record.specs.Reading.{field_count, FieldIsSpelled, IsSpelled, key_of, key_kinds}
 use Rattle.index_page.specs.Header.{infimum, supremum, slot_count, heap_top, heap_field, heap_count, first_free}
 use Rattle.index_page.specs.Header.{record_count, records_of, free_of, heap_of, slot_at}
-use Rattle.index_page.specs.Page.{HasHeader, HasEnds, IsOrigin, IsHeapNumber, Leads, IsChain, LeadsToEnd, IsFreeList}
+use Rattle.index_page.specs.Page.{HasHeader, HasEnds, IsOrigin, IsHeapNumber, Leads, IsChain, LeadsToEnd}
 use Rattle.index_page.specs.Page.{HasHeapNumbers, HasGroupSize, IsGroup, Cuts, IsDirectory, HasKind, HasRoom, AreApart}
-use Rattle.index_page.specs.Page.{LieApart, MayBeEmpty, is_lowest_first, IsRise, KeysRise}
+use Rattle.index_page.specs.Page.{LieApart, MayBeEmpty, IsRise, KeysRise}
 use Rattle.index_page.specs.PageChecks.{HasFreeList}
 
 pub header_decided : (page : List ℕ) → IsDecided (HasHeader page)

@@ -1,6 +1,6 @@
 -- The checks of trees and segments have an answer for each file and table.
-use Rattle.std.proofs.Common.{◌≡◌, ◌≢◌, ◌==◌, ◌-◌, ℕ, suc, ◌+◌, ◌<◌, ◌≤◌, Bool, true, false, List, [], length, get_or, Option}
-use Rattle.std.proofs.Common.{Some, None, refl, sym, ap, ◌∙◌, subst, inl, inr, arith}
+use Rattle.std.proofs.Common.{◌≡◌, ◌-◌, ℕ, Bool, true, false, List, length, get_or, Option}
+use Rattle.std.proofs.Common.{Some, None, sym, ap, subst, inl}
 use Rattle.std.proofs.lemmas.Bool.{false≢true}
 use Rattle.page_source.specs.Pages.{page_of, num}
 use Rattle.page_source.proofs.Decided.{IsDecided, same_decided, both_decided, three_decided, not_decided, given_decided}
@@ -13,7 +13,7 @@ use Rattle.space_header.specs.Header.{size_of}
 use Rattle.inode_segments.specs.Inodes.{segments, segment_count}
 use Rattle.space_audit.specs.declared.owner.Owner.{Owner}
 use Rattle.space_audit.specs.declared.owner.Owner.TheVariants as owners
-use Rattle.space_audit.specs.Owners.{owner_of, IsUsedBy}
+use Rattle.space_audit.specs.Owners.{owner_of}
 use Rattle.space_audit.specs.Marks.{is_in}
 use Rattle.space_audit.specs.Space.{IsPageOf}
 use Rattle.column_values.specs.Types.{Fields}
@@ -24,7 +24,7 @@ use Rattle.index_page.specs.Page.{is_lowest_first, HasMarkAt, HasMinimumMark}
 use Rattle.index_page.specs.PageChecks.{PageChecks}
 use Rattle.tree_walk.specs.Index.{Index, page_in}
 use Rattle.tree_walk.specs.Segments.{NamesSegments, leaf_segment, top_segment}
-use Rattle.tree_walk.specs.Place.{Spot, IsPagePlace, IsBeside, HasSpotLevel, HasLow, HasLastBelow, HasSeparators, NodeAt}
+use Rattle.tree_walk.specs.Place.{Spot, IsPagePlace, HasSpotLevel, HasLow, HasLastBelow, HasSeparators, NodeAt}
 use Rattle.tree_walk.specs.Place.{SpotAt, is_leaf_level}
 use Rattle.tree_walk.specs.Records.{record_key}
 use Rattle.tree_walk.specs.TreeChecks.{IsRootPlace, HasNewSegments, TreeChecks}

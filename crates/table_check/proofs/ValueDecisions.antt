@@ -1,6 +1,6 @@
 -- Whether bytes spell a value is decided for each type, and whether they are a text.
-use Rattle.std.proofs.Common.{◌≡◌, ◌≢◌, ◌-◌, ◌*◌, ◌%◌, ℕ, zero, suc, ◌+◌, ◌^◌, ◌<◌, ◌≤◌, ◌⊎◌, Bool, true, false, List, []}
-use Rattle.std.proofs.Common.{◌∷◌, ◌++◌, length, take, drop, get_or, replicate, All, IfSome, Option, Some, None, refl, sym, ap}
+use Rattle.std.proofs.Common.{◌≡◌, ◌-◌, ◌*◌, ◌%◌, ℕ, zero, suc, ◌+◌, ◌^◌, ◌<◌, ◌≤◌, ◌⊎◌, true, false, List, []}
+use Rattle.std.proofs.Common.{◌∷◌, ◌++◌, length, take, drop, replicate, All, IfSome, Option, Some, None, refl, sym, ap}
 use Rattle.std.proofs.Common.{◌∙◌, subst, inl, inr, arith, length-append}
 use Rattle.std.specs.Prelude.{ℤ, pos, negsuc, nat_abs, slice_index}
 use Rattle.std.specs.List.{concat}
@@ -8,18 +8,18 @@ use Rattle.std.proofs.lemmas.List.Elements.{All-nil, All-cons, All-head, All-tai
 use Rattle.page_source.specs.Pages.{num}
 use Rattle.page_source.proofs.Decided.{IsDecided, same_decided, both_decided, three_decided, either_decided, not_decided}
 use Rattle.page_source.proofs.Decided.{given_decided, number_decided, below_decided, most_decided, text_decided}
-use Rattle.page_source.proofs.Decided.{all_decided, some_decided}
+use Rattle.page_source.proofs.Decided.{some_decided}
 use Rattle.column_values.specs.declared.kind.ColumnType.{ColumnType}
 use Rattle.column_values.specs.declared.kind.ColumnType.TheVariants as types
 use Rattle.column_values.specs.declared.value.Value.{Value}
 use Rattle.column_values.specs.declared.value.Value.TheVariants as values
 use Rattle.column_values.specs.Lengths.{fraction_length}
-use Rattle.column_values.specs.Characters.{IsIn, IsFurther, IsStartOfThree, IsStartOfFour, IsCharacter, HasCharacters}
+use Rattle.column_values.specs.Characters.{IsIn, IsStartOfThree, IsStartOfFour, IsCharacter, HasCharacters}
 use Rattle.column_values.specs.Characters.{IsCharacterText, IsTextUpTo, text_limit, IsTextOfKind}
 use Rattle.column_values.specs.Moments.{fraction_unit, IsFraction, SpellsFraction, packed_moment, IsMoment, SpellsDateTime}
-use Rattle.column_values.specs.Moments.{IsTimestamp, SpellsTimestamp, year_of, SpellsYear}
+use Rattle.column_values.specs.Moments.{SpellsTimestamp, year_of}
 use Rattle.column_values.specs.Decimals.{decimal_bytes, SpellsDecimal}
-use Rattle.column_values.specs.Spell.{int_of, packed_date, SpellsDate, IsTrimmed, SpellsChar, Spell, IsSpelling}
+use Rattle.column_values.specs.Spell.{int_of, packed_date, SpellsDate, SpellsChar, Spell, IsSpelling}
 
 -- characters
 within : (low high byte : ℕ) → IsDecided (IsIn low high byte)

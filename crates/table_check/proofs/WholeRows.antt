@@ -39,7 +39,7 @@ use Rattle.tree_walk.proofs.LeafFacts.{leaf_facts}
 use Rattle.table_check.specs.AnyBytes.{takes_any_bytes, field_takes_any, TakeAnyBytes}
 use Rattle.table_check.specs.Trees.{index_in, clustered_tree, all_tree_pages}
 use Rattle.table_check.specs.Taken.{AreExactly, IsClustered, IsReached}
-use Rattle.table_check.specs.Values.{bytes_at, ValueChecks, FieldChecks, RecordChecks, RowChecks, live_rows}
+use Rattle.table_check.specs.Values.{bytes_at, ValueChecks, FieldChecks, RecordChecksBy, RecordChecks, RowChecks, live_rows}
 use Rattle.table_check.specs.Values.{pages_of_value, pages_of_field, pages_of_part, pages_of_record, pages_of_row}
 use Rattle.table_check.specs.Values.{pages_of_rows, all_chain_pages}
 use Rattle.table_check.specs.First.{ValueChecksOf}
@@ -140,7 +140,7 @@ module _ (page : List ℕ) (origin : ℕ) (fields : Fields) (size : length page 
   part_none file zero within = refl
   part_none file (suc k) within =
       let e : suc k ≡ k + 1 = omega arith in
-      ap (pages_of_part file page origin fields) e ∙ part_more file 0 0 page origin fields (λ n. false) k
+      ap (pages_of_part file page origin fields) e ∙ part_more file page origin fields k
       ∙ ap (λ (xs : List ℕ). xs ++ pages_of_field file (field_at fields k).kind page (place_of page origin fields k))
       (part_none file k (omega arith))
       ∙ pages_of k (omega arith) file (field_at fields k).kind
@@ -148,13 +148,13 @@ module _ (page : List ℕ) (origin : ℕ) (fields : Fields) (size : length page 
   -- the same of the record
   pub record_checked : (file : List ℕ) (segment leaf : ℕ) (taken : ℕ → Bool)
       → RecordChecks file segment leaf page origin fields taken None
-  unfolding RecordChecks
+  unfolding RecordChecksBy
   record_checked file segment leaf taken i within =
       field_checked i within file segment leaf (seen taken (pages_of_part file page origin fields i))
 
   pub record_none : (file : List ℕ) → pages_of_record file page origin fields ≡ []
   record_none file =
-      whole_record file 0 0 page origin fields (λ n. false) ∙ part_none file (field_count fields) (omega arith)
+      whole_record file page origin fields ∙ part_none file (field_count fields) (omega arith)
 
 -- a page of the file is whole
 page_whole : (file : List ℕ) (n : ℕ) → n < page_count file → length (page_of file n) ≡ 16384

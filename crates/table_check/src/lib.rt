@@ -7,6 +7,7 @@ mod ends;
 pub mod laws;
 mod leaf;
 mod record;
+mod refetch;
 mod rows;
 mod table;
 mod trees;

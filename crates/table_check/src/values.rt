@@ -20,6 +20,7 @@ ghost use Rattle.table_check.specs.Leaf.{RecordChecksOn, pages_of_record_on};
 use crate::any_bytes::need_no_look;
 use crate::leaf::{Leaf, Leaves};
 use crate::record::check_record;
+use crate::refetch::fetch_leaves;
 use crate::rows::LiveRows;
 use compact_record::Located;
 use page_source::{Halt, PAGE_SIZE, Page, PageSource, Rule, Steps, Stop};
@@ -101,7 +102,7 @@ pub(crate) fn check_rows<S: PageSource, L: Ledger>(
 }
 
 /// Checks the values of all rows of a table whose trees are these pages. Where all values lie whole on their leaves, and
-/// any bytes spell one, there is nothing to be checked, and no page is fetched.
+/// any bytes spell one, none can be wrong: the leaves are fetched, and not looked at.
 pub(crate) fn check_values<S: PageSource, L: Ledger>(
     alloc: Global,
     source: &mut S,
@@ -127,8 +128,10 @@ pub(crate) fn check_values<S: PageSource, L: Ledger>(
 {
     let _ = schema.indexes();
     let fields = schema.fields(alloc, 0, true)?;
+    let mut page = Page::zeroed(alloc)?;
     rows_can_be_read();
     if need_no_look(clustered, &fields) {
+        fetch_leaves(source, space, clustered, &mut page, steps)?;
         return Ok(0);
     }
     let leaves = Leaves {
@@ -138,7 +141,6 @@ pub(crate) fn check_values<S: PageSource, L: Ledger>(
     };
     let mut rows = LiveRows::start(alloc, clustered)?;
     let mut located = Located::with_room(alloc, fields.fields().len() as u32)?;
-    let mut page = Page::zeroed(alloc)?;
     Ok(check_rows(
         source,
         &leaves,
