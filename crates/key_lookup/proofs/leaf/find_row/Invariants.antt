@@ -1,6 +1,6 @@
 use Rattle.std.proofs.Common.{◌≡◌, ℕ}
 use Rattle.tree_walk.specs.Index.{Index, page_in}
-use Rattle.tree_walk.proofs.Records.{HasPassed}
+use Rattle.tree_walk.specs.Records.{HasPassed}
 use Rattle.key_lookup.proofs.Found.{NoneBefore}
 use Rattle.key_lookup.proofs.leaf.find_row.Given as goal
 
