@@ -92,6 +92,17 @@ fn no_bytes_take_no_page(rt: HostRuntime) -> Result<(), Fail> {
 }
 
 #[test]
+fn one_byte_takes_one_page(rt: HostRuntime) -> Result<(), Fail> {
+    let alloc = rt.alloc();
+    let mut store = sized(alloc, 0)?;
+    let mut page = Page::zeroed(alloc)?;
+    assert!(rt; write_chain(&mut store, 23, &[4], &[7], &mut page) == Ok(()));
+    let part = [0, 0, 0, 1, 0xFF, 0xFF, 0xFF, 0xFF, 7, 0];
+    assert!(rt; &page.bytes()[38..48] == part.as_slice());
+    Ok(())
+}
+
+#[test]
 fn a_value_is_written_and_read(rt: HostRuntime) -> Result<(), Fail> {
     let alloc = rt.alloc();
     let mut page = Page::zeroed(alloc)?;
