@@ -1,5 +1,5 @@
 -- A text that grew piece by piece.
-use Rattle.std.proofs.Common.{IsOk, [], refl, ◌≡◌, ℕ, ◌+◌, suc, ◌<◌, ◌≤◌, get_or, flat_map, drop, Result, Ok, Err}
+use Rattle.std.proofs.Common.{[], refl, ◌≡◌, ℕ, ◌+◌, suc, ◌<◌, ◌≤◌, get_or, flat_map, drop, Result, Ok, Err}
 use Rattle.std.proofs.Common.{IsErr, ◌∷◌, List, ◌++◌, length, take, Option, Some, None, sym, ap, ◌∙◌, subst, arith}
 use Rattle.std.proofs.Common.{append_assoc, length-append}
 use Rattle.std.proofs.Math.Seq.{take-append-add, take-length, split_at}

@@ -1,6 +1,6 @@
 -- Further files in memory: one whose pages are held or zeros, one that keeps which pages were fetched, and one that
--- changes.
-use Rattle.std.specs.Prelude.{◌≡◌, ℕ, Bool, if◌then◌else◌, nat_lt, List, [], ◌∷◌, ◌++◌, length, take}
+-- changes. And what is seen of real files.
+use Rattle.std.specs.Prelude.{◌≡◌, ℕ, Option, Bool, if◌then◌else◌, nat_lt, List, [], ◌∷◌, ◌++◌, length, take}
 use Rattle.page_source.specs.Pages.{page_size}
 use Rattle.page_source.specs.Faults.{one_more, count_after}
 use Rattle.page_source.specs.Objects.{PageMap, held_page}
@@ -47,3 +47,14 @@ after_seen file failed = record file { made = one_more file.made; faults = count
 pub record FileCounts : Type 0 where
   pub faults : ℕ
   pub fetches : ℕ
+
+-- a real file of pages: the word that names it, if there is one, and what it counts
+pub record NamedPages : Type 0 where
+  pub word : Option (List ℕ)
+  pub faults : ℕ
+  pub fetches : ℕ
+
+-- a real text or store
+pub record NamedObject : Type 0 where
+  pub word : Option (List ℕ)
+  pub faults : ℕ

@@ -1,8 +1,8 @@
 //! Real files as the outside objects. Each opens its file at its first call, counts its faults, and
-//! tells nothing of what the file holds: all that is seen of it is the count, and of a file of pages how many were
-//! asked for.
+//! tells nothing of what the file holds: all that is seen of it is the word that names it, the count, and of a file of
+//! pages how many were asked for.
 
-ghost use Rattle.std.specs.Prelude.{◌≡◌, ◌+◌, ◌<◌, ◌≤◌, ℕ, length, IfOk, None, is_err};
+ghost use Rattle.std.specs.Prelude.{◌≡◌, ◌+◌, ◌<◌, ◌≤◌, List, ℕ, Option, option_map, length, IfOk, None, is_err};
 ghost use Rattle.page_source.specs.Faults.{HasCause, AsksOne, count_after, one_more};
 ghost use Rattle.page_source.specs.Objects.{untold};
 
@@ -23,36 +23,71 @@ enum Opening {
     Anew,
 }
 
-/// The file that a word of the command line names. A word that is missing or isn't UTF-8 names none.
+/// The word of the command line that names a file, and how this is opened. A word that is missing or isn't UTF-8 names
+/// none.
 #[derive(Drop)]
-struct NamedFile<'a, R: Files> {
+struct FileName<'a, R: Files> {
     rt: &'a R,
     word: Option<&'a [u8]>,
     opening: Opening,
+}
+
+impl<R: Files> FileName<'_, R> {
+    fn open(&self) -> io::Result<R::File> {
+        let Some(word) = self.word else {
+            return Err(Error::from(ErrorKind::NotFound));
+        };
+        let Ok(path) = str::from_utf8(word) else {
+            return Err(Error::from(ErrorKind::InvalidInput));
+        };
+        let mut how = OpenOptions::new();
+        match self.opening {
+            Opening::ForReading => how.read(true),
+            Opening::Anew => how.write(true).create(true).truncate(true),
+        };
+        how.open(self.rt, path)
+    }
+}
+
+/// The file that stands open, or at the first call the one that is opened.
+fn opened<'f, R: Files>(
+    file: &'f mut Option<R::File>,
+    name: &FileName<R>,
+) -> io::Result<&'f mut R::File> {
+    if file.is_none() {
+        *file = Some(name.open()?);
+    }
+    file.as_mut().ok_or(Error::from(ErrorKind::NotFound))
+}
+
+/// A file by its name, seen as the word. It is opened by the first call.
+#[derive(Drop)]
+struct NamedFile<'a, R: Files> {
+    name: FileName<'a, R>,
     file: Option<R::File>,
 }
 
+impl<'a, R: Files> Model for NamedFile<'a, R> {
+    ghost Value = { Option (List ℕ) };
+
+    ghost view = { λ s. option_map (λ bytes. bytes.now) s.name.word };
+}
+
 impl<'a, R: Files> NamedFile<'a, R> {
-    fn new(rt: &'a R, word: Option<&'a [u8]>, opening: Opening) -> Self {
+    fn new(rt: &'a R, word: Option<&'a [u8]>, opening: Opening) -> Self
+        ensures { result ≡ option_map (λ bytes. bytes.now) word.entry }
+    {
         NamedFile {
-            rt,
-            word,
-            opening,
+            name: FileName { rt, word, opening },
             file: None,
         }
     }
 
-    /// The file that stands open, or at the first call the one that is opened.
-    fn open(&mut self) -> io::Result<&mut R::File> {
-        if self.file.is_none() {
-            self.file = Some(open_word(self.rt, self.word, self.opening)?);
-        }
-        self.file.as_mut().ok_or(Error::from(ErrorKind::NotFound))
-    }
-
     /// A folder can be opened and has a size of its own, but no pages.
-    fn count_pages(&mut self) -> io::Result<u32> {
-        let file = self.open()?;
+    fn count_pages(&mut self) -> io::Result<u32>
+        ensures { self.new ≡ self.old }
+    {
+        let file = opened(&mut self.file, &self.name)?;
         if file.metadata()?.is_dir() {
             return Err(Error::from(ErrorKind::IsADirectory));
         }
@@ -60,24 +95,31 @@ impl<'a, R: Files> NamedFile<'a, R> {
         Ok(u32::try_from(pages).unwrap_or(u32::MAX))
     }
 
-    fn read_page(&mut self, n: u32, page: &mut Page) -> io::Result<()> {
-        let file = self.open()?;
+    fn read_page(&mut self, n: u32, page: &mut Page) -> io::Result<()>
+        ensures { self.new ≡ self.old }
+    {
+        let file = opened(&mut self.file, &self.name)?;
         file.seek(SeekFrom::Start(PAGE_SIZE as u64 * u64::from(n)))?;
         page.fill_from(file)
     }
 
     fn read_some(&mut self, buffer: &mut [u8]) -> io::Result<usize>
-        ensures { IfOk result (λ k. k ≤ length buffer.new) }
+        ensures same { self.new ≡ self.old }
+        ensures bound { IfOk result (λ k. k ≤ length buffer.new) }
     {
-        read_some(self.open()?, buffer)
+        read_some(opened(&mut self.file, &self.name)?, buffer)
     }
 
-    fn set_pages(&mut self, pages: u32) -> io::Result<()> {
-        self.open()?.set_len(PAGE_SIZE as u64 * u64::from(pages))
+    fn set_pages(&mut self, pages: u32) -> io::Result<()>
+        ensures { self.new ≡ self.old }
+    {
+        opened(&mut self.file, &self.name)?.set_len(PAGE_SIZE as u64 * u64::from(pages))
     }
 
-    fn write_page(&mut self, n: u32, page: &Page) -> io::Result<()> {
-        let file = self.open()?;
+    fn write_page(&mut self, n: u32, page: &Page) -> io::Result<()>
+        ensures { self.new ≡ self.old }
+    {
+        let file = opened(&mut self.file, &self.name)?;
         file.seek(SeekFrom::Start(PAGE_SIZE as u64 * u64::from(n)))?;
         file.write_all(page.bytes())
     }
@@ -96,21 +138,6 @@ fn read_some<F: Read>(file: &mut F, buffer: &mut [u8]) -> io::Result<usize>
     Err(Error::from(ErrorKind::Interrupted))
 }
 
-fn open_word<R: Files>(rt: &R, word: Option<&[u8]>, opening: Opening) -> io::Result<R::File> {
-    let Some(word) = word else {
-        return Err(Error::from(ErrorKind::NotFound));
-    };
-    let Ok(path) = str::from_utf8(word) else {
-        return Err(Error::from(ErrorKind::InvalidInput));
-    };
-    let mut how = OpenOptions::new();
-    match opening {
-        Opening::ForReading => how.read(true),
-        Opening::Anew => how.write(true).create(true).truncate(true),
-    };
-    how.open(rt, path)
-}
-
 /// A file that is read page by page, of 16,384 bytes each.
 #[derive(Drop)]
 pub struct FilePages<'a, R: Files> {
@@ -120,17 +147,17 @@ pub struct FilePages<'a, R: Files> {
 }
 
 impl<'a, R: Files> Model for FilePages<'a, R> {
-    ghost use Rattle.page_source.specs.Sources.{FileCounts};
+    ghost use Rattle.page_source.specs.Sources.{NamedPages};
 
-    ghost Value = { FileCounts };
+    ghost Value = { NamedPages };
 
-    ghost view = { λ s. record { faults = s.faults; fetches = s.fetches } };
+    ghost view = { λ s. record { word = s.named; faults = s.faults; fetches = s.fetches } };
 }
 
 impl<'a, R: Files> FilePages<'a, R> {
     /// The file that the word names; none where the word is missing.
     pub fn new(rt: &'a R, word: Option<&'a [u8]>) -> Self
-        ensures { result ≡ record { faults = 0; fetches = 0 } }
+        ensures { result ≡ record { word = option_map (λ bytes. bytes.now) word.entry; faults = 0; fetches = 0 } }
     {
         FilePages {
             named: NamedFile::new(rt, word, Opening::ForReading),
@@ -143,9 +170,9 @@ impl<'a, R: Files> FilePages<'a, R> {
 impl<R: Files> PageSource for FilePages<'_, R> {
     ghost content = { λ s. None };
 
-    ghost faults = { λ count. count.faults };
+    ghost faults = { λ file. file.faults };
 
-    ghost fetches = { λ count. count.fetches };
+    ghost fetches = { λ file. file.fetches };
 
     fn pages(&mut self) -> Result<u32, Failed>
         ensures count { self.new ≡ record self.old { faults = count_after self.old.faults (is_err result) } }
@@ -163,7 +190,7 @@ impl<R: Files> PageSource for FilePages<'_, R> {
         steps: &mut Steps<L>,
     ) -> Result<(), Failed>
         ensures step { steps.new ≡ steps.old + 1 }
-        ensures count { self.new ≡ record {
+        ensures count { self.new ≡ record self.old {
           faults = count_after self.old.faults (is_err result);
           fetches = one_more self.old.fetches;
         } }
@@ -185,15 +212,17 @@ pub struct FileBytes<'a, R: Files> {
 }
 
 impl<'a, R: Files> Model for FileBytes<'a, R> {
-    ghost Value = { ℕ };
+    ghost use Rattle.page_source.specs.Sources.{NamedObject};
 
-    ghost view = { λ s. s.faults };
+    ghost Value = { NamedObject };
+
+    ghost view = { λ s. record { word = s.named; faults = s.faults } };
 }
 
 impl<'a, R: Files> FileBytes<'a, R> {
     /// The file that the word names; none where the word is missing.
     pub fn new(rt: &'a R, word: Option<&'a [u8]>) -> Self
-        ensures { result ≡ 0 }
+        ensures { result ≡ record { word = option_map (λ bytes. bytes.now) word.entry; faults = 0 } }
     {
         FileBytes {
             named: NamedFile::new(rt, word, Opening::ForReading),
@@ -205,13 +234,13 @@ impl<'a, R: Files> FileBytes<'a, R> {
 impl<R: Files> ByteSource for FileBytes<'_, R> {
     ghost left = { λ s. None };
 
-    ghost faults = { λ count. count };
+    ghost faults = { λ file. file.faults };
 
     fn read(&mut self, buffer: &mut [u8]) -> Result<usize, Failed>
         requires { 0 < length buffer.old }
         ensures bound { IfOk result (λ k. k ≤ length buffer.new) }
-        ensures count { self.new ≡ count_after self.old (is_err result) }
-        ensures cause { HasCause self.old self.new result }
+        ensures count { self.new ≡ record self.old { faults = count_after self.old.faults (is_err result) } }
+        ensures cause { HasCause self.old.faults self.new.faults result }
     {
         let done = self.named.read_some(buffer);
         counted(&mut self.faults, done)
@@ -226,15 +255,17 @@ pub struct FileStore<'a, R: Files> {
 }
 
 impl<'a, R: Files> Model for FileStore<'a, R> {
-    ghost Value = { ℕ };
+    ghost use Rattle.page_source.specs.Sources.{NamedObject};
 
-    ghost view = { λ s. s.faults };
+    ghost Value = { NamedObject };
+
+    ghost view = { λ s. record { word = s.named; faults = s.faults } };
 }
 
 impl<'a, R: Files> FileStore<'a, R> {
     /// The file that the word names; none where the word is missing.
     pub fn new(rt: &'a R, word: Option<&'a [u8]>) -> Self
-        ensures { result ≡ 0 }
+        ensures { result ≡ record { word = option_map (λ bytes. bytes.now) word.entry; faults = 0 } }
     {
         FileStore {
             named: NamedFile::new(rt, word, Opening::Anew),
@@ -246,19 +277,19 @@ impl<'a, R: Files> FileStore<'a, R> {
 impl<R: Files> PageStore for FileStore<'_, R> {
     ghost told = { λ s. untold };
 
-    ghost faults = { λ count. count };
+    ghost faults = { λ file. file.faults };
 
     fn set_size(&mut self, pages: u32) -> Result<(), Failed>
-        ensures count { self.new ≡ count_after self.old (is_err result) }
-        ensures cause { HasCause self.old self.new result }
+        ensures count { self.new ≡ record self.old { faults = count_after self.old.faults (is_err result) } }
+        ensures cause { HasCause self.old.faults self.new.faults result }
     {
         let done = self.named.set_pages(pages);
         counted(&mut self.faults, done)
     }
 
     fn put(&mut self, n: u32, page: &Page) -> Result<(), Failed>
-        ensures count { self.new ≡ count_after self.old (is_err result) }
-        ensures cause { HasCause self.old self.new result }
+        ensures count { self.new ≡ record self.old { faults = count_after self.old.faults (is_err result) } }
+        ensures cause { HasCause self.old.faults self.new.faults result }
     {
         let done = self.named.write_page(n, page);
         counted(&mut self.faults, done)
