@@ -6,4 +6,5 @@ pub mod Outcome
 pub mod Run
 pub mod Build
 pub mod Sample
+pub mod Program
 pub mod Answers

@@ -1,14 +1,10 @@
 //! The whole program as one call over the objects that reach outside.
 
-ghost use Rattle.std.specs.Prelude.{◌≡◌, ◌↔◌, ℕ};
 ghost use Rattle.page_source.specs.Objects.{IsFresh};
-ghost use Rattle.ibd_cli.specs.Forms.{IsForm, HasNoForm, AsksNoTable, AsksNoBuild, AsksNoSample, key_word};
-ghost use Rattle.ibd_cli.specs.Lines.{status_line};
-ghost use Rattle.ibd_cli.specs.Causes.{Reports};
+ghost use Rattle.ibd_cli.specs.Forms.{IsForm};
 ghost use Rattle.ibd_cli.specs.Answers.{ServesFile};
 ghost use Rattle.ibd_cli.specs.Run.{Serves};
-ghost use Rattle.ibd_cli.specs.Build.{ServesBuild};
-ghost use Rattle.ibd_cli.specs.Sample.{ServesSample};
+ghost use Rattle.ibd_cli.specs.Program.{Runs};
 
 use crate::build::build_file;
 use crate::check::check_file;
@@ -30,7 +26,8 @@ use std::sync::ledger::Ledger;
 use table_check::laws::{checks_are_validity, first_has_one_answer};
 
 /// Does what the words ask for, and answers how it ended. The words are those of the command line
-/// without the program's name; `file`, `schema` and `rows` are read, `out`, `err` and `target` written.
+/// without the program's name; `file`, `schema` and `rows` are read, `out`, `err` and `target` written. `Runs` says of each
+/// form of the words which objects are called, how they stand at the end, and which status it is.
 pub fn run<
     F: PageSource,
     Q: ByteSource,
@@ -51,34 +48,33 @@ pub fn run<
     steps: &mut Steps<L>,
 ) -> Status
     requires fresh { IsForm words.now Form.Build → IsFresh (T.told target.old) }
-
-    // The words decide which command it is.
-    ensures usage { (result ≡ Status.Usage) ↔ HasNoForm words.now }
-
-    // What a command doesn't name is never called.
-    ensures file { AsksNoTable words.now → file.new ≡ file.old }
-    ensures schema { AsksNoTable words.now → AsksNoBuild words.now → schema.new ≡ schema.old }
-    ensures steps { AsksNoTable words.now → AsksNoSample words.now → steps.new ≡ steps.old }
-    ensures out { AsksNoTable words.now → AsksNoBuild words.now → AsksNoSample words.now → out.new ≡ out.old }
-    ensures rows { AsksNoBuild words.now → rows.new ≡ rows.old }
-    ensures target { AsksNoBuild words.now → target.new ≡ target.old }
-
-    // What a command on a table does to the objects that it names, and how it ends.
-    ensures serves { (task : Task) → IsForm words.now (Form.Table task)
-        → Serves F.PageSource Q.ByteSource O.ByteSink task (key_word words.now) file.old file.new
-        schema.old schema.new out.old out.new steps.old steps.new result }
-
-    // What a build does, and how it ends.
-    ensures builds { IsForm words.now Form.Build → ServesBuild
-        (record { schema = Q.ByteSource; rows = R.ByteSource; out = O.ByteSink; target = T.PageStore })
-        (record { schema = schema.old; rows = rows.old; out = out.old; target = target.old })
-        (record { schema = schema.new; rows = rows.new; out = out.new; target = target.new }) result }
-
-    // What a sample does, and how it ends.
-    ensures samples { (n : ℕ) → IsForm words.now (Form.Sample n) → ServesSample O.ByteSink n out.old out.new result }
-
-    ensures report { Reports (E.written err.old) (E.written err.new) (E.faults err.old) (E.faults err.new)
-        (status_line result) }
+    ensures { Runs
+        (record {
+          file = F.PageSource;
+          schema = Q.ByteSource;
+          rows = R.ByteSource;
+          out = O.ByteSink;
+          err = E.ByteSink;
+          target = T.PageStore;
+        })
+        words.now
+        (record {
+          file = file.old;
+          schema = schema.old;
+          rows = rows.old;
+          out = out.old;
+          err = err.old;
+          target = target.old;
+        })
+        (record {
+          file = file.new;
+          schema = schema.new;
+          rows = rows.new;
+          out = out.new;
+          err = err.new;
+          target = target.new;
+        })
+        steps.old steps.new result }
 {
     let status = match words.form() {
         None => Status::Usage,

@@ -19,117 +19,102 @@ take_sample-status-requires g c =
     let form = subst (IsForm _) c.in-Some-Sample.field-0-is c.in-Some-Sample.ensures in
     search (rules, form.0)
 
-pub returns-clause-usage : goal.returns-clause-usage
-returns-clause-usage g c = (
-  λ usage.
+pub returns : goal.returns
+returns g c = record {
+  usage = (
+    λ usage.
+        elim c.match-form.branch [
+          | in-None w ↦ w.in-None.ensures
+          | in-Some-Table w ↦ absurd (never_usage _ w.serve-status.ensures.of_table (sym w.status-is ∙ usage))
+          | in-Some-Build w ↦
+              absurd (build_never_usage _ _ _ _ w.build_file-status.ensures.builds (sym w.status-is ∙ usage))
+          | in-Some-Sample w ↦
+              absurd (sample_never_usage _ _ _ _ _ w.take_sample-status.ensures (sym w.status-is ∙ usage))
+        ],
+    λ none.
+        elim c.match-form.branch [
+          | in-None w ↦ w.status-is
+          | in-Some-Table w ↦ absurd (none _ w.in-Some-Table.ensures)
+          | in-Some-Build w ↦ absurd (none _ w.in-Some-Build.ensures)
+          | in-Some-Sample w ↦ absurd (none _ w.in-Some-Sample.ensures)
+        ],
+  );
+  file = λ none.
       elim c.match-form.branch [
-        | in-None w ↦ w.in-None.ensures
-        | in-Some-Table w ↦ absurd (never_usage _ w.serve-status.ensures.of_table (sym w.status-is ∙ usage))
-        | in-Some-Build w ↦
-            absurd (build_never_usage _ _ _ _ w.build_file-status.ensures.builds (sym w.status-is ∙ usage))
+        | in-None w ↦ w.file-is
+        | in-Some-Table w ↦ absurd (asks_table _ _ _ none w.in-Some-Table.field-0-is w.in-Some-Table.ensures)
+        | in-Some-Build w ↦ w.file-is
+        | in-Some-Sample w ↦ w.file-is
+      ];
+  schema = λ none no_build.
+      elim c.match-form.branch [
+        | in-None w ↦ w.schema-is
+        | in-Some-Table w ↦ absurd (asks_table _ _ _ none w.in-Some-Table.field-0-is w.in-Some-Table.ensures)
+        | in-Some-Build w ↦ absurd (asks_build _ _ no_build w.in-Some-Build.field-0-is w.in-Some-Build.ensures)
+        | in-Some-Sample w ↦ w.schema-is
+      ];
+  steps = λ none no_sample.
+      elim c.match-form.branch [
+        | in-None w ↦ w.steps-is
+        | in-Some-Table w ↦ absurd (asks_table _ _ _ none w.in-Some-Table.field-0-is w.in-Some-Table.ensures)
+        | in-Some-Build w ↦ w.steps-is ∙ w.build_file-status.ensures.steps
+        | in-Some-Sample w ↦ absurd (asks_sample _ _ _ no_sample w.in-Some-Sample.field-0-is w.in-Some-Sample.ensures)
+      ];
+  out = λ none no_build no_sample.
+      elim c.match-form.branch [
+        | in-None w ↦ w.out-is
+        | in-Some-Table w ↦ absurd (asks_table _ _ _ none w.in-Some-Table.field-0-is w.in-Some-Table.ensures)
+        | in-Some-Build w ↦ absurd (asks_build _ _ no_build w.in-Some-Build.field-0-is w.in-Some-Build.ensures)
+        | in-Some-Sample w ↦ absurd (asks_sample _ _ _ no_sample w.in-Some-Sample.field-0-is w.in-Some-Sample.ensures)
+      ];
+  rows = λ no_build.
+      elim c.match-form.branch [
+        | in-None w ↦ w.rows-is
+        | in-Some-Table w ↦ w.rows-is
+        | in-Some-Build w ↦ absurd (asks_build _ _ no_build w.in-Some-Build.field-0-is w.in-Some-Build.ensures)
+        | in-Some-Sample w ↦ w.rows-is
+      ];
+  target = λ no_build.
+      elim c.match-form.branch [
+        | in-None w ↦ w.target-is
+        | in-Some-Table w ↦ w.target-is
+        | in-Some-Build w ↦ absurd (asks_build _ _ no_build w.in-Some-Build.field-0-is w.in-Some-Build.ensures)
+        | in-Some-Sample w ↦ w.target-is
+      ];
+  serves = λ task is_task.
+      elim c.match-form.branch [
+        | in-None w ↦ absurd (w.in-None.ensures (Table task) is_task)
+        | in-Some-Table w ↦
+            let e = same_task _ _ _ task w.in-Some-Table.field-0-is w.in-Some-Table.ensures is_task in
+            rw (w.status-is, w.file-is, w.schema-is, w.out-is, w.steps-is)
+            (rw (e, w.key.ensures) at w.serve-status.ensures)
+        | in-Some-Build w ↦ absurd (never_build _ _ task w.in-Some-Build.field-0-is w.in-Some-Build.ensures is_task)
         | in-Some-Sample w ↦
-            absurd (sample_never_usage _ _ _ _ _ w.take_sample-status.ensures (sym w.status-is ∙ usage))
-      ],
-  λ none.
+            absurd (never_sample _ _ _ task w.in-Some-Sample.field-0-is w.in-Some-Sample.ensures is_task)
+      ];
+  builds = λ is_build.
       elim c.match-form.branch [
-        | in-None w ↦ w.status-is
-        | in-Some-Table w ↦ absurd (none _ w.in-Some-Table.ensures)
-        | in-Some-Build w ↦ absurd (none _ w.in-Some-Build.ensures)
-        | in-Some-Sample w ↦ absurd (none _ w.in-Some-Sample.ensures)
-      ],
-)
-
-pub returns-clause-file : goal.returns-clause-file
-returns-clause-file g c = λ none.
-    elim c.match-form.branch [
-      | in-None w ↦ w.file-is
-      | in-Some-Table w ↦ absurd (asks_table _ _ _ none w.in-Some-Table.field-0-is w.in-Some-Table.ensures)
-      | in-Some-Build w ↦ w.file-is
-      | in-Some-Sample w ↦ w.file-is
-    ]
-
-pub returns-clause-schema : goal.returns-clause-schema
-returns-clause-schema g c = λ none no_build.
-    elim c.match-form.branch [
-      | in-None w ↦ w.schema-is
-      | in-Some-Table w ↦ absurd (asks_table _ _ _ none w.in-Some-Table.field-0-is w.in-Some-Table.ensures)
-      | in-Some-Build w ↦ absurd (asks_build _ _ no_build w.in-Some-Build.field-0-is w.in-Some-Build.ensures)
-      | in-Some-Sample w ↦ w.schema-is
-    ]
-
-pub returns-clause-steps : goal.returns-clause-steps
-returns-clause-steps g c = λ none no_sample.
-    elim c.match-form.branch [
-      | in-None w ↦ w.steps-is
-      | in-Some-Table w ↦ absurd (asks_table _ _ _ none w.in-Some-Table.field-0-is w.in-Some-Table.ensures)
-      | in-Some-Build w ↦ w.steps-is ∙ w.build_file-status.ensures.steps
-      | in-Some-Sample w ↦ absurd (asks_sample _ _ _ no_sample w.in-Some-Sample.field-0-is w.in-Some-Sample.ensures)
-    ]
-
-pub returns-clause-out : goal.returns-clause-out
-returns-clause-out g c = λ none no_build no_sample.
-    elim c.match-form.branch [
-      | in-None w ↦ w.out-is
-      | in-Some-Table w ↦ absurd (asks_table _ _ _ none w.in-Some-Table.field-0-is w.in-Some-Table.ensures)
-      | in-Some-Build w ↦ absurd (asks_build _ _ no_build w.in-Some-Build.field-0-is w.in-Some-Build.ensures)
-      | in-Some-Sample w ↦ absurd (asks_sample _ _ _ no_sample w.in-Some-Sample.field-0-is w.in-Some-Sample.ensures)
-    ]
-
-pub returns-clause-rows : goal.returns-clause-rows
-returns-clause-rows g c = λ no_build.
-    elim c.match-form.branch [
-      | in-None w ↦ w.rows-is
-      | in-Some-Table w ↦ w.rows-is
-      | in-Some-Build w ↦ absurd (asks_build _ _ no_build w.in-Some-Build.field-0-is w.in-Some-Build.ensures)
-      | in-Some-Sample w ↦ w.rows-is
-    ]
-
-pub returns-clause-target : goal.returns-clause-target
-returns-clause-target g c = λ no_build.
-    elim c.match-form.branch [
-      | in-None w ↦ w.target-is
-      | in-Some-Table w ↦ w.target-is
-      | in-Some-Build w ↦ absurd (asks_build _ _ no_build w.in-Some-Build.field-0-is w.in-Some-Build.ensures)
-      | in-Some-Sample w ↦ w.target-is
-    ]
-
-pub returns-clause-serves : goal.returns-clause-serves
-returns-clause-serves g c = λ task is_task.
-    elim c.match-form.branch [
-      | in-None w ↦ absurd (w.in-None.ensures (Table task) is_task)
-      | in-Some-Table w ↦
-          let e = same_task _ _ _ task w.in-Some-Table.field-0-is w.in-Some-Table.ensures is_task in
-          rw (w.status-is, w.file-is, w.schema-is, w.out-is, w.steps-is)
-          (rw (e, w.key.ensures) at w.serve-status.ensures)
-      | in-Some-Build w ↦ absurd (never_build _ _ task w.in-Some-Build.field-0-is w.in-Some-Build.ensures is_task)
-      | in-Some-Sample w ↦
-          absurd (never_sample _ _ _ task w.in-Some-Sample.field-0-is w.in-Some-Sample.ensures is_task)
-    ]
-
-pub returns-clause-builds : goal.returns-clause-builds
-returns-clause-builds g c = λ is_build.
-    elim c.match-form.branch [
-      | in-None w ↦ absurd (w.in-None.ensures Build is_build)
-      | in-Some-Table w ↦
-          absurd (never_build _ Build _ refl is_build
-          (subst (IsForm _) w.in-Some-Table.field-0-is w.in-Some-Table.ensures))
-      | in-Some-Build w ↦
-          rw (w.status-is, w.schema-is, w.rows-is, w.out-is, w.target-is) w.build_file-status.ensures.builds
-      | in-Some-Sample w ↦
-          absurd (build_and_sample _ Build _ refl is_build
-          (subst (IsForm _) w.in-Some-Sample.field-0-is w.in-Some-Sample.ensures))
-    ]
-
-pub returns-clause-samples : goal.returns-clause-samples
-returns-clause-samples g c = λ n is_sample.
-    elim c.match-form.branch [
-      | in-None w ↦ absurd (w.in-None.ensures (Sample n) is_sample)
-      | in-Some-Table w ↦
-          absurd (never_sample _ (Sample n) n _ refl is_sample
-          (subst (IsForm _) w.in-Some-Table.field-0-is w.in-Some-Table.ensures))
-      | in-Some-Build w ↦
-          absurd (build_and_sample _ _ n w.in-Some-Build.field-0-is w.in-Some-Build.ensures is_sample)
-      | in-Some-Sample w ↦
-          let e = same_count _ _ _ n w.in-Some-Sample.field-0-is w.in-Some-Sample.ensures is_sample in
-          rw (w.status-is, w.out-is) (rw e at w.take_sample-status.ensures)
-    ]
+        | in-None w ↦ absurd (w.in-None.ensures Build is_build)
+        | in-Some-Table w ↦
+            absurd (never_build _ Build _ refl is_build
+            (subst (IsForm _) w.in-Some-Table.field-0-is w.in-Some-Table.ensures))
+        | in-Some-Build w ↦
+            rw (w.status-is, w.schema-is, w.rows-is, w.out-is, w.target-is) w.build_file-status.ensures.builds
+        | in-Some-Sample w ↦
+            absurd (build_and_sample _ Build _ refl is_build
+            (subst (IsForm _) w.in-Some-Sample.field-0-is w.in-Some-Sample.ensures))
+      ];
+  samples = λ n is_sample.
+      elim c.match-form.branch [
+        | in-None w ↦ absurd (w.in-None.ensures (Sample n) is_sample)
+        | in-Some-Table w ↦
+            absurd (never_sample _ (Sample n) n _ refl is_sample
+            (subst (IsForm _) w.in-Some-Table.field-0-is w.in-Some-Table.ensures))
+        | in-Some-Build w ↦
+            absurd (build_and_sample _ _ n w.in-Some-Build.field-0-is w.in-Some-Build.ensures is_sample)
+        | in-Some-Sample w ↦
+            let e = same_count _ _ _ n w.in-Some-Sample.field-0-is w.in-Some-Sample.ensures is_sample in
+            rw (w.status-is, w.out-is) (rw e at w.take_sample-status.ensures)
+      ];
+  report = c.report.ensures.text;
+}
