@@ -15,7 +15,7 @@ use Rattle.std.proofs.Math.Seq.{take-add}
 use Rattle.std.proofs.lemmas.List.FromFn.{get_or-map-range_with_len}
 use Rattle.std.specs.List.{range_with_len}
 use Rattle.hex.proofs.Pairs.{take-two_writes}
-use Rattle.row_text.specs.declared.bytes.TheConstants.{LETTERS}
+use Rattle.row_text.specs.declared.escape.TheConstants.{LETTERS}
 use Rattle.row_text.specs.Values.{escape_letter, escaped, escaped_text, is_escaped, IsPlain}
 
 pub escaped_append : (a b : List ℕ) → escaped_text (a ++ b) ≡ escaped_text a ++ escaped_text b

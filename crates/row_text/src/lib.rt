@@ -5,23 +5,23 @@ mod bytes;
 mod calendar;
 mod digits;
 mod ends;
+mod escape;
+mod escaped;
 mod lanes;
 pub mod laws;
 mod pieces;
+mod plain;
 mod read;
 mod read_bytes;
 mod read_decimals;
 mod read_moments;
 mod read_numbers;
 mod read_runs;
-#[cfg(test)]
-mod read_tests;
 mod read_texts;
 mod read_values;
 mod read_words;
 mod row;
-#[cfg(test)]
-mod tests;
+mod texts;
 mod values;
 mod whole;
 mod write;

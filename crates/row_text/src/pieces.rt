@@ -5,6 +5,9 @@ ghost use Rattle.page_source.specs.Calls.{Puts};
 
 use page_source::{ByteSink, Failed};
 
+/// How many bytes are turned to digits, or to a text with escapes, at a time.
+pub(crate) const CHUNK: usize = 256;
+
 /// Puts two pieces.
 #[inline(always)]
 pub(crate) fn put_two<O: ByteSink>(sink: &mut O, first: &[u8], second: &[u8]) -> Result<(), Failed>

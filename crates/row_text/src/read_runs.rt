@@ -4,7 +4,7 @@ ghost use Rattle.std.specs.Prelude.{◌≡◌, ◌≢◌, ℕ, ◌+◌, ◌*◌,
 ghost use Rattle.row_text.specs.Values.{escape_letter};
 ghost use Rattle.row_text.specs.calls.Texts.{IsWritten, byte_of};
 
-use crate::bytes::is_escaped;
+use crate::escape::is_escaped;
 use crate::lanes::{LANES, plain_length};
 
 /// How many bytes are looked at one by one before a vector of them is, since escapes often stand close together.

@@ -7,8 +7,9 @@ ghost use Rattle.column_values.specs.Spell.{IsSpelling, IsTrimmed, IsValueOf};
 ghost use Rattle.row_text.specs.calls.Values.{EndsValue, FindsValue};
 ghost use Rattle.row_text.specs.calls.Texts.{FindsText, LeadsByte, LeadsNoByte, TakesText, is_quoted};
 
-use crate::bytes::{is_escaped, plain_front};
 use crate::ends::behind;
+use crate::escape::is_escaped;
+use crate::plain::plain_front;
 use crate::read_runs::{byte_of, write_text};
 use crate::row::RowError;
 use column_values::{ColumnType, Value, is_value};

@@ -9,9 +9,10 @@ ghost use Rattle.row_text.specs.Digits.{behind_point, decimal_text, sign_text};
 ghost use Rattle.row_text.specs.Values.{fraction_digits, scale_of, quoted, date_text, day_text, moment_text};
 ghost use Rattle.row_text.specs.Values.{timestamp_text, value_text};
 
-use crate::bytes::{put_bytes, put_hex_number, put_quoted};
+use crate::bytes::{put_bytes, put_hex_number};
 use crate::calendar::date_of_day;
 use crate::digits::{four_digits, two_digits, write_last_digits};
+use crate::texts::put_quoted;
 use crate::whole::put_whole;
 use column_values::laws::spellings_are_unique;
 use column_values::{ColumnType, Value, decode_number, ten_to, trimmed};

@@ -9,8 +9,10 @@ ghost use Rattle.row_text.specs.Values.{value_text};
 ghost use Rattle.row_text.specs.Writer.{Writer, line_open, line_close, before_value, with_value, is_long, is_text};
 ghost use Rattle.row_text.specs.Writer.{long_open, long_part, long_close};
 
-use crate::bytes::{is_plain_text, put_escaped, put_hex};
+use crate::bytes::put_hex;
 use crate::pieces::put_enclosed;
+use crate::plain::is_plain_text;
+use crate::texts::put_escaped;
 use crate::values::put_spelled;
 use column_values::ColumnType;
 use page_source::{ByteSink, Failed, put_pieces};
