@@ -6,6 +6,8 @@ mod column_values_tests;
 #[cfg(test)]
 mod compact_record_tests;
 #[cfg(test)]
+mod cross_index_tests;
+#[cfg(test)]
 mod extent_map_tests;
 #[cfg(test)]
 mod fil_frame_tests;
@@ -23,6 +25,8 @@ mod outside_tests;
 mod page_packer_tests;
 #[cfg(test)]
 mod page_source_tests;
+#[cfg(test)]
+mod row_text_tests;
 #[cfg(test)]
 mod sample_table_tests;
 #[cfg(test)]

@@ -1,7 +1,7 @@
 //! The check of a whole table, over files that are sound or not, and whose calls fail, and the rows of a file that
 //! changes behind it. Other files are lines of the crate `cases`.
 
-ghost use Rattle.std.specs.Prelude.{◌≡◌, ◌<◌};
+ghost use Rattle.std.specs.Prelude.{◌≡◌, ◌<◌, IfOk, false};
 
 use page_source::{
     ByteList, ChangingPages, Fails, Fault, Halt, LoggedPages, MemoryPages, PageSource, Rule, Steps,
@@ -120,6 +120,38 @@ fn stops_at_each_call_that_fails(rt: HostRuntime) -> Result<(), Fail> {
     Ok(())
 }
 
+/// The rows of this file of two leaves, behind a check of it.
+fn checked_rows<L: Ledger>(
+    alloc: Global,
+    bytes: ByteList,
+    steps: &mut Steps<L>,
+) -> Result<LiveRows, Fail>
+    ensures { IfOk result (λ rows. rows.ended ≡ false) }
+{
+    let table = table_of(alloc, Which::C)?;
+    let mut file = ChangingPages::new(bytes, ByteList::new(alloc), 100);
+    let checked = check_table(alloc, &mut file, &table, steps)?;
+    Ok(LiveRows::start(alloc, &checked.clustered)?)
+}
+
+/// How many of them come of a file, at most nine, and how they end.
+fn rows_in<L: Ledger>(
+    rows: &mut LiveRows,
+    file: &mut ChangingPages,
+    steps: &mut Steps<L>,
+) -> (u32, Result<(), Halt>)
+    requires { rows.old.ended ≡ false }
+{
+    for count in 0..9 {
+        match rows.next(file, steps) {
+            Ok(Some(_)) => {}
+            Ok(None) => return (count, Ok(())),
+            Err(halt) => return (count, Err(halt)),
+        }
+    }
+    (9, Ok(()))
+}
+
 /// How many rows of the second file come by the numbers of the first, at most nine, and how they end.
 fn rows_of<L: Ledger>(
     alloc: Global,
@@ -132,19 +164,9 @@ fn rows_of<L: Ledger>(
     requires shared { 0 < blank.parts }
 {
     let mut steps = Steps::<L>::new(blank);
-    let table = table_of(alloc, Which::C)?;
-    let mut file = ChangingPages::new(first, ByteList::new(alloc), 100);
-    let checked = check_table(alloc, &mut file, &table, &mut steps)?;
+    let mut rows = checked_rows(alloc, first, &mut steps)?;
     let mut changed = ChangingPages::new(second, ByteList::new(alloc), 100);
-    let mut rows = LiveRows::start(alloc, &checked.clustered)?;
-    for count in 0..9 {
-        match rows.next(&mut changed, &mut steps) {
-            Ok(Some(_)) => {}
-            Ok(None) => return Ok((count, Ok(()))),
-            Err(halt) => return Ok((count, Err(halt))),
-        }
-    }
-    Ok((9, Ok(())))
+    Ok(rows_in(&mut rows, &mut changed, &mut steps))
 }
 
 /// Fails the test where the rows of the file of two leaves, which gets this piece behind the check, end otherwise.

@@ -14,8 +14,6 @@ mod long;
 mod numbers;
 mod order;
 mod ranks;
-#[cfg(test)]
-mod tests;
 
 pub use cross_check::cross;
 pub use crossed::{CrossStop, Crossed};

@@ -4,9 +4,10 @@ ghost use Rattle.std.specs.Prelude.{◌≡◌, [], ◌∷◌, replicate, IfOk, t
 ghost use Rattle.compact_record.specs.declared.parts.Part.TheVariants.{Null, Bytes};
 
 use column_values::{ColumnType, Field, FieldList, FieldType};
-use compact_record::{Parts, locate, place, record_size};
+use compact_record::{Parts, Place, locate, place, record_size};
 use page_source::{NoMemory, Page};
 use std::alloc::Global;
+use std::process::Abort;
 use std::test::Fail;
 
 /// `id int notnull`, the key.
@@ -58,23 +59,33 @@ fn parts(alloc: Global) -> Result<Parts, NoMemory>
     Ok(parts)
 }
 
-#[test]
-fn reads_what_is_placed(rt: HostRuntime) -> Result<(), Fail> {
-    let fields = fields(rt.alloc())?;
-    let parts = parts(rt.alloc())?;
-    let mut page = Page::zeroed(rt.alloc())?;
-    assert!(rt; record_size(&fields, &parts) == 234);
-    let origin = place(&mut page, 120, &fields, &parts, 2, 1, true);
+/// The page on which the record is placed from byte 120 on, so that its fields begin at byte 130.
+fn placed(rt: &impl Abort, alloc: Global, fields: &FieldList) -> Result<Page, NoMemory>
+    requires { fields.now ≡ record { fields = ID ∷ NOTE ∷ BODY ∷ NOTE ∷ []; nullable = 3; keys = 1 } }
+{
+    let parts = parts(alloc)?;
+    let mut page = Page::zeroed(alloc)?;
+    assert!(rt; record_size(fields, &parts) == 234);
+    let origin = place(&mut page, 120, fields, &parts, 2, 1, true);
     assert!(rt; origin == 130);
-    assert!(rt;
-        &page.bytes()[118..136]
-            == b"\0\0\xC8\x80\x14\xC0\x01\x10\0\x11\0\0\x80\0\0\x05\x07\x07".as_slice()
-    );
-    let located = locate(rt.alloc(), &page, origin, &fields)?;
-    assert!(rt; (located.start(), located.end()) == (120, 354));
-    let places = located.places();
+    Ok(page)
+}
+
+/// Fails the test where the fields lie elsewhere.
+fn expect_places(rt: &impl Abort, places: &[Place]) {
     assert!(rt; places.len() == 4);
     assert!(rt; (places[1].null, places[2].external, places[3].external) == (true, true, false));
     assert!(rt; (places[2].from, places[3].from, places[3].until) == (134, 154, 354));
+}
+
+#[test]
+fn reads_what_is_placed(rt: HostRuntime) -> Result<(), Fail> {
+    let fields = fields(rt.alloc())?;
+    let page = placed(&rt, rt.alloc(), &fields)?;
+    let bytes = b"\0\0\xC8\x80\x14\xC0\x01\x10\0\x11\0\0\x80\0\0\x05\x07\x07";
+    assert!(rt; page.bytes()[118..].starts_with(bytes));
+    let located = locate(rt.alloc(), &page, 130, &fields)?;
+    assert!(rt; (located.start(), located.end()) == (120, 354));
+    expect_places(&rt, located.places());
     Ok(())
 }

@@ -2,6 +2,10 @@
 
 mod pages;
 
+ghost use Rattle.std.specs.Prelude.{◌≡◌, ◌≤◌, length, true, IfOk, IsNone};
+ghost use Rattle.index_page.specs.Header.{records_of};
+ghost use Rattle.index_page.specs.Page.{IsIndexPage};
+
 use column_values::{ColumnType, Field, FieldList, FieldType};
 use index_page::{Records, Scratch, mark_fault, next_record, page_fault};
 use page_source::{NoMemory, Page, Rule};
@@ -42,7 +46,9 @@ const ROLL_POINTER: Field = Field {
 };
 
 /// The fields of a row of a table with the key `id int`.
-fn rows(alloc: Global) -> Result<FieldList, NoMemory> {
+fn rows(alloc: Global) -> Result<FieldList, NoMemory>
+    ensures { IfOk result (λ list. (list.keys ≡ 1) × (length list.fields ≡ 3)) }
+{
     let mut fields = FieldList::new(alloc, 0, 1);
     fields.push(ID)?;
     fields.push(TRX_ID)?;
@@ -50,25 +56,38 @@ fn rows(alloc: Global) -> Result<FieldList, NoMemory> {
     Ok(fields)
 }
 
+/// The rule that the page breaks first, that of the minimum mark behind the others.
+fn rule_of(scratch: &mut Scratch, page: &Page, fields: &FieldList) -> Option<Rule>
+    requires few { fields.now.keys ≤ length fields.now.fields }
+    requires room { length fields.now.fields ≤ scratch.old }
+    ensures { IsNone result → IsIndexPage page.now fields.now true true true (records_of page.now) }
+{
+    match page_fault(scratch, page, fields, true, true, true) {
+        None => {
+            if mark_fault(page, true, true) {
+                Some(Rule::MinimumMark)
+            } else {
+                None
+            }
+        }
+        broken => broken,
+    }
+}
+
 /// The records of a page that breaks no rule, or the rule that it breaks first.
 fn records_of(
-    rt: &impl Abort,
     alloc: Global,
     page: &Page,
     fields: &FieldList,
-) -> Result<Result<Records, Rule>, Fail> {
+) -> Result<Result<Records, Rule>, NoMemory>
+    requires few { fields.now.keys ≤ length fields.now.fields }
+    requires room { length fields.now.fields ≤ 5 }
+{
     let mut scratch = Scratch::new(alloc, MEMBERS)?;
-    assert!(rt; fields.keys() as usize <= fields.fields().len());
-    assert!(rt; fields.fields().len() <= MEMBERS as usize);
-    match page_fault(&mut scratch, page, fields, true, true, true) {
-        None => {
-            if mark_fault(page, true, true) {
-                return Ok(Err(Rule::MinimumMark));
-            }
-            Ok(Ok(Records::of(alloc, page, fields)?))
-        }
-        Some(rule) => Ok(Err(rule)),
+    if let Some(rule) = rule_of(&mut scratch, page, fields) {
+        return Ok(Err(rule));
     }
+    Ok(Ok(Records::of(alloc, page, fields)?))
 }
 
 /// A page of three rows.
@@ -89,7 +108,7 @@ fn two_rows(rt: &impl Abort, alloc: Global) -> Result<Page, NoMemory> {
 fn reads_records(rt: HostRuntime) -> Result<(), Fail> {
     let page = two_rows(&rt, rt.alloc())?;
     let fields = rows(rt.alloc())?;
-    let Ok(records) = records_of(&rt, rt.alloc(), &page, &fields)? else {
+    let Ok(records) = records_of(rt.alloc(), &page, &fields)? else {
         return Err(Fail::from("a rule is broken"));
     };
     assert!(rt; records.items().len() == 2);
@@ -118,7 +137,7 @@ fn names_a_broken_rule(rt: HostRuntime) -> Result<(), Fail> {
     let mut page = three_rows(&rt, rt.alloc())?;
     for (at, byte, rule) in [(120, 0x10, Rule::MinimumMark), (107, 3, Rule::Directory)] {
         page.put_bytes(at, &[byte]);
-        assert!(rt; records_of(&rt, rt.alloc(), &page, &fields)?.err() == Some(rule));
+        assert!(rt; records_of(rt.alloc(), &page, &fields)?.err() == Some(rule));
     }
     Ok(())
 }

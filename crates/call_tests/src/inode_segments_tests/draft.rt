@@ -101,7 +101,6 @@ impl Draft {
     pub fn new(alloc: Global, header: &SpaceHeader) -> Result<Draft, NoMemory> {
         let mut head = Page::zeroed(alloc)?;
         header.write(&mut head);
-        seal(&mut head, 0, 23, 1, 8);
         Ok(Draft {
             head,
             second: two_inodes(alloc)?,
@@ -109,24 +108,26 @@ impl Draft {
         })
     }
 
-    /// The pages sealed, in a file of so many.
-    pub fn sealed(
-        mut self,
-        alloc: Global,
-        pages: u32,
-        fails: &[u64],
-    ) -> Result<SparsePages, NoMemory> {
-        seal(&mut self.second, 2, 23, 1, 3);
-        seal(&mut self.fourth, 4, 23, 1, 3);
-        let mut third = Page::zeroed(alloc)?;
-        seal(&mut third, 3, 23, 1, 17855);
+    /// The pages, sealed.
+    fn pages(self, alloc: Global) -> Result<PageMap, NoMemory> {
         let mut held = PageMap::new(alloc);
-        held.put(0, self.head)?;
-        held.put(2, self.second)?;
-        held.put(3, third)?;
-        held.put(4, self.fourth)?;
+        put_sealed(&mut held, 0, self.head, 8)?;
+        put_sealed(&mut held, 2, self.second, 3)?;
+        put_sealed(&mut held, 4, self.fourth, 3)?;
+        put_sealed(&mut held, 3, Page::zeroed(alloc)?, 17855)?;
+        Ok(held)
+    }
+
+    /// They in a file of so many.
+    pub fn sealed(self, alloc: Global, pages: u32, fails: &[u64]) -> Result<SparsePages, NoMemory> {
+        let held = self.pages(alloc)?;
         Ok(SparsePages::new(pages, held, Fails::of(alloc, fails)?))
     }
+}
+
+fn put_sealed(held: &mut PageMap, n: u32, mut page: Page, kind: u16) -> Result<(), NoMemory> {
+    seal(&mut page, n, 23, 1, kind);
+    held.put(n, page)
 }
 
 /// Reads page 0 and then the inodes.

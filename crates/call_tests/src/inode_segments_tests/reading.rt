@@ -5,21 +5,31 @@ use super::draft::{
 };
 use inode_segments::{Inode, Inodes, read_inode, write_inode};
 use page_source::{NoMemory, Page, SparsePages, Stop};
-use space_header::Address;
+use space_header::{Address, SpaceHeader};
 use std::alloc::Global;
 use std::marker::Brand;
+use std::process::Abort;
 use std::sync::ledger::Blank;
 use std::test::Fail;
 
+/// A file of so many pages with two inodes, whose calls with these numbers fail.
+fn one_page(alloc: Global, size: u32, fails: &[u64]) -> Result<SparsePages, NoMemory> {
+    Draft::new(alloc, &header(size))?.sealed(alloc, size, fails)
+}
+
+/// Fails the test where others than those two are read.
+fn expect_two(rt: &impl Abort, inodes: &Inodes) {
+    assert!(rt; inodes.count() == 2);
+    assert!(rt; inodes.inode(1) == &segment(2) && inodes.place(1) == address(2, 242));
+    assert!(rt; inode_pages(inodes) == [false, true, false, false, false]);
+}
+
 #[test]
 fn reads_two_inodes(rt: HostRuntime) -> Result<(), Fail> {
-    let alloc = rt.alloc();
     for size in [6, 16448] {
-        let mut file = Draft::new(alloc, &header(size))?.sealed(alloc, size, &[])?;
-        let inodes = read::<SparsePages, Brand>(alloc, &mut file, &FRAGMENTS, Blank::new(1))?;
-        assert!(rt; inodes.count() == 2);
-        assert!(rt; inodes.inode(1) == &segment(2) && inodes.place(1) == address(2, 242));
-        assert!(rt; inode_pages(&inodes) == [false, true, false, false, false]);
+        let mut file = one_page(rt.alloc(), size, &[])?;
+        let inodes = read::<SparsePages, Brand>(rt.alloc(), &mut file, &FRAGMENTS, Blank::new(1))?;
+        expect_two(&rt, &inodes);
     }
     Ok(())
 }
@@ -39,12 +49,18 @@ fn inode_pages(inodes: &Inodes) -> [bool; 5] {
     ]
 }
 
+/// The header of a tablespace whose inode pages 2 and 4 stand on INODES_FREE.
+fn linked() -> SpaceHeader {
+    SpaceHeader {
+        next_segment: 6,
+        inodes_free: list(2, 2, 4),
+        ..header(6)
+    }
+}
+
 /// A file whose pages 2 and 4 are linked in this order; page 4 has two more inodes.
 fn two_pages(alloc: Global) -> Result<SparsePages, NoMemory> {
-    let mut header = header(6);
-    header.next_segment = 6;
-    header.inodes_free = list(2, 2, 4);
-    let mut draft = Draft::new(alloc, &header)?;
+    let mut draft = Draft::new(alloc, &linked())?;
     put_inodes(&mut draft.second, NULL, node_of(4), 1, 2);
     put_inodes(&mut draft.fourth, node_of(2), NULL, 4, 2);
     draft.sealed(alloc, 6, &[])
@@ -65,7 +81,7 @@ fn follows_two_pages(rt: HostRuntime) -> Result<(), Fail> {
 fn says_which_call_of_the_source_failed(rt: HostRuntime) -> Result<(), Fail> {
     let alloc = rt.alloc();
     for call in 1..5u64 {
-        let mut file = Draft::new(alloc, &header(6))?.sealed(alloc, 6, &[call])?;
+        let mut file = one_page(alloc, 6, &[call])?;
         let answer = read::<SparsePages, Brand>(alloc, &mut file, &FRAGMENTS, Blank::new(1));
         let failed = matches!(answer, Err(Stop::Source));
         assert!(rt; failed == (call < 4), "call {call}");

@@ -1,7 +1,7 @@
 //! The checks of a chain on the pages 4 to 6 of an audited space, over a file that tells nothing. What breaks a rule
 //! stands in lines of the crate `cases`.
 
-ghost use Rattle.std.specs.Prelude.{◌≡◌, ◌<◌};
+ghost use Rattle.std.specs.Prelude.{◌≡◌, ◌<◌, length, IfOk};
 ghost use Rattle.column_values.specs.Utf8Reader.{CountsUpTo};
 
 use super::{FIL_NULL, VALUE, chain};
@@ -126,6 +126,28 @@ fn space<L: Ledger>(alloc: Global, blank: Blank) -> Result<Space, Stop>
 /// The parts of a value of 40,000 bytes on the pages 4, 5 and 6.
 const WHOLE: [(u32, u32); 3] = [(16_330, 5), (16_330, 6), (7_340, FIL_NULL)];
 
+/// A mark for each page of the space, of which this one is set.
+fn marks_with(alloc: Global, space: &Space, taken: u32) -> Result<Marks, NoMemory>
+    ensures { IfOk result (λ marks. length marks ≡ space.now.size) }
+{
+    let mut marks = Marks::new(alloc, space.size())?;
+    if taken < space.size() {
+        marks.mark(taken);
+    }
+    Ok(marks)
+}
+
+/// Which of the pages 4 to 6 are marked, where there are eight.
+fn marked(space: &Space, marks: &Marks) -> [bool; 3]
+    requires { length marks.now ≡ space.now.size }
+{
+    if space.size() == 8 {
+        [marks.has(4), marks.has(5), marks.has(6)]
+    } else {
+        [false; 3]
+    }
+}
+
 /// What the checks of the chain answer where this page was taken before, and which marks they leave on the pages 4 to 6.
 fn check<L: Ledger>(
     alloc: Global,
@@ -141,10 +163,7 @@ fn check<L: Ledger>(
 {
     let mut source = ChangingPages::new(chain(alloc, WHOLE)?, ByteList::new(alloc), 100);
     let mut page = Page::zeroed(alloc)?;
-    let mut marks = Marks::new(alloc, space.size())?;
-    if taken < space.size() {
-        marks.mark(taken);
-    }
+    let mut marks = marks_with(alloc, space, taken)?;
     let answer = check_chain(
         &mut source,
         space,
@@ -156,11 +175,7 @@ fn check<L: Ledger>(
         &mut page,
         &mut Steps::<L>::new(blank),
     );
-    let mut marked = [false; 3];
-    if space.size() == 8 {
-        marked = [marks.has(4), marks.has(5), marks.has(6)];
-    }
-    Ok((answer, marked))
+    Ok((answer, marked(space, &marks)))
 }
 
 fn broken(rule: Rule, page: u32) -> Result<u32, Halt> {

@@ -5,7 +5,8 @@ ghost use Rattle.std.specs.Prelude.{◌≡◌, ◌<◌, length, IfOk};
 use super::VALUE;
 use offpage_chain::{ChainReader, write_chain};
 use page_source::{
-    ByteList, ChangingPages, Failed, Fails, MemoryStore, Page, PageSource, PageStore, Steps,
+    ByteList, ChangingPages, Failed, Fails, MemoryStore, NoMemory, Page, PageSource, PageStore,
+    Steps,
 };
 use std::alloc::Global;
 use std::marker::Brand;
@@ -35,6 +36,19 @@ fn written(
     Ok((store, answer))
 }
 
+/// What that answered.
+fn answer_of(
+    alloc: Global,
+    failing: u64,
+    bytes: &[u8],
+    page: &mut Page,
+) -> Result<Result<(), Failed>, Fail>
+    requires { length bytes.now ≡ 40000 }
+{
+    let (_store, answer) = written(alloc, failing, bytes, page)?;
+    Ok(answer)
+}
+
 /// The first eight pages of the file.
 fn first_pages<L: Ledger>(
     alloc: Global,
@@ -51,7 +65,25 @@ fn first_pages<L: Ledger>(
     Ok(bytes)
 }
 
-/// The bytes along the chain, read from a file that tells nothing.
+/// The bytes of three parts along the chain.
+fn parts_of<L: Ledger>(
+    alloc: Global,
+    source: &mut ChangingPages,
+    page: &mut Page,
+    steps: &mut Steps<L>,
+) -> Result<ByteList, NoMemory> {
+    let mut left = 3;
+    let mut reader = ChainReader::new(&VALUE);
+    let mut value = ByteList::new(alloc);
+    for _ in 0..3 {
+        if let Ok(Some(n)) = reader.part(source, page, &mut left, steps) {
+            value.extend(&page.bytes()[46..46 + n])?;
+        }
+    }
+    Ok(value)
+}
+
+/// The same, read from a file that tells nothing.
 fn read_back<L: Ledger>(alloc: Global, store: MemoryStore, blank: Blank) -> Result<ByteList, Fail>
     requires name { blank.name ≡ L.name }
     requires parts { blank.parts ≡ L.parts }
@@ -61,15 +93,7 @@ fn read_back<L: Ledger>(alloc: Global, store: MemoryStore, blank: Blank) -> Resu
     let mut steps = Steps::<L>::new(blank);
     let file = first_pages(alloc, store, &mut page, &mut steps)?;
     let mut source = ChangingPages::new(file, ByteList::new(alloc), 100);
-    let mut left = 3;
-    let mut reader = ChainReader::new(&VALUE);
-    let mut value = ByteList::new(alloc);
-    for _ in 0..3 {
-        if let Ok(Some(n)) = reader.part(&mut source, &mut page, &mut left, &mut steps) {
-            value.extend(&page.bytes()[46..46 + n])?;
-        }
-    }
-    Ok(value)
+    Ok(parts_of(alloc, &mut source, &mut page, &mut steps)?)
 }
 
 /// 40,000 bytes, of which the parts differ.
@@ -114,7 +138,6 @@ fn a_value_is_written_and_read(rt: HostRuntime) -> Result<(), Fail> {
     assert!(rt; &page.bytes()[38..46] == last.as_slice());
     assert!(rt; read_back::<Brand>(alloc, store, Blank::new(1))?.bytes() == bytes.as_slice());
     // The third page of the value is the fourth call.
-    let (_store, answer) = written(alloc, 4, &bytes, &mut page)?;
-    assert!(rt; answer == Err(Failed));
+    assert!(rt; answer_of(alloc, 4, &bytes, &mut page)? == Err(Failed));
     Ok(())
 }

@@ -63,6 +63,13 @@ fn pages_of_a_large_file_are_written_and_read(rt: HostRuntime) -> Result<(), Fai
     Ok(())
 }
 
+/// Puts the first two pages, and makes the file one of 64 pages.
+fn put_and_size(store: &mut FileStore<HostRuntime>, page: &Page) -> Result<(), Failed> {
+    store.put(0, page)?;
+    store.put(1, page)?;
+    store.set_size(64)
+}
+
 /// A file that is to be made anew is as it was until the first call, and a second call doesn't make it again.
 #[test]
 fn a_file_is_made_by_the_first_call(rt: HostRuntime) -> Result<(), Fail> {
@@ -70,9 +77,7 @@ fn a_file_is_made_by_the_first_call(rt: HostRuntime) -> Result<(), Fail> {
     fs::write(&rt, "kept.ibd", "what stood here before")?;
     let mut store = FileStore::new(&rt, Some(b"kept.ibd"));
     assert!(rt; fs::read(&rt, "kept.ibd")?.len() == 22);
-    store.put(0, &page)?;
-    store.put(1, &page)?;
-    store.set_size(64)?;
+    put_and_size(&mut store, &page)?;
     let bytes = fs::read(&rt, "kept.ibd")?;
     assert!(rt; bytes.len() == 64 * 16384);
     assert!(rt; (bytes[0], bytes[32767], bytes[32768]) == (0x33, 0x33, 0));

@@ -121,13 +121,18 @@ fn marked(alloc: Global) -> Result<Page, NoMemory> {
     Ok(page)
 }
 
-/// Where a file has been, 64 pages are made, of which the fourth is put.
-fn make_anew(rt: &HostRuntime) -> Result<Vec<u8>, Fail> {
-    fs::write(rt, "made.ibd", "what stood here before")?;
-    let page = marked(rt.alloc())?;
+/// Makes the file one of 64 pages, of which the fourth is put.
+fn put_fourth(rt: &HostRuntime, page: &Page) -> Result<(), Failed> {
     let mut store = FileStore::new(rt, Some(b"made.ibd"));
     store.set_size(64)?;
-    store.put(3, &page)?;
+    store.put(3, page)
+}
+
+/// The same where a file has been, and its bytes.
+fn make_anew(rt: &HostRuntime) -> Result<Vec<u8>, Fail> {
+    let page = marked(rt.alloc())?;
+    fs::write(rt, "made.ibd", "what stood here before")?;
+    put_fourth(rt, &page)?;
     Ok(fs::read(rt, "made.ibd")?)
 }
 
@@ -135,9 +140,16 @@ fn make_anew(rt: &HostRuntime) -> Result<Vec<u8>, Fail> {
 fn a_file_of_pages_is_made_anew(rt: HostRuntime) -> Result<(), Fail> {
     let bytes = make_anew(&rt)?;
     assert!(rt; bytes.len() == 64 * 16384);
-    assert!(rt; bytes[..4] == [0u8; 4]);
-    assert!(rt; bytes[3 * 16384..3 * 16384 + 4] == [0xAB, 0xCD, 0, 0]);
-    assert!(rt; bytes[4 * 16384 - 4..4 * 16384] == [0, 0, 0x12, 0x34]);
+    for (at, piece) in [
+        (0, b"\0\0\0\0"),
+        (3 * 16384, b"\xAB\xCD\0\0"),
+        (4 * 16384 - 4, b"\0\0\x12\x34"),
+    ] {
+        assert!(rt;
+            at <= bytes.len() && bytes[at..].starts_with(piece),
+            "at {at}"
+        );
+    }
     assert!(rt; FileStore::new(&rt, Some(b"none/made.ibd")).set_size(64) == Err(Failed));
     Ok(())
 }

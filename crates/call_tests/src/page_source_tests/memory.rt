@@ -1,6 +1,6 @@
 //! What a listed call, a page that isn't there and a passed room do, and that each call can succeed.
 
-ghost use Rattle.std.specs.Prelude.{◌≡◌, ◌<◌};
+ghost use Rattle.std.specs.Prelude.{◌≡◌, ◌<◌, IfOk};
 ghost use Rattle.page_source.specs.Objects.{CanSize};
 
 use page_source::{
@@ -54,14 +54,18 @@ fn two_pages_and_a_byte(alloc: Global) -> Result<ByteList, NoMemory> {
     Ok(bytes)
 }
 
+/// They as a file, whose calls 1 and 4 fail.
+fn failing_pages(alloc: Global) -> Result<MemoryPages, NoMemory> {
+    let bytes = two_pages_and_a_byte(alloc)?;
+    Ok(MemoryPages::new(bytes, Fails::of(alloc, &[1, 4])?))
+}
+
 #[test]
 fn pages_fail_where_listed_or_not_there(rt: HostRuntime) -> Result<(), Fail> {
-    let alloc = rt.alloc();
-    let fails = Fails::of(alloc, &[1, 4])?;
-    let mut file = MemoryPages::new(two_pages_and_a_byte(alloc)?, fails);
+    let mut file = failing_pages(rt.alloc())?;
     assert!(rt; whole_pages(&mut file) == Err(Failed));
     assert!(rt; file.pages() == Ok(2));
-    let mut page = Page::zeroed(alloc)?;
+    let mut page = Page::zeroed(rt.alloc())?;
     for (n, answer) in [
         (1, (Ok(()), 0x22)),
         (0, (Err(Failed), 0x22)),
@@ -120,12 +124,19 @@ fn a_store_is_sized_where_it_has_room(rt: HostRuntime) -> Result<(), Fail> {
     Ok(())
 }
 
+/// A store of 64 pages with this room, whose calls with these numbers fail.
+fn sized(alloc: Global, room: u32, fails: &[u64]) -> Result<MemoryStore, Fail>
+    ensures { IfOk result (λ store. store.size ≡ 64) }
+{
+    let mut store = MemoryStore::new(alloc, room, Fails::of(alloc, fails)?)?;
+    store.set_size(64)?;
+    Ok(store)
+}
+
 #[test]
 fn a_store_fails_where_listed(rt: HostRuntime) -> Result<(), Fail> {
-    let alloc = rt.alloc();
-    let page = Page::zeroed(alloc)?;
-    let mut store = MemoryStore::new(alloc, 64, Fails::of(alloc, &[3])?)?;
-    store.set_size(64)?;
+    let page = Page::zeroed(rt.alloc())?;
+    let mut store = sized(rt.alloc(), 64, &[3])?;
     assert!(rt; store.put(63, &page) == Ok(()));
     assert!(rt; store.put(0, &page) == Err(Failed));
     assert!(rt; store.put(0, &page) == Ok(()));
@@ -163,11 +174,16 @@ fn last_byte<L: Ledger>(
     (answer, page.bytes()[16383])
 }
 
+/// They in a file, whose call 3 fails.
+fn sparse_pages(alloc: Global) -> Result<SparsePages, NoMemory> {
+    let held = two_held(alloc)?;
+    Ok(SparsePages::new(70_001, held, Fails::of(alloc, &[3])?))
+}
+
 #[test]
 fn pages_that_are_not_held_are_zeros(rt: HostRuntime) -> Result<(), Fail> {
-    let alloc = rt.alloc();
-    let mut file = SparsePages::new(70_001, two_held(alloc)?, Fails::of(alloc, &[3])?);
-    let mut page = page_of(alloc, 0xFF)?;
+    let mut file = sparse_pages(rt.alloc())?;
+    let mut page = page_of(rt.alloc(), 0xFF)?;
     assert!(rt; whole_pages(&mut file) == Ok(70_001));
     for (n, answer) in [
         (2, (Ok(()), 0x22)),
@@ -182,13 +198,19 @@ fn pages_that_are_not_held_are_zeros(rt: HostRuntime) -> Result<(), Fail> {
     Ok(())
 }
 
+/// Puts the first page and the last.
+fn put_two(alloc: Global, store: &mut MemoryStore) -> Result<(), Fail>
+    requires { store.old.size ≡ 64 }
+{
+    store.put(0, &page_of(alloc, 0x11)?)?;
+    store.put(63, &page_of(alloc, 0x22)?)?;
+    Ok(())
+}
+
 /// The file of a store with 64 pages, of which two were put.
 fn stored(alloc: Global) -> Result<SparsePages, Fail> {
-    let (first, last) = (page_of(alloc, 0x11)?, page_of(alloc, 0x22)?);
-    let mut store = MemoryStore::new(alloc, 128, Fails::of(alloc, &[])?)?;
-    store.set_size(64)?;
-    store.put(0, &first)?;
-    store.put(63, &last)?;
+    let mut store = sized(alloc, 128, &[])?;
+    put_two(alloc, &mut store)?;
     Ok(store.into_pages(Fails::of(alloc, &[])?)?)
 }
 
@@ -223,11 +245,15 @@ fn logged<L: Ledger>(
     file.fetch(n, page, &mut Steps::<L>::new(blank))
 }
 
+/// Two pages in a file that keeps two numbers.
+fn logged_pages(alloc: Global) -> Result<LoggedPages, NoMemory> {
+    LoggedPages::new(alloc, two_pages_and_a_byte(alloc)?, 2)
+}
+
 #[test]
 fn a_file_keeps_what_was_fetched(rt: HostRuntime) -> Result<(), Fail> {
-    let alloc = rt.alloc();
-    let mut file = LoggedPages::new(alloc, two_pages_and_a_byte(alloc)?, 2)?;
-    let mut page = Page::zeroed(alloc)?;
+    let mut file = logged_pages(rt.alloc())?;
+    let mut page = Page::zeroed(rt.alloc())?;
     assert!(rt; whole_pages(&mut file) == Ok(2));
     for (n, answer) in [(1, Ok(())), (2, Err(Failed)), (0, Ok(())), (1, Ok(()))] {
         assert!(rt; logged::<Brand>(&mut file, &mut page, n, Blank::new(1)) == answer);
@@ -255,13 +281,18 @@ fn changed<L: Ledger>(
     file.fetch(n, page, &mut Steps::<L>::new(blank))
 }
 
+/// A file that grows behind its first call.
+fn changing_pages(alloc: Global) -> Result<ChangingPages, NoMemory> {
+    let first = one_page(alloc)?;
+    Ok(ChangingPages::new(first, two_pages_and_a_byte(alloc)?, 2))
+}
+
 #[test]
 fn a_file_changes(rt: HostRuntime) -> Result<(), Fail> {
-    let alloc = rt.alloc();
-    let mut file = ChangingPages::new(one_page(alloc)?, two_pages_and_a_byte(alloc)?, 2);
+    let mut file = changing_pages(rt.alloc())?;
     assert!(rt; whole_pages(&mut file) == Ok(1));
     assert!(rt; file.pages() == Ok(2));
-    let mut page = Page::zeroed(alloc)?;
+    let mut page = Page::zeroed(rt.alloc())?;
     for (n, answer) in [(1, Ok(())), (2, Err(Failed))] {
         assert!(rt; changed::<Brand>(&mut file, &mut page, n, Blank::new(1)) == answer);
     }

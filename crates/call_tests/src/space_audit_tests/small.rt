@@ -2,9 +2,10 @@
 
 use super::answers::{audited, expect_owners};
 use super::draft::{Draft, header};
-use page_source::Stop;
+use page_source::{NoMemory, SparsePages, Stop};
 use space_audit::{Owner, Space};
 use space_header::Address;
+use std::alloc::Global;
 use std::process::Abort;
 use std::test::Fail;
 
@@ -41,11 +42,14 @@ fn segment_at(space: &Space, page: u32, offset: u16) -> Option<u32> {
     space.segment_at(Address { page, offset })
 }
 
+/// The tablespace in a file of so many pages, whose calls with these numbers fail.
+fn small(alloc: Global, pages: u32, fails: &[u64]) -> Result<SparsePages, NoMemory> {
+    Draft::new(alloc, &header(6, 64))?.file(alloc, pages, fails)
+}
+
 #[test]
 fn audits_a_small_tablespace(rt: HostRuntime) -> Result<(), Fail> {
-    let alloc = rt.alloc();
-    let file = Draft::new(alloc, &header(6, 64))?.file(alloc, 7, &[])?;
-    let space = audited(alloc, file)?;
+    let space = audited(rt.alloc(), small(rt.alloc(), 7, &[])?)?;
     assert!(rt; (space.size(), space.space_id()) == (6, 23));
     assert!(rt; (space.used_pages(), space.segment_count()) == (4, 2));
     assert!(rt; space.kind(3) == 17855);
@@ -58,10 +62,9 @@ fn audits_a_small_tablespace(rt: HostRuntime) -> Result<(), Fail> {
 /// and 3.
 #[test]
 fn says_which_call_of_the_source_failed(rt: HostRuntime) -> Result<(), Fail> {
-    let alloc = rt.alloc();
     for call in 1..9u64 {
-        let file = Draft::new(alloc, &header(6, 64))?.file(alloc, 6, &[call])?;
-        let failed = matches!(audited(alloc, file), Err(Stop::Source));
+        let file = small(rt.alloc(), 6, &[call])?;
+        let failed = matches!(audited(rt.alloc(), file), Err(Stop::Source));
         assert!(rt; failed == (call < 8), "call {call}");
     }
     Ok(())

@@ -4,8 +4,7 @@
 ghost use Rattle.std.specs.Prelude.{◌≡◌, ◌<◌};
 
 use page_source::{
-    ByteList, ChangingPages, Fails, Fault, LoggedPages, MemoryPages, MemorySink, NoMemory,
-    PageSource, Rule, Steps,
+    ChangingPages, Fails, Fault, LoggedPages, MemoryPages, MemorySink, PageSource, Rule, Steps,
 };
 use schema_text::Schema;
 use sql_dump::{DumpStop, dump};
@@ -44,14 +43,25 @@ fn dump_of<S: PageSource>(
     counted::<S, Brand>(alloc, source, table, sink, Blank::new(1))
 }
 
-/// The schema of a named file.
-fn table_of(alloc: Global, which: Which) -> Result<Schema, Fail> {
-    Ok(Schema::read(alloc, schema(which).as_bytes())?)
+/// What a dump answers by the schema of a named file, into a sink of this room whose calls with these numbers fail, and
+/// what is in the sink.
+fn dump_to<S: PageSource>(
+    alloc: Global,
+    which: Which,
+    source: &mut S,
+    room: usize,
+    fails: &[u64],
+) -> Result<(Result<Checked, DumpStop>, MemorySink), Fail> {
+    let table = Schema::read(alloc, schema(which).as_bytes())?;
+    let mut sink = MemorySink::new(alloc, room, Fails::of(alloc, fails)?)?;
+    let found = dump_of(alloc, source, &table, &mut sink);
+    Ok((found, sink))
 }
 
-/// A sink of this room, whose calls with these numbers fail.
-fn sink_of(alloc: Global, room: usize, fails: &[u64]) -> Result<MemorySink, NoMemory> {
-    MemorySink::new(alloc, room, Fails::of(alloc, fails)?)
+/// The file with two leaves, whose calls with these numbers fail.
+fn two_leaves(alloc: Global, fails: &[u64]) -> Result<MemoryPages, Fail> {
+    let bytes = file(alloc, Which::C)?;
+    Ok(MemoryPages::new(bytes, Fails::of(alloc, fails)?))
 }
 
 /// How many pages a dump of so many may fetch.
@@ -59,59 +69,54 @@ fn most_fetches(pages: u32) -> usize {
     5 * (pages as usize) + 64
 }
 
+/// A named file whose fetches are counted.
+fn logged(alloc: Global, which: Which) -> Result<LoggedPages, Fail> {
+    Ok(LoggedPages::new(alloc, file(alloc, which)?, 1000)?)
+}
+
 /// Fails the test where a dump of this file writes other lines, answers other numbers, or fetches too many pages.
 fn expect_lines(
     rt: &impl Abort,
     alloc: Global,
-    bytes: ByteList,
-    table: &Schema,
+    which: Which,
     numbers: [u32; 5],
     lines: &str,
 ) -> Result<(), Fail> {
     let [pages, _, rows, _, _] = numbers;
-    let mut file = LoggedPages::new(alloc, bytes, 1000)?;
-    let mut sink = sink_of(alloc, ROOM, &[])?;
-    let checked = dump_of(alloc, &mut file, table, &mut sink)?;
+    let mut file = logged(alloc, which)?;
+    let (found, sink) = dump_to(alloc, which, &mut file, ROOM, &[])?;
     assert!(rt; sink.bytes() == lines.as_bytes());
-    assert!(rt; checked.pages == pages);
-    assert!(rt; checked.rows == u64::from(rows));
+    assert!(rt; found.map(|all| (all.pages, all.rows)) == Ok((pages, u64::from(rows))));
     assert!(rt; file.log().len() <= most_fetches(pages));
     Ok(())
 }
 
+/// The lines of the file with one page of rows.
+const THREE_LINES: &str =
+    "INSERT INTO `t` VALUES (-1);\nINSERT INTO `t` VALUES (0);\nINSERT INTO `t` VALUES (2147483647);\n";
+
+/// The lines of the file with two leaves.
+const LINES: &str =
+    "INSERT INTO `t` VALUES (1);\nINSERT INTO `t` VALUES (2);\nINSERT INTO `t` VALUES (5);\nINSERT INTO `t` VALUES (6);\n";
+
 /// The dump of a file of one page of rows, and of one of two.
 #[test]
 fn writes_the_rows_of_a_sound_file(rt: HostRuntime) -> Result<(), Fail> {
-    let alloc = rt.alloc();
-    let three =
-        "INSERT INTO `t` VALUES (-1);\nINSERT INTO `t` VALUES (0);\nINSERT INTO `t` VALUES (2147483647);\n";
-    for (which, numbers, lines) in [
-        (Which::B, [6, 4, 3, 0, 0], three),
-        (Which::C, [6, 6, 4, 0, 0], LINES),
-    ] {
-        let table = table_of(alloc, which)?;
-        expect_lines(&rt, alloc, file(alloc, which)?, &table, numbers, lines)?;
-    }
-    Ok(())
+    expect_lines(&rt, rt.alloc(), Which::B, [6, 4, 3, 0, 0], THREE_LINES)?;
+    expect_lines(&rt, rt.alloc(), Which::C, [6, 6, 4, 0, 0], LINES)
 }
 
 /// The file of two leaves, of which the second leads back to the first.
 #[test]
 fn writes_nothing_of_a_broken_file(rt: HostRuntime) -> Result<(), Fail> {
     let alloc = rt.alloc();
-    let table = table_of(alloc, Which::C)?;
     let bytes = edited(alloc, Which::C, &[&[(5, 12, b"\0\0\0\x04")]])?;
     let mut file = MemoryPages::new(bytes, Fails::of(alloc, &[])?);
-    let mut sink = sink_of(alloc, ROOM, &[])?;
-    let found = dump_of(alloc, &mut file, &table, &mut sink);
+    let (found, sink) = dump_to(alloc, Which::C, &mut file, ROOM, &[])?;
     assert!(rt; found == Err(DumpStop::Broken(Rule::Sibling.at(5))));
     assert!(rt; sink.bytes().is_empty());
     Ok(())
 }
-
-/// The lines of the file with two leaves.
-const LINES: &str =
-    "INSERT INTO `t` VALUES (1);\nINSERT INTO `t` VALUES (2);\nINSERT INTO `t` VALUES (5);\nINSERT INTO `t` VALUES (6);\n";
 
 /// The same of this file, in which these calls of it and of the sink fail. What is written is the front of the lines.
 fn fails_with(
@@ -122,11 +127,8 @@ fn fails_with(
     sink_fails: &[u64],
     want: DumpStop,
 ) -> Result<(), Fail> {
-    let table = table_of(alloc, Which::C)?;
-    let bytes = file(alloc, Which::C)?;
-    let mut source = MemoryPages::new(bytes, Fails::of(alloc, file_fails)?);
-    let mut sink = sink_of(alloc, room, sink_fails)?;
-    let found = dump_of(alloc, &mut source, &table, &mut sink);
+    let mut source = two_leaves(alloc, file_fails)?;
+    let (found, sink) = dump_to(alloc, Which::C, &mut source, room, sink_fails)?;
     assert!(rt; found == Err(want), "{file_fails:?} {room} {sink_fails:?}");
     assert!(rt; LINES.as_bytes().starts_with(sink.bytes()));
     Ok(())
@@ -136,11 +138,9 @@ fn fails_with(
 #[test]
 fn fills_a_sink(rt: HostRuntime) -> Result<(), Fail> {
     let alloc = rt.alloc();
-    let table = table_of(alloc, Which::C)?;
-    let mut source = MemoryPages::new(file(alloc, Which::C)?, Fails::of(alloc, &[])?);
-    let mut sink = sink_of(alloc, LINES.len(), &[])?;
-    let checked = dump_of(alloc, &mut source, &table, &mut sink)?;
-    assert!(rt; checked.rows == 4 && sink.bytes() == LINES.as_bytes());
+    let mut source = two_leaves(alloc, &[])?;
+    let (found, sink) = dump_to(alloc, Which::C, &mut source, LINES.len(), &[])?;
+    assert!(rt; found.map(|all| all.rows) == Ok(4) && sink.bytes() == LINES.as_bytes());
     Ok(())
 }
 
@@ -152,17 +152,17 @@ fn stops_at_each_call_that_fails(rt: HostRuntime) -> Result<(), Fail> {
     for room in [0, LINES.len().saturating_sub(1)] {
         fails_with(&rt, alloc, &[], room, &[], DumpStop::Sink)?;
     }
-    for call in 1..call_of_the_rows(alloc)?.wrapping_add(2) {
+    for call in 1..call_of_the_rows(&rt, alloc)?.wrapping_add(2) {
         fails_with(&rt, alloc, &[call], ROOM, &[], DumpStop::Source)?;
     }
     fails_with(&rt, alloc, &[], ROOM, &[1], DumpStop::Sink)
 }
 
 /// The first call behind the checks of the file with two leaves: the last two of a dump fetch those.
-fn call_of_the_rows(alloc: Global) -> Result<u64, Fail> {
-    let table = table_of(alloc, Which::C)?;
-    let mut logged = LoggedPages::new(alloc, file(alloc, Which::C)?, 1000)?;
-    dump_of(alloc, &mut logged, &table, &mut sink_of(alloc, ROOM, &[])?)?;
+fn call_of_the_rows(rt: &impl Abort, alloc: Global) -> Result<u64, Fail> {
+    let mut logged = logged(alloc, Which::C)?;
+    let (found, _sink) = dump_to(alloc, Which::C, &mut logged, ROOM, &[])?;
+    assert!(rt; found.is_ok());
     Ok(logged.log().len() as u64)
 }
 
@@ -174,11 +174,9 @@ fn loses(
     call: u64,
     fault: Fault,
 ) -> Result<(), Fail> {
-    let table = table_of(alloc, Which::C)?;
     let second = edited(alloc, Which::C, &[&[piece]])?;
     let mut changing = ChangingPages::new(file(alloc, Which::C)?, second, call);
-    let mut sink = sink_of(alloc, ROOM, &[])?;
-    let found = dump_of(alloc, &mut changing, &table, &mut sink);
+    let (found, _sink) = dump_to(alloc, Which::C, &mut changing, ROOM, &[])?;
     assert!(rt; found == Err(DumpStop::Broken(fault)), "{piece:?}");
     Ok(())
 }
@@ -187,7 +185,7 @@ fn loses(
 #[test]
 fn rows_lost_behind_the_checks_are_named(rt: HostRuntime) -> Result<(), Fail> {
     let alloc = rt.alloc();
-    let call = call_of_the_rows(alloc)?;
+    let call = call_of_the_rows(&rt, alloc)?;
     loses(
         &rt,
         alloc,

@@ -1,10 +1,12 @@
 //! The lines of crafted records, over a file that tells nothing.
 
-ghost use Rattle.std.specs.Prelude.{◌≡◌, ◌<◌};
+ghost use Rattle.std.specs.Prelude.{◌≡◌, ◌<◌, ◌≤◌};
 
-use page_source::{ByteList, ChangingPages, Fails, Fault, MemorySink, Page, Rule, Steps, write_be};
+use page_source::{
+    ByteList, ChangingPages, Fails, Fault, MemorySink, NoMemory, Page, Rule, Steps, write_be,
+};
 use schema_text::Schema;
-use sql_dump::{Buffer, ChainRoom, RowReader, WriteStop, put_row};
+use sql_dump::{Buffer, ChainRoom, Row, RowReader, WriteStop, put_row};
 use std::alloc::Global;
 use std::marker::Brand;
 use std::process::Abort;
@@ -14,7 +16,8 @@ use std::test::Fail;
 const TABLE: &[u8] =
     b"table t dynamic\ncolumn id int notnull\ncolumn note text null\nclustered root 3 id\n";
 
-const LEAF: u32 = 3;
+/// The leaf on which each record is said to stand.
+pub const LEAF: u32 = 3;
 
 const ORIGIN: usize = 300;
 
@@ -65,28 +68,44 @@ const CUT: Case = Case {
     ..LONG
 };
 
-/// Writes the record.
-fn put_record(rt: &impl Abort, page: &mut Page, case: &Case) {
+/// How many bytes these parts have.
+fn length_of(rt: &impl Abort, parts: &[&[u8]]) -> u64
+    ensures { result < 9000 }
+{
     let mut total = 0;
-    for part in case.parts {
+    for part in parts {
         assert!(rt; part.len() < 1000 && total < 9000);
         total += part.len() as u64;
     }
     assert!(rt; total < 9000);
-    let is_long = total > 0;
-    let length = case.local.len();
-    assert!(rt; length < 100);
+    total
+}
+
+/// Puts the length of the text, by that of its local bytes, and the reference behind them where it has parts of so many
+/// bytes.
+fn put_length(page: &mut Page, null: bool, local: usize, total: u64)
+    requires local { local < 100 }
+    requires total { total < 9000 }
+{
+    if total > 0 {
+        page.put_bytes(ORIGIN - 8, &[local as u8 + 20, 0xC0]);
+        write_be::<4>(page, NOTE + local + 8, 38);
+        write_be::<4>(page, NOTE + local + 16, total);
+    } else if !null {
+        page.put_bytes(ORIGIN - 7, &[local as u8]);
+    }
+}
+
+/// Writes the record.
+fn put_record(rt: &impl Abort, page: &mut Page, case: &Case) {
+    let total = length_of(rt, case.parts);
+    let local = case.local.len();
+    assert!(rt; local < 100);
     page.clear();
     page.put_bytes(ORIGIN, &[0x80, 0, 0, 7]);
     page.put_bytes(ORIGIN - 6, &[u8::from(case.null)]);
     page.put_bytes(NOTE, case.local);
-    if is_long {
-        page.put_bytes(ORIGIN - 8, &[length as u8 + 20, 0xC0]);
-        write_be::<4>(page, NOTE + length + 8, 38);
-        write_be::<4>(page, NOTE + length + 16, total);
-    } else if !case.null {
-        page.put_bytes(ORIGIN - 7, &[length as u8]);
-    }
+    put_length(page, case.null, local, total);
 }
 
 /// The pages of its chain.
@@ -109,31 +128,58 @@ fn chain(rt: &impl Abort, alloc: Global, case: &Case) -> Result<ByteList, Fail> 
     Ok(file)
 }
 
-/// Puts its line.
-fn put_one<L: Ledger>(
-    alloc: Global,
-    table: &Schema,
-    page: &Page,
-    file: ByteList,
-    left: u32,
+fn sink_of(alloc: Global) -> Result<MemorySink, NoMemory> {
+    MemorySink::new(alloc, 1000, Fails::of(alloc, &[])?)
+}
+
+/// Room for parts, of which so many may be fetched.
+fn room_of(alloc: Global, left: u32) -> Result<ChainRoom, NoMemory> {
+    Ok(ChainRoom {
+        page: Page::zeroed(alloc)?,
+        left,
+        text: Buffer::new(alloc)?,
+    })
+}
+
+/// Puts the line of a row.
+fn put<L: Ledger>(
+    source: &mut ChangingPages,
+    sink: &mut MemorySink,
+    row: &Row,
+    room: &mut ChainRoom,
     blank: Blank,
-) -> Result<(Result<(), WriteStop>, MemorySink), Fail>
+) -> Result<(), WriteStop>
     requires name { blank.name ≡ L.name }
     requires parts { blank.parts ≡ L.parts }
     requires shared { 0 < blank.parts }
 {
+    put_row(source, sink, row, room, &mut Steps::<L>::new(blank))
+}
+
+/// Reads the record at this origin of a page, and puts its line, with so many parts at most from this file.
+pub fn put_one<L: Ledger>(
+    alloc: Global,
+    table: &Schema,
+    page: &Page,
+    origin: usize,
+    file: ByteList,
+    left: u32,
+    blank: Blank,
+) -> Result<(Result<(), WriteStop>, MemorySink), NoMemory>
+    requires origin { (125 ≤ origin) × (origin < 16384) }
+    requires name { blank.name ≡ L.name }
+    requires parts { blank.parts ≡ L.parts }
+    requires shared { 0 < blank.parts }
+{
+    let mut sink = sink_of(alloc)?;
+    let mut room = room_of(alloc, left)?;
     let mut reader = RowReader::new(alloc, table)?;
-    let mut sink = MemorySink::new(alloc, 1000, Fails::of(alloc, &[])?)?;
-    let mut room = ChainRoom {
-        page: Page::zeroed(alloc)?,
-        left,
-        text: Buffer::new(alloc)?,
-    };
-    let mut source = ChangingPages::new(file, ByteList::new(alloc), 100);
-    reader.read(page, LEAF, ORIGIN)?;
+    if let Err(stop) = reader.read(page, LEAF, origin) {
+        return Ok((Err(stop), sink));
+    }
     let row = reader.row(page, LEAF);
-    let steps = &mut Steps::<L>::new(blank);
-    let answer = put_row(&mut source, &mut sink, &row, &mut room, steps);
+    let mut source = ChangingPages::new(file, ByteList::new(alloc), 100);
+    let answer = put::<L>(&mut source, &mut sink, &row, &mut room, blank);
     Ok((answer, sink))
 }
 
@@ -157,7 +203,15 @@ fn a_line_is_put(rt: HostRuntime) -> Result<(), Fail> {
         put_record(&rt, &mut page, &case);
         let file = chain(&rt, alloc, &case)?;
         let left = case.left;
-        let (answer, sink) = put_one::<Brand>(alloc, &table, &page, file, left, Blank::new(1))?;
+        let (answer, sink) = put_one::<Brand>(
+            alloc,
+            &table,
+            &page,
+            ORIGIN,
+            file,
+            left,
+            Blank::new(1),
+        )?;
         assert!(rt; is_put(answer, sink.bytes(), case.values));
     }
     Ok(())

@@ -57,8 +57,8 @@ const CASES: [Case; 8] = [
 /// The ends of a tree that was walked, as if page 0 were its first leaf.
 fn ends_from_zero(rt: &impl Abort, alloc: Global) -> Result<TreeEnds, Fail> {
     let mut file = file_with(rt, alloc, &TWO_LEVELS, &[])?;
-    let space = audited::<Brand>(alloc, &mut file, Blank::new(1))?;
-    let mut ends = walked::<Brand>(alloc, &space, &mut file, Blank::new(1))??;
+    let space = audited::<ChangingPages, Brand>(alloc, &mut file, Blank::new(1))?;
+    let mut ends = walked::<ChangingPages, Brand>(alloc, &space, &mut file, Blank::new(1))??;
     ends.first_leaf = 0;
     Ok(ends)
 }

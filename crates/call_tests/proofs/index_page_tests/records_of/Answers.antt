@@ -10,7 +10,7 @@ front P [] ys all = All-nil P
 front P (x ∷ xs) ys all = All-cons P x xs (All-head P x (xs ++ ys) all) (front P xs ys (All-tail P x (xs ++ ys) all))
 
 pub of-requires-clause-spelled : goal.of-requires-clause-spelled
-of-requires-clause-spelled g c =
+of-requires-clause-spelled c =
     let page = c.args.page.now in
-    let is = c.in-None.ensures.sound.0 refl in
+    let is = c.in_default.ensures refl in
     front (λ o. IsSpelled page o c.args.fields.now) (records_of page) is.free is.spelled

@@ -2,7 +2,7 @@
 
 ghost use Rattle.std.specs.Prelude.{◌≡◌, ◌<◌};
 
-use crate::{CrossStop, Crossed, cross};
+use cross_index::{CrossStop, Crossed, cross};
 use page_source::{Fails, MemoryPages, PageSource, Steps};
 use schema_text::Schema;
 use std::alloc::Global;
@@ -63,17 +63,15 @@ fn cross_of(
 fn counts_the_entries_of_a_sound_file(rt: HostRuntime) -> Result<(), Fail> {
     let alloc = rt.alloc();
     let none = cross_of(alloc, Which::A, &[], &[])?;
-    assert_eq!(rt;
-        none,
-        Ok(Crossed {
+    assert!(rt;
+        none == Ok(Crossed {
             indexes: 0,
             entries: 0
         })
     );
     let two = cross_of(alloc, Which::D, &TWO_ENTRIES, &[])?;
-    assert_eq!(rt;
-        two,
-        Ok(Crossed {
+    assert!(rt;
+        two == Ok(Crossed {
             indexes: 1,
             entries: 2
         })
@@ -86,10 +84,10 @@ fn counts_the_entries_of_a_sound_file(rt: HostRuntime) -> Result<(), Fail> {
 fn names_the_least_key_of_one_side(rt: HostRuntime) -> Result<(), Fail> {
     let alloc = rt.alloc();
     let first = cross_of(alloc, Which::D, &TWO_ENTRIES, &[(4, 122, b" ")])?;
-    assert_eq!(rt; first, Err(CrossStop::Missing { index: 1, row: 1 }));
+    assert!(rt; first == Err(CrossStop::Missing { index: 1, row: 1 }));
     let second = cross_of(alloc, Which::D, &TWO_ENTRIES, &[(4, 133, b" ")])?;
-    assert_eq!(rt; second, Err(CrossStop::Missing { index: 1, row: 2 }));
+    assert!(rt; second == Err(CrossStop::Missing { index: 1, row: 2 }));
     let extra = cross_of(alloc, Which::D, &TWO_ENTRIES, &[(3, 146, b" ")])?;
-    assert_eq!(rt; extra, Err(CrossStop::Extra { index: 1, page: 4 }));
+    assert!(rt; extra == Err(CrossStop::Extra { index: 1, page: 4 }));
     Ok(())
 }

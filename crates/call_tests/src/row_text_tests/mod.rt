@@ -1,0 +1,4 @@
+//! Lines of rows, and texts of keys.
+
+mod lines;
+mod rows;
