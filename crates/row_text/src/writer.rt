@@ -66,6 +66,18 @@ impl RowWriter {
         Ok(())
     }
 
+    /// Adds the word that stands for the column's default, in the place of a value, one of at most 64.
+    pub fn default<O: ByteSink>(&mut self, sink: &mut O) -> Result<(), Failed>
+        requires { self.old.came < 64 }
+        ensures puts { Puts O.ByteSink sink.old sink.new (before_value self.old.came ++ codes "DEFAULT") result }
+        ensures counts { OnOk result (self.new ≡ with_value self.old self.old.lacks) }
+    {
+        put_comma(sink, self.came)?;
+        sink.put(b"DEFAULT")?;
+        self.came += 1;
+        Ok(())
+    }
+
     /// Adds the value that the bytes spell, one of at most 64.
     #[inline]
     pub fn value<O: ByteSink>(

@@ -22,7 +22,7 @@ use std::sync::ledger::Ledger;
 
 /// A column of a row: its type, the leaf, and where it lies there.
 #[derive(Drop)]
-pub(crate) struct Cell<'a> {
+pub struct Cell<'a> {
     pub kind: &'a ColumnType,
     pub page: &'a Page,
     pub place: Place,
@@ -41,7 +41,7 @@ impl<'a> Model for Cell<'a> {
 
 impl Cell<'_> {
     /// Its bytes on the leaf. Where it goes on elsewhere they end with a reference.
-    fn local(&self) -> &[u8]
+    pub fn local(&self) -> &[u8]
         ensures bytes { result.now ≡ local_bytes self.now }
         ensures short { length result.now ≤ 16384 }
         ensures refers { self.now.place.external ≡ true → 20 ≤ length result.now }
@@ -68,7 +68,7 @@ impl Cell<'_> {
 
 /// Puts the value of a column.
 #[inline]
-pub(crate) fn put_value<S: PageSource, O: ByteSink, L: Ledger>(
+pub fn put_value<S: PageSource, O: ByteSink, L: Ledger>(
     source: &mut S,
     sink: &mut O,
     writer: &mut RowWriter,

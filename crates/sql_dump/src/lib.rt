@@ -13,7 +13,9 @@ mod rows;
 mod stop;
 
 pub use buffer::Buffer;
+pub use cell::{Cell, put_value};
 pub use dump_table::dump;
+pub use line::put_line;
 pub use long::ChainRoom;
 pub use reader::RowReader;
 pub use row::{Row, put_row};

@@ -1,13 +1,14 @@
 //! The line of a row, kept in the buffer or put.
 
 ghost use Rattle.std.specs.Prelude.{◌≡◌, ◌≢◌, ◌+◌, ◌≤◌, List, length, IfOk, OnOk, OnErr, Err};
+ghost use Rattle.page_source.specs.declared.rule.Fault.{Fault};
 ghost use Rattle.page_source.specs.Faults.{Rose, HasCause};
 ghost use Rattle.page_source.specs.Objects.{GrowsByPart};
 ghost use Rattle.page_source.specs.Calls.{OfFile, AsksNoMore};
 ghost use Rattle.column_values.specs.declared.value.Value.{Value};
 ghost use Rattle.row_text.specs.Line.{line_of};
 ghost use Rattle.sql_dump.specs.Stops.{WritesOver};
-ghost use Rattle.sql_dump.specs.Cells.{ReadsRow, CanReadRow, pages_of_all};
+ghost use Rattle.sql_dump.specs.Cells.{ReadsRow, CanReadRow, BreaksRow, pages_of_all};
 ghost use Rattle.sql_dump.specs.Buffer.{IsSent, Keeps, LeavesOf, Moves};
 ghost use Rattle.sql_dump.specs.SomeRows.{KeepsSomeRow, MovesSomeRow};
 
@@ -47,6 +48,7 @@ fn keep_line<S: PageSource, L: Ledger>(
         → ReadsRow file row.now.row row_values
         → Keeps result buffer.old.bytes buffer.new.bytes (line_of row.now.row.table row_values)) }
     ensures some { KeepsSomeRow row.now.row.table result buffer.old.bytes buffer.new.bytes }
+    ensures broken { (fault : Fault) → result ≡ Err (WriteStop.Broken fault) → BreaksRow row.now fault }
     ensures left { IfOk result (λ kept. OfFile S.PageSource source.old (λ file.
         LeavesOf kept room.old.left room.new.left (length (pages_of_all file row.now.row)))) }
     ensures cost { steps.new + room.new.left ≡ steps.old + room.old.left }
@@ -72,7 +74,7 @@ fn keep_line<S: PageSource, L: Ledger>(
 
 /// Keeps the line of a row in the buffer, or puts it behind what the buffer holds. A line with values that go on
 /// elsewhere, or without room in the buffer, isn't kept.
-pub(crate) fn put_line<S: PageSource, O: ByteSink, L: Ledger>(
+pub fn put_line<S: PageSource, O: ByteSink, L: Ledger>(
     source: &mut S,
     sink: &mut O,
     buffer: &mut Buffer,
@@ -87,6 +89,7 @@ pub(crate) fn put_line<S: PageSource, O: ByteSink, L: Ledger>(
         (line_of row.now.row.table row_values)) }
     ensures some { OnOk result (MovesSomeRow row.now.row.table (O.written sink.old) (O.written sink.new)
         buffer.old.bytes buffer.new.bytes) }
+    ensures broken { (fault : Fault) → result ≡ Err (WriteStop.Broken fault) → BreaksRow row.now fault }
     ensures left { OnOk result (OfFile S.PageSource source.old (λ file.
         room.new.left + length (pages_of_all file row.now.row) ≡ room.old.left)) }
     ensures cost { steps.new + room.new.left ≡ steps.old + room.old.left }

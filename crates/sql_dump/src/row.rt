@@ -47,7 +47,7 @@ impl<'a> Model for Row<'a> {
 
 impl<'a> Row<'a> {
     /// Column `c`.
-    fn cell(&self, c: usize) -> Cell<'a>
+    pub fn cell(&self, c: usize) -> Cell<'a>
         requires { c < length self.now.row.table.columns }
         ensures { result ≡ cell_of_column self.now.row c }
     {

@@ -21,3 +21,4 @@ pub use leaf::RowLeaf;
 pub use record::check_row_values;
 pub use rows::LiveRows;
 pub use table::{Checked, Table, Whole};
+pub use value::{cut, text_of};

@@ -27,7 +27,7 @@ use std::sync::ledger::Ledger;
 const REFERENCE: usize = 20;
 
 /// A reader of the texts of a type; any bytes are one, where it isn't of utf8mb4.
-fn text_of(kind: &ColumnType) -> Utf8
+pub fn text_of(kind: &ColumnType) -> Utf8
     ensures fresh { WasFed result [] }
     ensures takes { (text : List ℕ) → TakesText result text ↔ IsTextOfKind kind.now text }
     ensures count { CountsUpTo 0 result }
@@ -40,7 +40,7 @@ fn text_of(kind: &ColumnType) -> Utf8
 }
 
 /// The local bytes before the reference, and the reference.
-fn cut(local: &[u8]) -> (&[u8], Reference)
+pub fn cut(local: &[u8]) -> (&[u8], Reference)
     requires { 20 ≤ length local.now }
     ensures front { result.0.now ≡ front_of local.now }
     ensures size { length result.0.now ≡ length local.now - 20 }
