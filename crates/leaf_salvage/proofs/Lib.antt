@@ -1,0 +1,4 @@
+pub mod Zeros
+pub mod Checks
+pub mod Maps
+pub mod Verdicts

@@ -1,0 +1,5 @@
+pub mod Standing
+pub mod Unused
+pub mod Leaf
+pub mod Known
+pub mod Laws
