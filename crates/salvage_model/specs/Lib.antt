@@ -1,0 +1,16 @@
+pub mod Follow
+pub mod ColumnChecks
+pub mod Judged
+pub mod SavedRow
+pub mod SavedLine
+pub mod Losses
+pub mod RowLaws
+pub mod Records
+pub mod Outcome
+pub mod Causes
+pub mod Saved
+pub mod Report
+pub mod IndexId
+pub mod Stops
+pub mod Salvage
+pub mod Laws
