@@ -1,0 +1,15 @@
+pub mod Follows
+pub mod Judgement
+pub mod Lists
+pub mod Stand
+pub mod Outcomes
+pub mod Used
+pub mod Levels
+pub mod Leaves
+pub mod Pieces
+pub mod Owners
+pub mod Whole
+pub mod Nothing
+pub mod Gather
+pub mod Sound
+pub mod SomeOutcome
