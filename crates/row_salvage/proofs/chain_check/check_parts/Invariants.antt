@@ -1,0 +1,28 @@
+use Rattle.std.proofs.Common.{◌≡◌, ◌≤◌, ◌+◌, ◌-◌, length}
+use Rattle.page_source.specs.Lists.{unmarked}
+use Rattle.page_source.specs.Calls.{OfFile, AsksNoMore}
+use Rattle.column_values.specs.Utf8Reader.{CountsUpTo}
+use Rattle.row_salvage.proofs.AlongChain.{IsReached, walk_of}
+use Rattle.row_salvage.proofs.chain_check.check_parts.Given as goal
+
+-- some pages held, were marked and fed
+abbrev pub invariant-loop-due : goal.invariant-loop-due
+invariant-loop-due g l =
+    let content = g.S.PageSource.content in
+    let faults = g.S.PageSource.faults in
+    record {
+      same : content l.source ≡ content l.fn.source;
+      later : faults l.fn.source ≤ faults l.source;
+      asked : AsksNoMore g.S.PageSource l.fn.source l.source l.fn.steps l.steps;
+      members : length l.marks ≡ length l.fn.marks;
+      spent : l.steps + unmarked l.marks ≤ l.fn.steps + unmarked l.fn.marks;
+      few : l.count + l.due.left ≤ l.chain.reference.length;
+      marked : l.count + unmarked l.marks ≤ unmarked l.fn.marks;
+      counts : CountsUpTo (16384 + (l.chain.reference.length - l.due.left)) l.text;
+      told : OfFile g.S.PageSource l.fn.source (λ file.
+          IsReached (walk_of file l.chain l.fn.marks) l.marks l.fn.text l.text l.due l.count (faults l.fn.source)
+          (faults l.source));
+    }
+
+abbrev pub decreases-loop-due : goal.decreases-loop-due
+decreases-loop-due g l = l.due.left
