@@ -1,0 +1,9 @@
+pub mod MetPages
+pub mod Places
+pub mod Firsts
+pub mod KeptTexts
+pub mod RowSteps
+pub mod LeafSteps
+pub mod PageSteps
+pub mod PartSteps
+pub mod SalvageEnds

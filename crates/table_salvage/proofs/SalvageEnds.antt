@@ -1,0 +1,294 @@
+-- The first page, and what stands after the last one.
+use Rattle.std.proofs.Common.{◌≡◌, ℕ, ◌≤◌, ◌++◌, Bool, false, List, [], replicate, Option, Result, Ok, Err}
+use Rattle.std.proofs.Common.{IfSome, refl, sym, ap, ◌∙◌, subst, arith, inl, inr}
+use Rattle.std.proofs.lemmas.List.{append-nil, get_or-replicate, get_or_past, length-replicate}
+use Rattle.std.proofs.lemmas.Bool.{false≢true, cases_lt}
+use Rattle.page_source.specs.declared.objects.PageSource.{Ghosts as FileOf}
+use Rattle.page_source.specs.declared.objects.ByteSink.{Ghosts as SinkOf}
+use Rattle.page_source.specs.declared.rule.Fault.{Fault}
+use Rattle.page_source.specs.Faults.{Rose}
+use Rattle.page_source.specs.Objects.{GrowsBy, GrowsByPart}
+use Rattle.page_source.proofs.Told.{told0, told1}
+use Rattle.page_source.proofs.Texts.{grows_on, grows_part, grows_whole}
+use Rattle.schema_text.specs.TableDef.{TableDef}
+use Rattle.sql_dump.proofs.SomeValues.{grows_none}
+use Rattle.sql_dump.proofs.Sends.{all_sent, sent_cut}
+use Rattle.sql_dump.proofs.Written.{grown_part}
+use Rattle.leaf_salvage.specs.Known.{Knows}
+use Rattle.leaf_salvage.specs.Standing.{reach_of}
+use Rattle.space_audit.specs.Marks.{is_set}
+use Rattle.salvage_model.specs.declared.kind.RecordKind.{RecordKind}
+use Rattle.salvage_model.specs.declared.saved.Saved.{Saved}
+use Rattle.salvage_model.specs.declared.stop.SalvageStop.{SalvageStop}
+use Rattle.salvage_model.specs.declared.stop.SalvageStop.TheVariants.{Root, Source, Sink, Losses, Memory, Changed}
+use Rattle.salvage_model.specs.IndexId.{IsId, HasNoId}
+use Rattle.salvage_model.specs.Outcome.{Job, looked_of_pages}
+use Rattle.salvage_model.specs.Saved.{text_of, numbers_of}
+use Rattle.salvage_model.specs.Report.{losses_of, numbers_line}
+use Rattle.salvage_model.specs.Salvage.{Wanted, Written, HasSaved, HasBegun, Salvages, SalvagesOver}
+use Rattle.table_salvage.specs.Work.{Work, Start, Progress, job_with, Kept, PagesDone, Broke, GoesOn}
+use Rattle.table_salvage.specs.Over.{PartOver}
+use Rattle.table_salvage.proofs.MetPages.{met_on, met_now}
+use Rattle.table_salvage.proofs.Firsts.{no_pages}
+use Rattle.table_salvage.proofs.PartSteps.{done}
+use Rattle.table_salvage.proofs.RowSteps.{broke}
+
+-- no page is marked
+none_set : (pages k : ℕ) → is_set (replicate pages false) k ≡ false
+none_set pages k =
+    elim (cases_lt k pages) [
+      | inl less ↦ get_or-replicate pages k false false less
+      | inr more ↦ get_or_past (replicate pages false) k false (omega (arith, length-replicate pages false))
+    ]
+
+abbrev pub none_saved : Saved
+none_saved = record { rows = 0; partial = 0; leaves = 0; lost = 0 }
+
+nothing_kept : (start : Start) (now : Progress) (job : Job) (pages : ℕ) → now.marks ≡ replicate pages false
+    → now.held ≡ [] → now.saved ≡ none_saved → now.written ≡ start.written → Kept start now job []
+unfolding text_of losses_of looked_of_pages numbers_of
+nothing_kept start now job pages marks held saved written = record {
+  marked = λ k. ap (λ (m : List Bool). is_set m k) marks ∙ none_set pages k;
+  numbers = saved;
+  text = record {
+    sent = [];
+    grown = subst (λ (w : Written). GrowsBy start.written.sink w.sink []) (sym written) (grows_none start.written.sink);
+    split = sym held;
+  };
+  report = subst (λ (w : Written). GrowsBy start.written.losses w.losses []) (sym written)
+      (grows_none start.written.losses);
+}
+
+-- before the first page
+pub begins : {work : Work} {start : Start} {now : Progress} (pages : ℕ)
+    → ((file : List ℕ) (missed : ℕ → Bool) → Knows file missed 0 now.known) → start.faults ≤ now.faults
+    → now.marks ≡ replicate pages false → now.held ≡ [] → now.saved ≡ none_saved → now.written ≡ start.written
+    → PagesDone 0 work start now
+begins {work = work} {start = start} {now = now} pages knows least marks held saved written = record {
+  later = least;
+  missed = record { pages = []; parts = [] };
+  cause = omega (arith, least);
+  pages = λ k there. absurd (false≢true there);
+  parts = λ k there. absurd (false≢true there);
+  holds = λ missed parts may. record {
+    knows = knows work.file missed;
+    outcomes = [];
+    pages = no_pages (job_with work missed parts);
+    kept = nothing_kept start now (job_with work missed parts) pages marks held saved written;
+  };
+}
+
+-- the work that is wanted
+abbrev pub wanted_work : List ℕ → Wanted → ℕ → Work
+wanted_work file wanted id = record { file = file; table = wanted.table; kind = wanted.kind; id = id }
+
+pub is_wanted : (file : List ℕ) (wanted : Wanted) (id : ℕ) (table : TableDef) (kind : RecordKind)
+    → table ≡ wanted.table → kind ≡ wanted.kind
+    → record { file = file; table = table; kind = kind; id = id } ≡ wanted_work file wanted id
+is_wanted file wanted id table kind table_is kind_is =
+    ap (λ (t : TableDef). record { file = file; table = t; kind = kind; id = id }) table_is
+    ∙ ap (λ (k : RecordKind). record { file = file; table = wanted.table; kind = k; id = id }) kind_is
+
+-- of some first pages a prefix was written
+pub has_begun : {file : List ℕ} {wanted : Wanted} {id : ℕ} {work : Work} {start : Start} {now : Progress}
+    → work ≡ wanted_work file wanted id → IsId file wanted.table wanted.given id → Broke work start now
+    → HasBegun file wanted start.faults now.faults start.written now.written
+has_begun {file = file} {wanted = wanted} {id = id} {start = start} {now = now} is found off =
+    let b : Broke (wanted_work file wanted id) start now = subst (λ (w : Work). Broke w start now) is off in
+    record {
+      id = id;
+      is_id = found;
+      missed = b.missed;
+      cause = b.cause;
+      outcomes = b.outcomes;
+      are_first = b.are_first;
+      text = b.text;
+      report = b.report;
+    }
+
+-- a page broke it off
+pub page_stops : {file : List ℕ} {id : ℕ} {work : Work} (wanted : Wanted) (start : Start) (now : Progress)
+    (Next : Type 0) (stop : SalvageStop) → work ≡ wanted_work file wanted id → IsId file wanted.table wanted.given id
+    → GoesOn {A = Unit {0}} (Err stop) Next (Broke work start now)
+    → Salvages file wanted start.faults now.faults (Err stop) start.written now.written
+page_stops wanted start now Next Root is found goes = absurd goes
+page_stops wanted start now Next Source is found goes = inr (has_begun is found goes)
+page_stops wanted start now Next Sink is found goes = has_begun is found goes
+page_stops wanted start now Next Losses is found goes = has_begun is found goes
+page_stops wanted start now Next Memory is found goes = absurd goes
+page_stops wanted start now Next (Changed fault) is found goes = absurd goes
+
+-- the same with other outputs
+abbrev pub with_written : Progress → Written → Progress
+with_written now written = record {
+  known = now.known;
+  marks = now.marks;
+  saved = now.saved;
+  held = now.held;
+  written = written;
+  faults = now.faults;
+}
+
+-- what is held back wasn't put, or in part
+pub flush_breaks : {work : Work} {start : Start} {n : ℕ} {now : Progress} (new : Written)
+    → GrowsByPart now.written.sink new.sink now.held → new.losses ≡ now.written.losses → PagesDone n work start now
+    → Broke work start (with_written now new)
+flush_breaks {work = work} {start = start} {now = now} new cut same met =
+    broke (met_on (omega arith) refl (λ pages parts at. record {
+      outcomes = at.outcomes;
+      first = at.pages.first;
+      text = sent_cut start.written.sink now.written.sink new.sink
+          (text_of work.table at.outcomes) now.held at.kept.text
+          cut;
+      report = rw same (grown_part start.written.losses now.written.losses (losses_of work.table at.outcomes)
+          (numbers_line (numbers_of at.outcomes)) at.kept.report);
+    }) met)
+
+-- the line of numbers wasn't put, or in part
+pub numbers_break : {work : Work} {start : Start} {n : ℕ} {now : Progress} (new : Written)
+    → GrowsBy now.written.sink new.sink now.held
+    → GrowsByPart now.written.losses new.losses (numbers_line now.saved) → PagesDone n work start now
+    → Broke work start (with_written now new)
+numbers_break {work = work} {start = start} {now = now} new sent cut met =
+    broke (met_on (omega arith) refl (λ pages parts at. record {
+      outcomes = at.outcomes;
+      first = at.pages.first;
+      text = grows_whole start.written.sink new.sink (text_of work.table at.outcomes)
+          (all_sent start.written.sink now.written.sink new.sink (text_of work.table at.outcomes) now.held at.kept.text
+          sent);
+      report =
+          let line : GrowsByPart now.written.losses new.losses (numbers_line (numbers_of at.outcomes)) =
+          subst (λ (s : Saved). GrowsByPart now.written.losses new.losses (numbers_line s)) at.kept.numbers cut in
+          subst (λ (t : List ℕ). GrowsByPart start.written.losses new.losses (losses_of work.table at.outcomes ++ t))
+          (append-nil (numbers_line (numbers_of at.outcomes)))
+          (grows_part start.written.losses now.written.losses new.losses (losses_of work.table at.outcomes)
+          (numbers_line (numbers_of at.outcomes)) [] at.kept.report line);
+    }) met)
+
+-- all was written
+pub all_saved : {file : List ℕ} {wanted : Wanted} {id n : ℕ} {work : Work} {start : Start} {now : Progress}
+    (new : Written) → work ≡ wanted_work file wanted id → IsId file wanted.table wanted.given id → n ≡ reach_of file
+    → GrowsBy now.written.sink new.sink now.held → GrowsBy now.written.losses new.losses (numbers_line now.saved)
+    → PagesDone n work start now → HasSaved file wanted start.faults now.faults now.saved start.written new
+all_saved {file = file} {wanted = wanted} {id = id} {n = n} {start = start}
+    {now = now} new is found all sent report made =
+    let met : PagesDone n (wanted_work file wanted id) start now =
+    subst (λ (w : Work). PagesDone n w start now) is made in
+    let at = met_now met in
+    record {
+      id = id;
+      is_id = found;
+      missed = met.missed;
+      cause = met.cause;
+      outcomes = at.outcomes;
+      is_saved = record {
+        first = at.pages.first;
+        all = at.pages.all ∙ all;
+        full = λ k below. at.pages.full k (omega (arith, below, at.pages.all));
+      };
+      numbers = at.kept.numbers;
+      text = all_sent start.written.sink now.written.sink new.sink (text_of wanted.table at.outcomes) now.held
+          at.kept.text sent;
+      report =
+          let line : GrowsBy now.written.losses new.losses (numbers_line (numbers_of at.outcomes)) =
+          subst (λ (s : Saved). GrowsBy now.written.losses new.losses (numbers_line s)) at.kept.numbers report in
+          grows_on start.written.losses now.written.losses new.losses (losses_of wanted.table at.outcomes)
+          (numbers_line (numbers_of at.outcomes)) at.kept.report line;
+    }
+
+-- two answers that are one
+abbrev pub SameErr : Type 0 → SalvageStop → SalvageStop → Type 0
+SameErr A a b = let x : Result A SalvageStop = Err a in let y : Result A SalvageStop = Err b in x ≡ y
+
+pub same_err : (A B : Type 0) (a b : SalvageStop) → SameErr A a b → SameErr B a b
+same_err A B a b is = cc
+
+-- no id was found
+pub id_stops : (o : Option (List ℕ)) (wanted : Wanted) (before now : ℕ) (old : Written) (stop : SalvageStop)
+    → (SameErr ℕ stop Root → IfSome o (λ file. HasNoId file wanted.table wanted.given))
+    → (SameErr ℕ stop Sink → ⊥) → (SameErr ℕ stop Losses → ⊥)
+    → ((fault : Fault) → SameErr ℕ stop (Changed fault) → ⊥)
+    → IfSome o (λ file. Salvages file wanted before now (Err stop) old old)
+id_stops o wanted before now old Root root sink losses changed = told1 o (λ file none. (none, refl)) (root refl)
+id_stops o wanted before now old Source root sink losses changed = told0 o (λ file. inl refl)
+id_stops o wanted before now old Sink root sink losses changed = absurd (sink refl)
+id_stops o wanted before now old Losses root sink losses changed = absurd (losses refl)
+id_stops o wanted before now old Memory root sink losses changed = told0 o (λ file. refl)
+id_stops o wanted before now old (Changed fault) root sink losses changed = absurd (changed fault refl)
+
+module _ {S O E : Type 0} (g : FileOf S) (o : SinkOf O) (e : SinkOf E) where
+  -- what a page that broke it off leaves
+  pub over_stops : {old new : S × O × E} {steps steps_now : ℕ} (stop : SalvageStop)
+      → PartOver {A = Unit {0}} g o e old new steps steps_now (Err stop)
+      → SalvagesOver g o e old.0 new.0 old.1 new.1 old.2 new.2 steps steps_now (Err stop)
+  over_stops stop over = record {
+    same = over.same;
+    source_later = over.source_later;
+    sink_later = over.sink_later;
+    losses_later = over.losses_later;
+    source_rose = λ is. over.source_rose (same_err Saved (Unit {0}) stop Source is);
+    sink_rose = λ is. over.sink_rose (same_err Saved (Unit {0}) stop Sink is);
+    losses_rose = λ is. over.losses_rose (same_err Saved (Unit {0}) stop Losses is);
+    rootless = λ is. absurd (over.root (same_err Saved (Unit {0}) stop Root is));
+    unwritten = λ is. absurd (over.memory (same_err Saved (Unit {0}) stop Memory is));
+    changed = λ fault is. over.changed fault (same_err Saved (Unit {0}) stop (Changed fault) is);
+    asked = over.asked;
+  }
+
+  -- what was held back wasn't put
+  pub over_unsent : {old : S × O × E} {source : S} {sink : O} {losses : E} {steps steps_now : ℕ} (sink_now : O)
+      → PartOver g o e old (source, sink, losses) steps steps_now done → o.faults sink ≤ o.faults sink_now
+      → Rose (o.faults sink) (o.faults sink_now)
+      → SalvagesOver g o e old.0 source old.1 sink_now old.2 losses steps steps_now (Err Sink)
+  over_unsent sink_now over later rose = record {
+    same = over.same;
+    source_later = over.source_later;
+    sink_later = omega (arith, over.sink_later, later);
+    losses_later = over.losses_later;
+    source_rose = λ is. cc;
+    sink_rose = λ is. omega (arith, rose, over.sink_later);
+    losses_rose = λ is. cc;
+    rootless = λ is. cc;
+    unwritten = λ is. cc;
+    changed = λ fault is. cc;
+    asked = over.asked;
+  }
+
+  -- the line of numbers wasn't
+  pub over_unreported : {old : S × O × E} {source : S} {sink : O} {losses : E} {steps steps_now : ℕ} (sink_now : O)
+      (losses_now : E) → PartOver g o e old (source, sink, losses) steps steps_now done
+      → o.faults sink ≤ o.faults sink_now → e.faults losses ≤ e.faults losses_now
+      → Rose (e.faults losses) (e.faults losses_now)
+      → SalvagesOver g o e old.0 source old.1 sink_now old.2 losses_now steps steps_now (Err Losses)
+  over_unreported sink_now losses_now over later reported rose = record {
+    same = over.same;
+    source_later = over.source_later;
+    sink_later = omega (arith, over.sink_later, later);
+    losses_later = omega (arith, over.losses_later, reported);
+    source_rose = λ is. cc;
+    sink_rose = λ is. cc;
+    losses_rose = λ is. omega (arith, rose, over.losses_later);
+    rootless = λ is. cc;
+    unwritten = λ is. cc;
+    changed = λ fault is. cc;
+    asked = over.asked;
+  }
+
+  -- all was
+  pub over_saved : {old : S × O × E} {source : S} {sink : O} {losses : E} {steps steps_now : ℕ} (sink_now : O)
+      (losses_now : E) (saved : Saved) → PartOver g o e old (source, sink, losses) steps steps_now done
+      → o.faults sink ≤ o.faults sink_now → e.faults losses ≤ e.faults losses_now
+      → SalvagesOver g o e old.0 source old.1 sink_now old.2 losses_now steps steps_now (Ok saved)
+  over_saved sink_now losses_now saved over later reported = record {
+    same = over.same;
+    source_later = over.source_later;
+    sink_later = omega (arith, over.sink_later, later);
+    losses_later = omega (arith, over.losses_later, reported);
+    source_rose = λ is. cc;
+    sink_rose = λ is. cc;
+    losses_rose = λ is. cc;
+    rootless = λ is. cc;
+    unwritten = λ is. cc;
+    changed = λ fault is. cc;
+    asked = over.asked;
+  }
