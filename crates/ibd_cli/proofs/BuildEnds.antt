@@ -17,16 +17,18 @@ use Rattle.space_builder.specs.layout.Layout.{Rows, layout_size}
 use Rattle.space_builder.specs.build.BadLine.{RootOrderChecks}
 use Rattle.space_builder.specs.build.Build.{Builds, BuildsWithCause, ReadsText, LacksHead}
 use Rattle.space_builder.specs.build.Outcome.{ComesTo, RootsHaveOneAnswer, BuildHasOneOutcome, LeavesStore}
-use Rattle.ibd_cli.specs.declared.schema_file.SchemaStop.{SchemaStop}
-use Rattle.ibd_cli.specs.declared.schema_file.SchemaStop.TheVariants.{Refused, Source, Memory}
+use Rattle.command_line.specs.declared.schema_file.SchemaStop.{SchemaStop}
+use Rattle.command_line.specs.declared.schema_file.SchemaStop.TheVariants.{Refused, Source, Memory}
 use Rattle.ibd_cli.specs.declared.status.Status.{Status}
 use Rattle.ibd_cli.specs.declared.status.Status.TheVariants as statuses
 use Rattle.ibd_cli.specs.Run.{EndsAs}
 use Rattle.ibd_cli.specs.Build.{Objects, Meanings, Texts, TellsTexts, built_line, IsRefusedForBuild, GivesBuilt}
 use Rattle.ibd_cli.specs.Build.{WritesNothing, ReadsTexts, BuildsWhole, EndsBuild, ServesBuild}
-use Rattle.ibd_cli.specs.Answers.{status_of_schema, status_of_build, ReadsSchema}
-use Rattle.ibd_cli.proofs.OneAnswer.{HasOneAnswer}
-use Rattle.ibd_cli.proofs.Outcomes.{no_table, one_refusal}
+use Rattle.command_line.specs.SchemaFile.{ReadsSchema}
+use Rattle.ibd_cli.specs.Answers.{status_of_schema, status_of_build}
+use Rattle.command_line.proofs.OneAnswer.{HasOneAnswer}
+use Rattle.command_line.proofs.OneAnswer.{no_table}
+use Rattle.ibd_cli.proofs.Outcomes.{one_refusal}
 use Rattle.ibd_cli.proofs.Serving.{at_told, Stopped, HasTable, is_source, never_sink}
 use Rattle.ibd_cli.proofs.BuildOutcomes.{status_of_outcome, never_refused, refused_as_root, defines_one}
 

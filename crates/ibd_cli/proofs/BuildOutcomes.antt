@@ -14,8 +14,8 @@ use Rattle.ibd_cli.specs.declared.status.Status.{Status}
 use Rattle.ibd_cli.specs.declared.status.Status.TheVariants.{Done, SchemaRefused, RowsRefused, Full}
 use Rattle.ibd_cli.specs.Build.{IsRefusedForBuild, GivesBuilt}
 use Rattle.ibd_cli.specs.Answers.{status_of_build}
-use Rattle.ibd_cli.proofs.OneAnswer.{HasOneAnswer}
-use Rattle.ibd_cli.proofs.Outcomes.{no_table}
+use Rattle.command_line.proofs.OneAnswer.{HasOneAnswer}
+use Rattle.command_line.proofs.OneAnswer.{no_table}
 use Rattle.ibd_cli.proofs.Serving.{same_table}
 
 -- the status of what comes of a table and a text

@@ -12,7 +12,7 @@ use Rattle.cross_index.specs.declared.crossed.CrossStop.TheVariants.{Broken, Mis
 use Rattle.cross_index.specs.Cross.{Crosses}
 use Rattle.cross_index.specs.Stops.{CrossesOver}
 use Rattle.ibd_cli.specs.declared.status.Status.TheVariants as statuses
-use Rattle.ibd_cli.specs.declared.words.Task.TheVariants.{Cross}
+use Rattle.ibd_cli.specs.declared.forms.Task.TheVariants.{Cross}
 use Rattle.ibd_cli.specs.Answers.{status_of_cross, Ends, IsOfFile, ServesFile}
 
 stop_ends : (key file : List ℕ) (table : TableDef) (stop : CrossStop) (o : Option (List ℕ))

@@ -11,7 +11,7 @@ use Rattle.sql_dump.specs.declared.stop.DumpStop.{DumpStop}
 use Rattle.sql_dump.specs.declared.stop.DumpStop.TheVariants.{Broken, Source, Sink, Memory}
 use Rattle.sql_dump.specs.Dump.{GrewByPart, Dumps, DumpsOver}
 use Rattle.ibd_cli.specs.declared.status.Status.TheVariants as statuses
-use Rattle.ibd_cli.specs.declared.words.Task.TheVariants.{Dump}
+use Rattle.ibd_cli.specs.declared.forms.Task.TheVariants.{Dump}
 use Rattle.ibd_cli.specs.Run.{ComesBefore}
 use Rattle.ibd_cli.specs.Answers.{status_of_dump, HasPart, Ends, IsOfFile, ServesFile}
 

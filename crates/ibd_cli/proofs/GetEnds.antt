@@ -11,7 +11,7 @@ use Rattle.key_lookup.specs.declared.stop.GetStop.TheVariants.{Refused, Absent, 
 use Rattle.key_lookup.specs.KeyOfText.{IsNoKey}
 use Rattle.key_lookup.specs.Get.{Gets, GetsOver, TouchesNothing, get_steps}
 use Rattle.ibd_cli.specs.declared.status.Status.TheVariants as statuses
-use Rattle.ibd_cli.specs.declared.words.Task.TheVariants.{Get}
+use Rattle.ibd_cli.specs.declared.forms.Task.TheVariants.{Get}
 use Rattle.ibd_cli.specs.Run.{ComesBefore, EndsAs}
 use Rattle.ibd_cli.specs.Answers.{status_of_get, Ends, IsOfFile, ServesFile}
 

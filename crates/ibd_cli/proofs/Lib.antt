@@ -1,8 +1,5 @@
 pub mod WordLists
-pub mod CameLemmas
 pub mod Joined
-pub mod SchemaReading
-pub mod OneAnswer
 pub mod DumpEnds
 pub mod CrossEnds
 pub mod GetEnds

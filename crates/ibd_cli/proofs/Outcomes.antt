@@ -20,34 +20,16 @@ use Rattle.ibd_cli.specs.declared.status.Status.{Status}
 use Rattle.ibd_cli.specs.declared.status.Status.TheVariants.{Done, SchemaRefused, Broken}
 use Rattle.ibd_cli.specs.declared.status.Status.TheVariants.{SourceFault, SinkFault, Memory}
 use Rattle.ibd_cli.specs.declared.status.Status.TheVariants.{CrossMissing, CrossExtra, KeyRefused, Absent}
-use Rattle.ibd_cli.specs.declared.words.Task.{Task}
-use Rattle.ibd_cli.specs.declared.words.Task.TheVariants.{Cross, Get}
-use Rattle.ibd_cli.specs.Outcome.{IsRefusedText, OfTable, OfKey, FirstOf, IsNoKeyOf, IsAbsentOf, IsDone, Told, Gives}
+use Rattle.ibd_cli.specs.declared.forms.Task.{Task}
+use Rattle.ibd_cli.specs.declared.forms.Task.TheVariants.{Cross, Get}
+use Rattle.command_line.specs.SchemaFile.{IsRefusedText}
+use Rattle.ibd_cli.specs.Outcome.{OfTable, OfKey, FirstOf, IsNoKeyOf, IsAbsentOf, IsDone, Told, Gives}
 use Rattle.ibd_cli.specs.Outcome.{FindsDifference}
 use Rattle.ibd_cli.specs.Answers.{Ends}
 use Rattle.ibd_cli.specs.Run.{EndsAs}
-use Rattle.ibd_cli.proofs.OneAnswer.{HasOneAnswer}
+use Rattle.command_line.proofs.OneAnswer.{HasOneAnswer, no_table, some_table, some_bad}
 
--- a refused text is that of no table
-err_is_not_ok : (table : TableDef) (bad : BadLine) → Ok table ≡ Err bad → ⊥
-err_is_not_ok table bad e = cc
-
-pub no_table : (text : List ℕ) (one : HasOneAnswer text) (line : ℕ) (why : SchemaWhy) (table : TableDef)
-    → IsRefusedText text line why → IsTextOf table text → ⊥
-no_table text one line why table refused is =
-    let bad : BadLine = record { line = line; why = why } in
-    err_is_not_ok table bad (one (Ok table) (Err bad) is refused)
-
--- another text is that of one table, and a refused one is refused in one way
-abbrev AreSame : Result TableDef BadLine → Result TableDef BadLine → Type 0
-AreSame x y = x ≡ y
-
-some_table : (a b : TableDef) → AreSame (Ok a) (Ok b) → a ≡ b
-some_table a b e = cc
-
-some_bad : (a b : BadLine) → AreSame (Err a) (Err b) → a ≡ b
-some_bad a b e = cc
-
+-- a refused text is refused in one way
 pub one_refusal : (text : List ℕ) (one : HasOneAnswer text) (line other : ℕ) (why reason : SchemaWhy)
     → IsRefusedText text line why → IsRefusedText text other reason
     → SchemaRefused line why ≡ SchemaRefused other reason

@@ -15,18 +15,21 @@ use Rattle.schema_text.specs.declared.errors.SchemaWhy.{SchemaWhy}
 use Rattle.column_values.specs.Order.{Key}
 use Rattle.key_lookup.specs.KeyOfText.{SpellsKey}
 use Rattle.key_lookup.specs.Get.{IsLineFound}
-use Rattle.ibd_cli.specs.declared.schema_file.SchemaStop.{SchemaStop}
-use Rattle.ibd_cli.specs.declared.schema_file.SchemaStop.TheVariants.{Refused, Source, Memory}
+use Rattle.command_line.specs.declared.schema_file.SchemaStop.{SchemaStop}
+use Rattle.command_line.specs.declared.schema_file.SchemaStop.TheVariants.{Refused, Source, Memory}
 use Rattle.ibd_cli.specs.declared.status.Status.{Status}
 use Rattle.ibd_cli.specs.declared.status.Status.TheVariants as statuses
-use Rattle.ibd_cli.specs.declared.words.Task.{Task}
-use Rattle.ibd_cli.specs.declared.words.Task.TheVariants.{Check, Dump, Cross, Get}
-use Rattle.ibd_cli.specs.Reading.{IsReadUpTo}
-use Rattle.ibd_cli.specs.Outcome.{IsRefusedText, FirstOf, IsDone, IsNoKeyOf, Told, Gives}
+use Rattle.ibd_cli.specs.declared.forms.Task.{Task}
+use Rattle.ibd_cli.specs.declared.forms.Task.TheVariants.{Check, Dump, Cross, Get}
+use Rattle.command_line.specs.Reading.{IsReadUpTo}
+use Rattle.command_line.specs.SchemaFile.{IsRefusedText}
+use Rattle.ibd_cli.specs.Outcome.{FirstOf, IsDone, IsNoKeyOf, Told, Gives}
 use Rattle.ibd_cli.specs.Run.{EndsAs, IsNoKeyIn, ReadsInputs, LeavesPart, LeavesUnread, Leaves, IsOfTable, Serves}
-use Rattle.ibd_cli.specs.Answers.{status_of_schema, ReadsSchema, HasPart, EndsUnread, Ends, IsOfFile, ServesFile}
-use Rattle.ibd_cli.proofs.OneAnswer.{HasOneAnswer}
-use Rattle.ibd_cli.proofs.Outcomes.{no_table, one_refusal, refused_gives, AnswersOnce, same_key, of_table}
+use Rattle.command_line.specs.SchemaFile.{ReadsSchema}
+use Rattle.ibd_cli.specs.Answers.{status_of_schema, HasPart, EndsUnread, Ends, IsOfFile, ServesFile}
+use Rattle.command_line.proofs.OneAnswer.{HasOneAnswer}
+use Rattle.command_line.proofs.OneAnswer.{no_table}
+use Rattle.ibd_cli.proofs.Outcomes.{one_refusal, refused_gives, AnswersOnce, same_key, of_table}
 use Rattle.ibd_cli.proofs.Outcomes.{ends_as, sound_of}
 
 -- what holds of a told content holds where it is told

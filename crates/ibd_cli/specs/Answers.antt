@@ -7,8 +7,6 @@ use Rattle.page_source.specs.declared.checks.Stop.TheVariants as stops
 use Rattle.page_source.specs.Faults.{Rose}
 use Rattle.page_source.specs.Objects.{GrowsBy, GrowsByPart}
 use Rattle.page_source.specs.Calls.{OfFile}
-use Rattle.schema_text.specs.declared.errors.SchemaError.{SchemaError}
-use Rattle.schema_text.specs.declared.errors.SchemaError.TheVariants as refusals
 use Rattle.schema_text.specs.declared.errors.SchemaWhy.TheVariants as whys
 use Rattle.schema_text.specs.TableDef.{TableDef}
 use Rattle.schema_text.specs.Grammar.{IsTextOf}
@@ -25,20 +23,15 @@ use Rattle.space_builder.specs.declared.built.BuildStop.TheVariants as builds
 use Rattle.key_lookup.specs.Get.{IsLineFound}
 use Rattle.sample_table.specs.declared.made.SampleStop.{SampleStop}
 use Rattle.sample_table.specs.declared.made.SampleStop.TheVariants as samples
-use Rattle.ibd_cli.specs.declared.schema_file.SchemaStop.{SchemaStop}
-use Rattle.ibd_cli.specs.declared.schema_file.SchemaStop.TheVariants.{Refused, Source, Memory}
+use Rattle.command_line.specs.declared.schema_file.SchemaStop.{SchemaStop}
+use Rattle.command_line.specs.declared.schema_file.SchemaStop.TheVariants.{Refused, Source, Memory}
 use Rattle.ibd_cli.specs.declared.status.Status.{Status}
 use Rattle.ibd_cli.specs.declared.status.Status.TheVariants as statuses
-use Rattle.ibd_cli.specs.declared.words.Task.{Task}
-use Rattle.ibd_cli.specs.declared.words.Task.TheVariants.{Check, Dump, Cross, Get}
-use Rattle.ibd_cli.specs.Outcome.{IsRefusedText, OfKey, FirstOf, IsDone, IsNoKeyOf, IsAbsentOf, task_steps}
+use Rattle.ibd_cli.specs.declared.forms.Task.{Task}
+use Rattle.ibd_cli.specs.declared.forms.Task.TheVariants.{Check, Dump, Cross, Get}
+use Rattle.ibd_cli.specs.Outcome.{OfKey, FirstOf, IsDone, IsNoKeyOf, IsAbsentOf, task_steps}
 use Rattle.ibd_cli.specs.Outcome.{FindsDifference}
 use Rattle.ibd_cli.specs.Run.{ComesBefore, EndsAs, IsOfTable}
-
--- the stop that a refusal is
-abbrev pub stop_of_schema : SchemaError → SchemaStop
-stop_of_schema (refusals.Refused line why) = Refused line why
-stop_of_schema refusals.Memory = Memory
 
 -- the status of a command that the schema text stops, that the checks stop, and that a dump stops
 abbrev pub status_of_schema : SchemaStop → Status
@@ -87,13 +80,6 @@ status_of_build builds.Memory = statuses.Memory
 abbrev pub status_of_sample : SampleStop → Status
 status_of_sample samples.Full = statuses.Full
 status_of_sample samples.Memory = statuses.Memory
-
--- the text was read to its end and is that of the schema, or it is refused
-abbrev pub ReadsSchema : List ℕ → Option (List ℕ) → Result TableDef SchemaStop → Type 0
-ReadsSchema text left (Ok table) = IsTextOf table text × (left ≡ Some [])
-ReadsSchema text left (Err (Refused line why)) = IsRefusedText text line why
-ReadsSchema text left (Err Source) = ⊤
-ReadsSchema text left (Err Memory) = ⊤
 
 -- a prefix of the output was written
 abbrev pub HasPart : Task → List ℕ → List ℕ → TableDef → Option (List ℕ) → Option (List ℕ) → Type 0

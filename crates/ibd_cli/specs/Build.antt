@@ -17,9 +17,9 @@ use Rattle.space_builder.specs.build.Outcome.{ComesTo}
 use Rattle.ibd_cli.specs.declared.status.Status.{Status}
 use Rattle.ibd_cli.specs.declared.status.Status.TheVariants.{Done, SchemaRefused, RowsRefused}
 use Rattle.ibd_cli.specs.declared.status.Status.TheVariants.{SourceFault, SinkFault, StoreFault, Memory, Full}
-use Rattle.ibd_cli.specs.Lines.{counted}
-use Rattle.ibd_cli.specs.Reading.{IsReadUpTo}
-use Rattle.ibd_cli.specs.Outcome.{IsRefusedText, IsOfNoTable}
+use Rattle.command_line.specs.Lines.{counted}
+use Rattle.command_line.specs.Reading.{IsReadUpTo}
+use Rattle.command_line.specs.SchemaFile.{IsRefusedText, IsOfNoTable}
 use Rattle.ibd_cli.specs.Run.{EndsAs}
 
 -- the objects that a build names

@@ -1,9 +1,9 @@
 -- The forms of the command line: the words behind the program's name.
 use Rattle.std.specs.Prelude.{◌≡◌, ℕ, ◌≤◌, List, [], ◌∷◌, codes, decimal, slice_index_or}
-use Rattle.ibd_cli.specs.declared.words.Task.{Task}
-use Rattle.ibd_cli.specs.declared.words.Task.TheVariants.{Check, Dump, Cross, Get}
-use Rattle.ibd_cli.specs.declared.words.Form.{Form}
-use Rattle.ibd_cli.specs.declared.words.Form.TheVariants.{Table, Build, Sample}
+use Rattle.ibd_cli.specs.declared.forms.Task.{Task}
+use Rattle.ibd_cli.specs.declared.forms.Task.TheVariants.{Check, Dump, Cross, Get}
+use Rattle.ibd_cli.specs.declared.forms.Form.{Form}
+use Rattle.ibd_cli.specs.declared.forms.Form.TheVariants.{Table, Build, Sample}
 
 -- the first word of a command on a table
 abbrev pub task_word : Task → List ℕ

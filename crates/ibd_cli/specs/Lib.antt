@@ -1,7 +1,5 @@
 pub mod Forms
 pub mod Lines
-pub mod Causes
-pub mod Reading
 pub mod Outcome
 pub mod Run
 pub mod Build

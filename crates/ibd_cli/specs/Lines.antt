@@ -1,9 +1,6 @@
 -- What is printed: the line of a status.
-use Rattle.std.specs.Prelude.{ℕ, List, [], ◌++◌, codes, decimal}
-use Rattle.page_source.specs.declared.rule.Fault.{Fault}
-use Rattle.page_source.specs.Rules.{rule_number, rule_name}
-use Rattle.schema_text.specs.declared.errors.SchemaWhy.{SchemaWhy}
-use Rattle.schema_text.specs.declared.errors.SchemaWhy.TheVariants as whys
+use Rattle.std.specs.Prelude.{ℕ, List, [], ◌++◌, codes}
+use Rattle.command_line.specs.Lines.{counted, why_word, refusal_line, fault_line}
 use Rattle.space_builder.specs.declared.built.RowsWhy.{RowsWhy}
 use Rattle.space_builder.specs.declared.built.RowsWhy.TheVariants as rows_whys
 use Rattle.ibd_cli.specs.declared.status.Status.{Status}
@@ -11,37 +8,12 @@ use Rattle.ibd_cli.specs.declared.status.Status.TheVariants.{Done, Usage, Schema
 use Rattle.ibd_cli.specs.declared.status.Status.TheVariants.{SourceFault, SinkFault, StoreFault, Memory, Full}
 use Rattle.ibd_cli.specs.declared.status.Status.TheVariants.{CrossMissing, CrossExtra, KeyRefused, Absent}
 
--- a number behind its name
-abbrev pub counted : List ℕ → ℕ → List ℕ
-counted name n = name ++ decimal n
-
-abbrev pub why_word : SchemaWhy → List ℕ
-why_word whys.Size = codes "size"
-why_word whys.End = codes "end"
-why_word whys.Form = codes "form"
-why_word whys.Name = codes "name"
-why_word whys.Number = codes "number"
-why_word whys.Count = codes "count"
-why_word whys.Twice = codes "twice"
-why_word whys.Unknown = codes "unknown"
-why_word whys.Key = codes "key"
-why_word whys.Root = codes "root"
-
 abbrev pub rows_why_word : RowsWhy → List ℕ
 rows_why_word rows_whys.Long = codes "long"
 rows_why_word rows_whys.Input = codes "input"
 rows_why_word rows_whys.Line = codes "line"
 rows_why_word rows_whys.Order = codes "order"
 rows_why_word rows_whys.Big = codes "big"
-
--- a line of a text that is refused, and why
-abbrev pub refusal_line : List ℕ → ℕ → List ℕ → List ℕ
-refusal_line text line why = counted text line ++ codes " " ++ why ++ codes "\n"
-
-abbrev pub fault_line : Fault → List ℕ
-fault_line fault =
-    counted (codes "broken ") (rule_number fault.rule) ++ codes " " ++ rule_name fault.rule
-    ++ counted (codes " page ") fault.page ++ codes "\n"
 
 -- where the rows and an index differ: the number of the index, and the place that one side has alone
 abbrev pub difference_line : ℕ → List ℕ → ℕ → List ℕ

@@ -5,7 +5,6 @@ use Rattle.column_values.specs.Order.{Key}
 use Rattle.schema_text.specs.declared.errors.SchemaWhy.{SchemaWhy}
 use Rattle.schema_text.specs.TableDef.{TableDef}
 use Rattle.schema_text.specs.Grammar.{IsTextOf}
-use Rattle.schema_text.specs.Refusals.{SchemaChecks}
 use Rattle.table_check.specs.declared.table.Checked.{Checked}
 use Rattle.table_check.specs.First.{First, IsChecked, check_steps, dump_steps}
 use Rattle.table_check.specs.Valid.{IsValid}
@@ -19,22 +18,15 @@ use Rattle.key_lookup.specs.Get.{IsLineFound, IsAbsent, get_steps}
 use Rattle.ibd_cli.specs.declared.status.Status.{Status}
 use Rattle.ibd_cli.specs.declared.status.Status.TheVariants.{Done, SchemaRefused, Broken, KeyRefused, Absent}
 use Rattle.ibd_cli.specs.declared.status.Status.TheVariants.{CrossMissing, CrossExtra}
-use Rattle.ibd_cli.specs.declared.words.Task.{Task}
-use Rattle.ibd_cli.specs.declared.words.Task.TheVariants.{Check, Dump, Cross, Get}
-use Rattle.ibd_cli.specs.Lines.{counted}
+use Rattle.ibd_cli.specs.declared.forms.Task.{Task}
+use Rattle.ibd_cli.specs.declared.forms.Task.TheVariants.{Check, Dump, Cross, Get}
+use Rattle.command_line.specs.Lines.{counted}
+use Rattle.command_line.specs.SchemaFile.{IsRefusedText}
 
 -- what the inputs hold
 pub record Told : Type 0 where
   pub schema : List ℕ
   pub file : List ℕ
-
--- the schema text is refused
-abbrev pub IsRefusedText : List ℕ → ℕ → SchemaWhy → Type 0
-IsRefusedText schema line why = SchemaChecks schema (Some (record { line = line; why = why }))
-
--- it is that of no table
-abbrev pub IsOfNoTable : List ℕ → Type 0
-IsOfNoTable schema = (table : TableDef) → ¬ (IsTextOf table schema)
 
 -- of the table of the schema
 abbrev pub OfTable : Told → (TableDef → Type 0) → Type 0

@@ -7,11 +7,11 @@ use Rattle.page_source.specs.declared.objects.PageStore.{Ghosts as StoreOf}
 use Rattle.ibd_cli.specs.declared.objects.Objects.{Objects}
 use Rattle.ibd_cli.specs.declared.status.Status.{Status}
 use Rattle.ibd_cli.specs.declared.status.Status.TheVariants.{Usage}
-use Rattle.ibd_cli.specs.declared.words.Task.{Task}
-use Rattle.ibd_cli.specs.declared.words.Form.TheVariants.{Table, Build, Sample}
+use Rattle.ibd_cli.specs.declared.forms.Task.{Task}
+use Rattle.ibd_cli.specs.declared.forms.Form.TheVariants.{Table, Build, Sample}
 use Rattle.ibd_cli.specs.Forms.{IsForm, HasNoForm, AsksNoTable, AsksNoBuild, AsksNoSample, key_word}
 use Rattle.ibd_cli.specs.Lines.{status_line}
-use Rattle.ibd_cli.specs.Causes.{Reports}
+use Rattle.command_line.specs.Causes.{Reports}
 use Rattle.ibd_cli.specs.Run.{Serves}
 use Rattle.ibd_cli.specs.Build.{ServesBuild}
 use Rattle.ibd_cli.specs.Sample.{ServesSample}

@@ -15,10 +15,11 @@ use Rattle.ibd_cli.specs.declared.status.Status.{Status}
 use Rattle.ibd_cli.specs.declared.status.Status.TheVariants.{Done, Usage, SchemaRefused, Broken, RowsRefused}
 use Rattle.ibd_cli.specs.declared.status.Status.TheVariants.{SourceFault, SinkFault, StoreFault, Memory, Full}
 use Rattle.ibd_cli.specs.declared.status.Status.TheVariants.{KeyRefused, Absent}
-use Rattle.ibd_cli.specs.declared.words.Task.{Task}
-use Rattle.ibd_cli.specs.declared.words.Task.TheVariants.{Check, Dump, Cross, Get}
-use Rattle.ibd_cli.specs.Reading.{IsReadUpTo}
-use Rattle.ibd_cli.specs.Outcome.{IsRefusedText, IsOfNoTable, IsNoKeyOf, FirstOf, Told, Gives, task_steps}
+use Rattle.ibd_cli.specs.declared.forms.Task.{Task}
+use Rattle.ibd_cli.specs.declared.forms.Task.TheVariants.{Check, Dump, Cross, Get}
+use Rattle.command_line.specs.Reading.{IsReadUpTo}
+use Rattle.command_line.specs.SchemaFile.{IsRefusedText, IsOfNoTable}
+use Rattle.ibd_cli.specs.Outcome.{IsNoKeyOf, FirstOf, Told, Gives, task_steps}
 
 -- it ended as the inputs define, unless an object failed or memory ran out
 abbrev pub EndsAs : Status → Status → Type 0

@@ -10,7 +10,7 @@ use Rattle.sample_table.specs.declared.made.Sample.{Sample}
 use Rattle.sample_table.specs.Sample.{sample_table, sample_rows, IsSampled}
 use Rattle.ibd_cli.specs.declared.status.Status.{Status}
 use Rattle.ibd_cli.specs.declared.status.Status.TheVariants.{Done, SinkFault, Memory, Full}
-use Rattle.ibd_cli.specs.Lines.{counted}
+use Rattle.command_line.specs.Lines.{counted}
 use Rattle.ibd_cli.specs.Outcome.{checked_numbers}
 use Rattle.ibd_cli.specs.Run.{EndsAs}
 

@@ -5,8 +5,8 @@ ghost use Rattle.page_source.specs.Calls.{Puts};
 ghost use Rattle.page_source.specs.Objects.{IsFresh};
 ghost use Rattle.ibd_cli.specs.Build.{ServesBuild, built_line};
 
-use crate::schema_file::read_schema;
 use crate::status::Status;
+use command_line::read_schema;
 use itoa::Buffer;
 use page_source::{ByteSink, ByteSource, Failed, PageStore, Steps, put_pieces};
 use schema_text::laws::{has_one_schema, texts_pass};

@@ -4,7 +4,7 @@ ghost use Rattle.std.specs.Prelude.{ℕ, List};
 ghost use Rattle.page_source.specs.Calls.{Puts};
 ghost use Rattle.ibd_cli.specs.Outcome.{checked_numbers, checked_line};
 ghost use Rattle.ibd_cli.specs.Answers.{ServesFile};
-ghost use Rattle.ibd_cli.specs.declared.words.Task.{Task};
+ghost use Rattle.ibd_cli.specs.declared.forms.Task.{Task};
 
 use crate::status::Status;
 use itoa::Buffer;

@@ -2,7 +2,7 @@
 
 ghost use Rattle.std.specs.Prelude.{ℕ, List};
 ghost use Rattle.ibd_cli.specs.Answers.{ServesFile};
-ghost use Rattle.ibd_cli.specs.declared.words.Task.{Task};
+ghost use Rattle.ibd_cli.specs.declared.forms.Task.{Task};
 
 use crate::status::Status;
 use page_source::{ByteSink, PageSource, Steps};

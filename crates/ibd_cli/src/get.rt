@@ -1,7 +1,7 @@
 //! The command `get`: the way to one row, and then its line.
 
 ghost use Rattle.ibd_cli.specs.Answers.{ServesFile};
-ghost use Rattle.ibd_cli.specs.declared.words.Task.{Task};
+ghost use Rattle.ibd_cli.specs.declared.forms.Task.{Task};
 
 use crate::status::Status;
 use key_lookup::get;

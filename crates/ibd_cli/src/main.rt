@@ -4,20 +4,19 @@
 
 mod build;
 mod check;
-mod command_line;
 mod cross;
 mod dump;
+mod forms;
 mod get;
 mod objects;
 mod report;
 mod run;
 mod sample;
-mod schema_file;
 mod status;
 #[cfg(test)]
 mod tests;
-mod words;
 
+pub use command_line::Words;
 use command_line::read_words;
 use objects::name_objects;
 use page_source::{StdSink, Steps};
@@ -27,7 +26,6 @@ pub use status::Status;
 use std::marker::Brand;
 use std::process::ExitCode;
 use std::sync::ledger::Blank;
-pub use words::Words;
 
 fn main(rt: HostRuntime) -> ExitCode {
     let status = match read_words(rt.alloc(), &rt) {

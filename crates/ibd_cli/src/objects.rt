@@ -5,9 +5,10 @@ ghost use Rattle.page_source.specs.Objects.{IsFresh};
 ghost use Rattle.ibd_cli.specs.Forms.{IsForm};
 ghost use Rattle.ibd_cli.specs.Program.{Runs};
 
+use crate::forms::Form;
 use crate::run::run;
 use crate::status::Status;
-use crate::words::{Form, Words};
+use command_line::Words;
 use page_source::{
     ByteSink, ByteSource, FileBytes, FilePages, FileStore, PageSource, PageStore, StdSink, Steps,
 };

@@ -2,13 +2,13 @@
 
 ghost use Rattle.std.specs.Prelude.{◌≡◌, ◌≤◌};
 ghost use Rattle.page_source.specs.Calls.{Puts};
-ghost use Rattle.ibd_cli.specs.Causes.{Reports};
-ghost use Rattle.ibd_cli.specs.Lines.{status_line, refusal_line, fault_line, difference_line, why_word, rows_why_word};
+ghost use Rattle.command_line.specs.Causes.{Reports};
+ghost use Rattle.ibd_cli.specs.Lines.{status_line, difference_line, rows_why_word};
 
 use crate::status::Status;
+use command_line::{put_fault, put_refusal, why_name};
 use itoa::Buffer;
-use page_source::{ByteSink, Failed, Fault, put_pieces};
-use schema_text::SchemaWhy;
+use page_source::{ByteSink, Failed, put_pieces};
 use space_builder::RowsWhy;
 
 /// Writes the status's line. A fault of this sink changes nothing else.
@@ -47,37 +47,6 @@ fn put_status<E: ByteSink>(err: &mut E, status: Status) -> Result<(), Failed>
     }
 }
 
-fn put_refusal<E: ByteSink>(err: &mut E, text: &str, line: u32, why: &str) -> Result<(), Failed>
-    ensures { Puts E.ByteSink err.old err.new (refusal_line text.now line why.now) result }
-{
-    let mut digits = Buffer::new();
-    let pieces = [
-        text.as_bytes(),
-        digits.format(line).as_bytes(),
-        b" ",
-        why.as_bytes(),
-        b"\n",
-    ];
-    put_pieces(err, &pieces)
-}
-
-fn put_fault<E: ByteSink>(err: &mut E, fault: Fault) -> Result<(), Failed>
-    ensures { Puts E.ByteSink err.old err.new (fault_line fault) result }
-{
-    let mut rule = Buffer::new();
-    let mut page = Buffer::new();
-    let pieces = [
-        b"broken ".as_slice(),
-        rule.format(fault.rule.number()).as_bytes(),
-        b" ",
-        fault.rule.name().as_bytes(),
-        b" page ",
-        page.format(fault.page).as_bytes(),
-        b"\n",
-    ];
-    put_pieces(err, &pieces)
-}
-
 fn put_difference<E: ByteSink>(
     err: &mut E,
     index: u32,
@@ -96,23 +65,6 @@ fn put_difference<E: ByteSink>(
         b"\n",
     ];
     put_pieces(err, &pieces)
-}
-
-fn why_name(why: SchemaWhy) -> &'static str
-    ensures { result.now ≡ why_word why }
-{
-    match why {
-        SchemaWhy::Size => "size",
-        SchemaWhy::End => "end",
-        SchemaWhy::Form => "form",
-        SchemaWhy::Name => "name",
-        SchemaWhy::Number => "number",
-        SchemaWhy::Count => "count",
-        SchemaWhy::Twice => "twice",
-        SchemaWhy::Unknown => "unknown",
-        SchemaWhy::Key => "key",
-        SchemaWhy::Root => "root",
-    }
 }
 
 fn rows_why_name(why: RowsWhy) -> &'static str

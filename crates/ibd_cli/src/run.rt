@@ -10,12 +10,12 @@ use crate::build::build_file;
 use crate::check::check_file;
 use crate::cross::cross_file;
 use crate::dump::dump_file;
+use crate::forms::{Form, Task, form_of, key_of};
 use crate::get::get_row;
 use crate::report::report;
 use crate::sample::take_sample;
-use crate::schema_file::read_schema;
 use crate::status::Status;
-use crate::words::{Form, Task, Words};
+use command_line::{Words, read_schema};
 use cross_index::laws::has_one_difference;
 use key_lookup::laws::{look_up_has_one_answer, text_spells_one_key};
 use page_source::{ByteSink, ByteSource, PageSource, PageStore, Steps};
@@ -76,9 +76,9 @@ pub fn run<
         })
         steps.old steps.new result }
 {
-    let status = match words.form() {
+    let status = match form_of(words) {
         None => Status::Usage,
-        Some(Form::Table(task)) => serve(alloc, task, words.key(), file, schema, out, steps),
+        Some(Form::Table(task)) => serve(alloc, task, key_of(words), file, schema, out, steps),
         Some(Form::Build) => build_file(alloc, schema, rows, out, target, steps),
         Some(Form::Sample(rows)) => take_sample(alloc, rows, out, steps),
     };

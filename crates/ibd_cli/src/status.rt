@@ -5,7 +5,7 @@ ghost use Rattle.ibd_cli.specs.Answers.{status_of_schema, status_of_stop, status
 ghost use Rattle.ibd_cli.specs.Answers.{status_of_cross, status_of_get, status_of_build, status_of_sample};
 ghost use Rattle.ibd_cli.specs.Lines.{status_number};
 
-use crate::schema_file::SchemaStop;
+use command_line::SchemaStop;
 use cross_index::CrossStop;
 use key_lookup::GetStop;
 use page_source::{Fault, Stop};

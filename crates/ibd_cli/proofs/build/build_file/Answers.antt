@@ -1,5 +1,5 @@
 use Rattle.std.proofs.Common.{Err, ap, refl}
-use Rattle.ibd_cli.proofs.OneAnswer.{one_answer}
+use Rattle.command_line.proofs.OneAnswer.{one_answer}
 use Rattle.ibd_cli.proofs.BuildEnds.{build_unread, build_stopped, build_done, build_unput}
 use Rattle.ibd_cli.proofs.build.build_file.Goals as goal
 

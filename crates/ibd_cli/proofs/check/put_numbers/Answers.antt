@@ -1,6 +1,6 @@
 use Rattle.std.proofs.Common.{◌∙◌, List, ℕ, codes, subst}
 use Rattle.page_source.specs.Calls.{Puts}
-use Rattle.ibd_cli.specs.Lines.{counted}
+use Rattle.command_line.specs.Lines.{counted}
 use Rattle.ibd_cli.proofs.Joined.{joined_all}
 use Rattle.ibd_cli.proofs.check.put_numbers.Goals as goal
 

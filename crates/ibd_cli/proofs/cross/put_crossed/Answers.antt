@@ -1,6 +1,6 @@
 use Rattle.std.proofs.Common.{◌∙◌, List, ℕ, codes, subst, sym, append_assoc}
 use Rattle.page_source.specs.Calls.{Puts}
-use Rattle.ibd_cli.specs.Lines.{counted}
+use Rattle.command_line.specs.Lines.{counted}
 use Rattle.ibd_cli.proofs.cross.put_crossed.Goals as goal
 
 pub returns : goal.returns

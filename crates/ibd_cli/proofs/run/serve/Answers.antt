@@ -1,5 +1,5 @@
 use Rattle.std.proofs.Common.{Err, ap}
-use Rattle.ibd_cli.proofs.OneAnswer.{one_answer}
+use Rattle.command_line.proofs.OneAnswer.{one_answer}
 use Rattle.ibd_cli.proofs.Serving.{serves_stopped, serves_file}
 use Rattle.ibd_cli.proofs.run.serve.Goals as goal
 

@@ -1,7 +1,7 @@
 use Rattle.std.proofs.Common.{◌∙◌, ℕ, List, [], ◌++◌, codes, subst}
 use Rattle.page_source.specs.Calls.{Puts}
 use Rattle.page_source.proofs.Texts.{put_none, put_more, put_last, put_cut}
-use Rattle.ibd_cli.specs.Lines.{counted}
+use Rattle.command_line.specs.Lines.{counted}
 use Rattle.ibd_cli.specs.Outcome.{checked_numbers}
 use Rattle.ibd_cli.specs.Sample.{sum_digits}
 use Rattle.ibd_cli.proofs.Joined.{joined}

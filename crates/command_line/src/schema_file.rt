@@ -2,8 +2,8 @@
 
 ghost use Rattle.std.specs.Prelude.{◌≡◌, ◌<◌, ◌≤◌, length, vec_len, IfOk, IfSome, Err};
 ghost use Rattle.page_source.specs.Faults.{HasCause, Rose};
-ghost use Rattle.ibd_cli.specs.Answers.{ReadsSchema, stop_of_schema};
-ghost use Rattle.ibd_cli.specs.Reading.{CameUpTo, IsReadUpTo};
+ghost use Rattle.command_line.specs.SchemaFile.{ReadsSchema, stop_of_schema};
+ghost use Rattle.command_line.specs.Reading.{CameUpTo, IsReadUpTo};
 
 use page_source::{ByteSource, Failed, NoMemory};
 use schema_text::{Schema, SchemaError, SchemaWhy};
@@ -35,7 +35,7 @@ impl From<SchemaError> for SchemaStop {
 }
 
 impl From<Failed> for SchemaStop {
-    ghost use Rattle.ibd_cli.specs.declared.schema_file.SchemaStop.{SchemaStop};
+    ghost use Rattle.command_line.specs.declared.schema_file.SchemaStop.{SchemaStop};
 
     ghost from_gives = { λ _ stop. stop ≡ SchemaStop.Source };
 
@@ -45,7 +45,7 @@ impl From<Failed> for SchemaStop {
 }
 
 impl From<NoMemory> for SchemaStop {
-    ghost use Rattle.ibd_cli.specs.declared.schema_file.SchemaStop.{SchemaStop};
+    ghost use Rattle.command_line.specs.declared.schema_file.SchemaStop.{SchemaStop};
 
     ghost from_gives = { λ _ stop. stop ≡ SchemaStop.Memory };
 

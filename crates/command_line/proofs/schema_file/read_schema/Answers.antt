@@ -1,8 +1,8 @@
 use Rattle.std.proofs.Common.{◌≡◌, length, ◌∙◌, arith}
 use Rattle.std.proofs.lemmas.List.{take_at}
 use Rattle.page_source.proofs.Told.{told1}
-use Rattle.ibd_cli.proofs.SchemaReading.{schema_halts}
-use Rattle.ibd_cli.proofs.schema_file.read_schema.Goals as goal
+use Rattle.command_line.proofs.SchemaReading.{schema_halts}
+use Rattle.command_line.proofs.schema_file.read_schema.Goals as goal
 
 pub returns-in_err-read-clause-exact : goal.returns-in_err-read-clause-exact
 returns-in_err-read-clause-exact g c =

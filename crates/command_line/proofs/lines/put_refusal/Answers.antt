@@ -1,6 +1,6 @@
 use Rattle.std.proofs.Common.{◌∙◌, ◌++◌, List, ℕ, codes, decimal, subst, sym, append_assoc}
 use Rattle.page_source.specs.Calls.{Puts}
-use Rattle.ibd_cli.proofs.report.put_refusal.Goals as goal
+use Rattle.command_line.proofs.lines.put_refusal.Goals as goal
 
 pub returns : goal.returns
 returns g c =

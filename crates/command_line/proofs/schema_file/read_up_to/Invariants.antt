@@ -1,6 +1,6 @@
 use Rattle.std.proofs.Common.{length, ◌-◌, ◌≤◌, IfSome}
-use Rattle.ibd_cli.specs.Reading.{Came}
-use Rattle.ibd_cli.proofs.schema_file.read_up_to.Given as goal
+use Rattle.command_line.specs.Reading.{Came}
+use Rattle.command_line.proofs.schema_file.read_up_to.Given as goal
 
 abbrev pub invariant-loop-came : goal.invariant-loop-came
 invariant-loop-came g l =

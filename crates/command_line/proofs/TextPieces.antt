@@ -5,7 +5,7 @@ use Rattle.std.proofs.Math.Seq.{take-append-add, take-add}
 use Rattle.std.proofs.lemmas.List.{take-append-le, length-take-le, drop-drop}
 use Rattle.page_source.specs.declared.errors.Failed.{Failed}
 use Rattle.page_source.specs.Objects.{TakesBytes, Takes}
-use Rattle.ibd_cli.specs.Reading.{Came, CameUpTo}
+use Rattle.command_line.specs.Reading.{Came, CameUpTo}
 
 -- what a told text has left is told
 taken_of : (left next : Option (List ℕ)) (rest : List ℕ) (k : ℕ) (new : List ℕ) → left ≡ Some rest

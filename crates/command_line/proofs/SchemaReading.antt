@@ -8,10 +8,10 @@ use Rattle.schema_text.specs.declared.errors.SchemaWhy.{SchemaWhy}
 use Rattle.schema_text.specs.declared.errors.SchemaError.{SchemaError}
 use Rattle.schema_text.specs.declared.errors.SchemaError.TheVariants as refusals
 use Rattle.schema_text.specs.Refusals.{SchemaChecks, ReadsAs}
-use Rattle.ibd_cli.specs.declared.schema_file.SchemaStop.{SchemaStop}
-use Rattle.ibd_cli.specs.Answers.{ReadsSchema, stop_of_schema}
-use Rattle.ibd_cli.specs.Reading.{CameUpTo}
-use Rattle.ibd_cli.specs.Outcome.{IsRefusedText}
+use Rattle.command_line.specs.declared.schema_file.SchemaStop.{SchemaStop}
+use Rattle.command_line.specs.SchemaFile.{ReadsSchema, stop_of_schema}
+use Rattle.command_line.specs.Reading.{CameUpTo}
+use Rattle.command_line.specs.SchemaFile.{IsRefusedText}
 
 -- where fewer bytes came than the buffer has, they are the text
 came_whole : (text buffer : List ℕ) (left : Option (List ℕ)) (n : ℕ) → n < length buffer

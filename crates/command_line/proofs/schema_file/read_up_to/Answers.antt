@@ -1,6 +1,6 @@
 use Rattle.std.proofs.Common.{arith}
-use Rattle.ibd_cli.proofs.CameLemmas.{came_more_told, came_all_told, room_after}
-use Rattle.ibd_cli.proofs.schema_file.read_up_to.Goals as goal
+use Rattle.command_line.proofs.TextPieces.{came_more_told, came_all_told, room_after}
+use Rattle.command_line.proofs.schema_file.read_up_to.Goals as goal
 
 pub returns-then-count-eq0-clause-came : goal.returns-then-count-eq0-clause-came
 returns-then-count-eq0-clause-came g c =

@@ -1,0 +1,4 @@
+pub mod OneAnswer
+pub mod TextPieces
+pub mod SchemaReading
+pub mod WordLists
