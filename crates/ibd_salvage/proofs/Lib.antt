@@ -1,0 +1,4 @@
+pub mod WordForms
+pub mod OneForm
+pub mod StatusEnds
+pub mod Serving

@@ -1,0 +1,176 @@
+-- What a salvage answers where the schema text stops it, and where it is that of a table.
+use Rattle.std.proofs.Common.{◌≡◌, ◌≢◌, ℕ, List, [], Option, Some, Ok, Err, IfSome, inl, inr, refl, ap, subst, arith}
+use Rattle.page_source.specs.declared.objects.ByteSource.{Ghosts as SourceOf}
+use Rattle.page_source.specs.declared.rule.Fault.{Fault}
+use Rattle.page_source.specs.Calls.{OfFile}
+use Rattle.page_source.specs.Faults.{Rose}
+use Rattle.page_source.proofs.Told.{told0, told1}
+use Rattle.schema_text.specs.TableDef.{TableDef}
+use Rattle.schema_text.specs.Refusals.{BadLine}
+use Rattle.schema_text.specs.Grammar.{IsTextOf}
+use Rattle.schema_text.specs.declared.errors.SchemaWhy.{SchemaWhy}
+use Rattle.salvage_model.specs.declared.stop.SalvageStop.TheVariants as stops
+use Rattle.command_line.specs.declared.schema_file.SchemaStop.{SchemaStop}
+use Rattle.command_line.specs.declared.schema_file.SchemaStop.TheVariants.{Refused, Source, Memory}
+use Rattle.command_line.specs.Reading.{IsReadUpTo}
+use Rattle.command_line.specs.SchemaFile.{IsRefusedText, ReadsSchema}
+use Rattle.command_line.proofs.OneAnswer.{HasOneAnswer, no_table, some_table, some_bad}
+use Rattle.ibd_salvage.specs.declared.forms.Form.{Form}
+use Rattle.ibd_salvage.specs.declared.objects.Objects.{Objects}
+use Rattle.ibd_salvage.specs.declared.status.SalvageStatus.{SalvageStatus}
+use Rattle.ibd_salvage.specs.declared.status.SalvageStatus.TheVariants as statuses
+use Rattle.ibd_salvage.specs.Ends.{status_of_schema}
+use Rattle.ibd_salvage.specs.Run.{Meanings, IsSalvage, SavesOver, IsOfFile, EndsAs, Serves}
+
+-- what holds of a told content holds where it is told
+at_told : {X : Type 0} (P : X → Type 0) (o : Option X) (x : X) → o ≡ Some x → IfSome o P → P x
+at_told {X = X} P o x is holds = subst (λ (p : Option X). IfSome p P) is holds
+
+-- the schema text was refused, or couldn't be read
+pub record Stopped {Q : Type 0} (q : SourceOf Q) (schema schema_now : Q) (stop : SchemaStop) : Type 0 where
+  pub reads : IfSome (q.left schema) (λ text. ReadsSchema text (q.left schema_now) (Err stop))
+  pub read : IfSome (q.left schema) (λ text. IsReadUpTo 65537 text (q.left schema_now))
+  pub cause : stop ≡ Source → Rose (q.faults schema) (q.faults schema_now)
+
+-- it was read to its end, and is that of a table
+pub record HasTable {Q : Type 0} (q : SourceOf Q) (schema schema_now : Q) (table : TableDef) : Type 0 where
+  pub reads : IfSome (q.left schema) (λ text. IsTextOf table text × (q.left schema_now ≡ Some []))
+  pub read : IfSome (q.left schema) (λ text. IsReadUpTo 65537 text (q.left schema_now))
+
+refused_as : (text : List ℕ) (left : Option (List ℕ)) (stop : SchemaStop) (line : ℕ) (why : SchemaWhy)
+    → status_of_schema stop ≡ statuses.SchemaRefused line why → ReadsSchema text left (Err stop)
+    → IsRefusedText text line why
+refused_as text left (Refused l w) line why is reads =
+    let e : l ≡ line = cc in let f : w ≡ why = cc in
+    subst (λ (n : ℕ). IsRefusedText text n why) e (subst (IsRefusedText text l) f reads)
+refused_as text left Source line why is reads = absurd (cc)
+refused_as text left Memory line why is reads = absurd (cc)
+
+stopped_alone : (text : List ℕ) (one : HasOneAnswer text) (left : Option (List ℕ)) (stop : SchemaStop)
+    → ReadsSchema text left (Err stop) → (line : ℕ) (why : SchemaWhy) → IsRefusedText text line why
+    → EndsAs (statuses.SchemaRefused line why) (status_of_schema stop)
+stopped_alone text one left (Refused l w) reads line why refused =
+    let e = some_bad (record { line = l; why = w }) (record { line = line; why = why })
+    (one (Err (record { line = l; why = w })) (Err (record { line = line; why = why })) reads refused) in
+    ap (λ (bad : BadLine). statuses.SchemaRefused bad.line bad.why) e
+stopped_alone text one left Source reads line why refused = tt
+stopped_alone text one left Memory reads line why refused = tt
+
+never_usage : (stop : SchemaStop) → status_of_schema stop ≡ statuses.Usage → ⊥
+never_usage (Refused l w) is = cc
+never_usage Source is = cc
+never_usage Memory is = cc
+
+never_sink : (stop : SchemaStop) → status_of_schema stop ≡ statuses.SinkFault → ⊥
+never_sink (Refused l w) is = cc
+never_sink Source is = cc
+never_sink Memory is = cc
+
+never_changed : (stop : SchemaStop) (fault : Fault) → status_of_schema stop ≡ statuses.Changed fault → ⊥
+never_changed (Refused l w) fault is = cc
+never_changed Source fault is = cc
+never_changed Memory fault is = cc
+
+is_source : (stop : SchemaStop) → status_of_schema stop ≡ statuses.SourceFault → stop ≡ Source
+is_source (Refused l w) is = absurd (cc)
+is_source Source is = refl
+is_source Memory is = absurd (cc)
+
+-- where the text is that of a table, only an input or memory stops the program before the file
+stopped_saves : (text content : List ℕ) (one : HasOneAnswer text) (table : TableDef) (form : Form)
+    (left out : Option (List ℕ)) (faults : ℕ) (stop : SchemaStop) → ReadsSchema text left (Err stop)
+    → IsTextOf table text → IsSalvage content table form faults faults out out (status_of_schema stop)
+stopped_saves text content one table form left out faults (Refused l w) reads is =
+    absurd (no_table text one l w table reads is)
+stopped_saves text content one table form left out faults Source reads is =
+    record { result = Err stops.Source; ends = refl; salvages = inl refl }
+stopped_saves text content one table form left out faults Memory reads is =
+    record { result = Err stops.Memory; ends = refl; salvages = refl }
+
+pub serves_stopped : {F Q O E : Type 0} (all : (text : List ℕ) → HasOneAnswer text) (g : Meanings F Q O E) (form : Form)
+    (file : F) (schema schema_now : Q) (out : O) (err err_now : E) (steps : ℕ) (stop : SchemaStop)
+    → Stopped g.schema schema schema_now stop
+    → Serves g form (record { file = file; schema = schema; out = out; err = err })
+    (record { file = file; schema = schema_now; out = out; err = err_now }) steps steps (status_of_schema stop)
+serves_stopped all g form file schema schema_now out err err_now steps stop stopped =
+    let left = g.schema.left schema_now in
+    record {
+      asked = never_usage stop;
+      read = stopped.read;
+      refused = λ line why is. (
+        told1 (g.schema.left schema) (λ text reads. refused_as text left stop line why is reads) stopped.reads,
+        record { file = refl; uncounted = refl },
+      );
+      untouched = λ text told none. record { file = refl; uncounted = refl };
+      alone = λ text line why told refused.
+          stopped_alone text (all text) left stop (at_told _ (g.schema.left schema) text told stopped.reads) line why
+          refused;
+      saves = λ text content table told tells is.
+          stopped_saves text content (all text) table form left (g.out.written out) (g.file.faults file) stop
+          (at_told _ (g.schema.left schema) text told stopped.reads) is;
+      unwritten = λ before. refl;
+      source = λ is. inr (stopped.cause (is_source stop is));
+      sink = λ is. absurd (never_sink stop is);
+      changed = λ fault is. absurd (never_changed stop fault is);
+      content = refl;
+      cost = record { told = told0 (g.file.content file) (λ content. omega arith); always = omega arith };
+      fetches = record { told = told0 (g.file.content file) (λ content. omega arith); always = omega arith };
+    }
+
+not_usage : (status : SalvageStatus) → IsOfFile status → status ≢ statuses.Usage
+not_usage status of is = subst IsOfFile is of
+
+-- the file was gone through
+pub serves_file : {F Q O E : Type 0} (all : (text : List ℕ) → HasOneAnswer text) (g : Meanings F Q O E) (form : Form)
+    (file file_now : F) (schema schema_now : Q) (out out_now : O) (err err_now : E) (steps steps_now : ℕ)
+    (table : TableDef) (status : SalvageStatus) → HasTable g.schema schema schema_now table
+    → OfFile g.file file (λ content. IsSalvage content table form (g.file.faults file) (g.file.faults file_now)
+    (g.out.written out) (g.out.written out_now) status)
+    → SavesOver g.file g.out file file_now out out_now steps steps_now status
+    → Serves g form (record { file = file; schema = schema; out = out; err = err })
+    (record { file = file_now; schema = schema_now; out = out_now; err = err_now }) steps steps_now status
+serves_file all g form file file_now schema schema_now out out_now err err_now steps steps_now table status has told
+    over =
+    record {
+      asked = not_usage status over.of_file;
+      read = has.read;
+      refused = λ line why is. absurd (subst IsOfFile is over.of_file);
+      untouched = λ text left none. absurd (none table (at_told _ (g.schema.left schema) text left has.reads).0);
+      alone = λ text line why left refused.
+          absurd (no_table text (all text) line why table refused (at_told _ (g.schema.left schema) text left has.reads).0);
+      saves = λ text content other left tells is.
+          let mine = (at_told _ (g.schema.left schema) text left has.reads).0 in
+          let same : table ≡ other = some_table table other (all text (Ok table) (Ok other) mine is) in
+          subst (λ (t : TableDef). IsSalvage content t form (g.file.faults file) (g.file.faults file_now)
+          (g.out.written out) (g.out.written out_now) status) same (at_told _ (g.file.content file) content tells told);
+      unwritten = over.unwritten;
+      source = λ is. inl (over.source is);
+      sink = over.sink;
+      changed = over.changed;
+      content = over.content;
+      cost = over.cost;
+      fetches = over.fetches;
+    }
+
+-- what is reported changes nothing of it
+pub serves_reported : {F Q O E : Type 0} (g : Meanings F Q O E) (form : Form) (old : Objects F Q O E)
+    (file_now : F) (schema_now : Q) (out_now : O) (err_now err_later : E) (steps steps_now : ℕ) (status : SalvageStatus)
+    → Serves g form old (record { file = file_now; schema = schema_now; out = out_now; err = err_now }) steps steps_now
+    status
+    → Serves g form old (record { file = file_now; schema = schema_now; out = out_now; err = err_later }) steps
+    steps_now status
+serves_reported g form old file_now schema_now out_now err_now err_later steps steps_now status s = record {
+  asked = s.asked;
+  read = s.read;
+  refused = s.refused;
+  untouched = s.untouched;
+  alone = s.alone;
+  saves = s.saves;
+  unwritten = s.unwritten;
+  source = s.source;
+  sink = s.sink;
+  changed = s.changed;
+  content = s.content;
+  cost = s.cost;
+  fetches = s.fetches;
+}
