@@ -18,6 +18,8 @@ mod inode_segments_tests;
 #[cfg(test)]
 mod key_lookup_tests;
 #[cfg(test)]
+mod leaf_salvage_tests;
+#[cfg(test)]
 mod offpage_chain_tests;
 #[cfg(test)]
 mod outside_tests;

@@ -17,6 +17,7 @@ mod sheaf;
 mod shelf;
 mod store;
 mod text;
+mod unread;
 mod words;
 
 use line::try_line;

@@ -46,7 +46,7 @@ const ROLL_POINTER: Field = Field {
 };
 
 /// The fields of a row of a table with the key `id int`.
-fn rows(alloc: Global) -> Result<FieldList, NoMemory>
+pub(crate) fn rows(alloc: Global) -> Result<FieldList, NoMemory>
     ensures { IfOk result (λ list. (list.keys ≡ 1) × (length list.fields ≡ 3)) }
 {
     let mut fields = FieldList::new(alloc, 0, 1);
@@ -91,7 +91,7 @@ fn records_of(
 }
 
 /// A page of three rows.
-fn three_rows(rt: &impl Abort, alloc: Global) -> Result<Page, NoMemory> {
+pub(crate) fn three_rows(rt: &impl Abort, alloc: Global) -> Result<Page, NoMemory> {
     let mut page = Page::zeroed(alloc)?;
     put_pieces(rt, &mut page, &pages::THREE_ROWS);
     Ok(page)
