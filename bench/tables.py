@@ -1,13 +1,15 @@
 #!/usr/bin/env python3
 """Times `check`, `cross` and `dump` of large tables against reading the same file with `dd`, and prints the peak memory.
 
-usage: bench/tables.py [--server] [--runs N] PROGRAM
+usage: bench/tables.py [--server] [--salvage SALVAGE] [--runs N] PROGRAM
 
 PROGRAM is the program that is measured. The tables are made here, by tablespace.py, one after the other in the folder
 for temporary files, which needs 700 MB; that takes half a minute. What `dump` writes is compared with the rows. The
 commands and `dd bs=16384` are run in turn, N times each (5 without the option); printed are the medians of processor
 time, in the kernel and outside of it, and of the time by the clock, and the ratios of the processor times. The memory is
 read from /proc.
+
+With --salvage the rows are also saved by SALVAGE, which is `ibd-salvage`.
 
 With --server the same rows are loaded into a server (MariaDB, started by tests/server), and `mariadb-dump
 --skip-extended-insert` and `CHECK TABLE .. EXTENDED` are timed too: client and server together.
@@ -251,14 +253,17 @@ def server_commands(server, table):
     }
 
 
-def measure(program, name, table, folder, server, runs):
+def measure(given, name, table, folder, server):
+    program, runs = given.program, given.runs
     schema, file = (os.path.join(folder, word) for word in ("schema", "file"))
     with open(schema, "w") as out:
         out.write(KEYED.format(columns=table.columns, index=table.index.line if table.index else ""))
     make(file, table)
     compare([program, "dump", schema, file], table)
     words = {command: [program, command, schema, file] for command in ("check", "cross", "dump")}
-    commands = {"dd": lambda: run(["dd", "bs=16384", f"if={file}", "of=/dev/null"])}
+    if given.salvage:
+        words["salvage"] = [given.salvage, "rows", schema, file]
+    commands = {"dd": lambda: run(["dd", f"bs={PAGE_SIZE}", f"if={file}", "of=/dev/null"])}
     commands |= {command: lambda each=each: run(each) for command, each in words.items()}
     if server:
         commands |= server_commands(server, table)
@@ -274,13 +279,14 @@ def measure(program, name, table, folder, server, runs):
 def main():
     parser = argparse.ArgumentParser(description=__doc__, formatter_class=argparse.RawDescriptionHelpFormatter)
     parser.add_argument("--server", action="store_true", help="compare with a server's tools")
+    parser.add_argument("--salvage", metavar="SALVAGE", help="the program that saves the rows too")
     parser.add_argument("--runs", type=int, default=5, metavar="N", help="runs of each command (5)")
     parser.add_argument("program", metavar="PROGRAM", help="the program that is measured")
     given = parser.parse_args()
     with tempfile.TemporaryDirectory() as home, server_of(given.server, home) as server:
         for name, table in TABLES.items():
             with tempfile.TemporaryDirectory() as folder:
-                measure(given.program, name, table, folder, server, given.runs)
+                measure(given, name, table, folder, server)
 
 
 if __name__ == "__main__":

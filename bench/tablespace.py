@@ -6,43 +6,21 @@ of the trees above their leaves, too. The leaves and the pages of long values fi
 import dataclasses
 import functools
 import itertools
+import pathlib
 import struct
+import sys
 
-PAGE_SIZE = 16384
-EXTENT_PAGES = 64
-DESCRIBED_EXTENTS = 256
-FIL_NULL = 0xFFFFFFFF
+sys.path.insert(0, str(pathlib.Path(__file__).resolve().parent.parent / "tools"))
+from innodb_layout import (  # noqa: E402
+    ADDRESS_SIZE, BITMAP_SIZE, BLOB, BODY, BODY_END, CHECKSUM, CRC_START, DESCRIBED_EXTENTS, DYNAMIC, EXTENT_NODE,
+    EXTENT_PAGES, FIL_NULL, FREE_FRAG, FSEG, FSP_HDR, HEAP_START, IBUF_BITMAP, INDEX, INFIMUM, INODE, INODE_LIST_NODE,
+    INODE_MAGIC, LAST_CHECKSUM, LAST_SLOT, LEAF_SEGMENT, LIST_FREE, MINIMUM_MARK, NEW_FORMAT, NEXT_RECORD,
+    NODE_POINTER, ORDINARY, PAGE_BEFORE, PAGE_ENDS, PAGE_LSN, PAGE_NUMBER, PAGE_SIZE, PAGE_SPACE, PART, PART_LENGTH,
+    PART_ROOM, RECORD_HEADER, SLOTS, SLOTS_PLACE, SLOT_COUNT, SLOT_SIZE, SPACE_ID, SUMMED_BODY, SUMMED_HEAD, SUPREMUM,
+    TOP_SEGMENT, XDES, carry, crc_state, descriptor_place, inode_place)
 
-INODE, IBUF_BITMAP, FSP_HDR, XDES, BLOB, INDEX = 3, 5, 8, 9, 10, 17855
-FREE_FRAG, FSEG = 2, 4
-FIRST_DESCRIPTOR, DESCRIPTOR_SIZE = 150, 40
-FIRST_INODE, INODE_SIZE, FRAGMENT_SLOTS, INODE_MAGIC = 50, 192, 32, 97937874
-SPACE_ID = LSN = 1
-DYNAMIC = 33
-
-INFIMUM, SUPREMUM, FIRST_RECORD, LAST_SLOT = 99, 112, 120, 16374
-ORDINARY, NODE_POINTER, MINIMUM_MARK = 0, 1, 0x10
-PART_ROOM = 16330
-ROOT = 3
-
-
-def crc_table():
-    def entry(state):
-        for _ in range(8):
-            state = state >> 1 ^ (0x82F63B78 if state & 1 else 0)
-        return state
-
-    return [entry(byte) for byte in range(256)]
-
-
-TABLE = crc_table()
-
-
-def carry(state, data):
-    """The state of a CRC-32C after these bytes more."""
-    for byte in data:
-        state = state >> 8 ^ TABLE[(state ^ byte) & 0xFF]
-    return state
+THIS_SPACE = LSN = 1
+ROOT, INODE_PAGE = 3, 2
 
 
 @functools.lru_cache(maxsize=8)
@@ -75,7 +53,7 @@ def base(members):
 
 def extent_address(extent):
     first = extent // DESCRIBED_EXTENTS * DESCRIBED_EXTENTS
-    return address(first * EXTENT_PAGES, FIRST_DESCRIPTOR + DESCRIPTOR_SIZE * (extent - first) + 8)
+    return address(first * EXTENT_PAGES, descriptor_place(extent) + EXTENT_NODE)
 
 
 def slots_of(count):
@@ -115,8 +93,8 @@ def pages_of(records):
     """The records of a level, cut into pages."""
     page, room = [], 0
     for record in records:
-        size = sum(map(len, record)) + 5
-        if FIRST_RECORD + room + size > LAST_SLOT + 2 - 2 * slots_of(len(page) + 1):
+        size = sum(map(len, record)) + RECORD_HEADER
+        if HEAP_START + room + size > BODY_END - SLOT_SIZE * slots_of(len(page) + 1):
             yield page
             page, room = [], 0
         page.append(record)
@@ -155,15 +133,15 @@ class Tablespace:
         return number + 1 + number // (DESCRIBED_EXTENTS - 1)
 
     def write(self, number, kind, page, state_of_body=None):
-        struct.pack_into(">I", page, 4, number)
-        struct.pack_into(">QH", page, 16, LSN, kind)
-        struct.pack_into(">I", page, 34, SPACE_ID)
+        struct.pack_into(">I", page, PAGE_NUMBER, number)
+        struct.pack_into(">QH", page, PAGE_LSN, LSN, kind)
+        struct.pack_into(">I", page, PAGE_SPACE, THIS_SPACE)
         if state_of_body is None:
-            state_of_body = carry(0xFFFFFFFF, page[38:16376])
+            state_of_body = crc_state(page[SUMMED_BODY])
         # The two sums are the inverted states, so that the inversions cancel out.
-        total = carry(0xFFFFFFFF, page[4:26]) ^ state_of_body
-        struct.pack_into(">I", page, 0, total)
-        struct.pack_into(">II", page, 16376, total, LSN)
+        total = crc_state(page[SUMMED_HEAD]) ^ state_of_body
+        struct.pack_into(">I", page, CHECKSUM, total)
+        struct.pack_into(">II", page, LAST_CHECKSUM, total, LSN)
         self.file.seek(number * PAGE_SIZE)
         self.file.write(page)
 
@@ -173,10 +151,11 @@ class Tablespace:
         numbers = [self.new_leaf_page(self.trees[0]) for _ in parts]
         for number, following, part in zip(numbers, [*numbers[1:], FIL_NULL], parts):
             page = bytearray(PAGE_SIZE)
-            struct.pack_into(">II", page, 38, len(part), following)
-            page[46:46 + len(part)] = part
-            self.write(number, BLOB, page, carry_over_end(carry(0xFFFFFFFF, page[38:46]), bytes(page[46:16376])))
-        return struct.pack(">IIIQ", SPACE_ID, numbers[0], 38, len(value))
+            struct.pack_into(">II", page, PART_LENGTH, len(part), following)
+            page[PART:PART + len(part)] = part
+            front = carry(CRC_START, page[BODY:PART])
+            self.write(number, BLOB, page, carry_over_end(front, bytes(page[PART:BODY_END])))
+        return struct.pack(">IIIQ", THIS_SPACE, numbers[0], BODY, len(value))
 
     def put_tree(self, records, tree=None):
         """Writes the levels of a tree, that of the rows where none is named, from its leaves up to the root."""
@@ -196,31 +175,30 @@ class Tablespace:
     def put_index_page(self, tree, number, level, records, siblings):
         page = bytearray(PAGE_SIZE)
         count, slots = len(records), slots_of(len(records))
-        page[94:120] = b"\1\0\2\0\0infimum\0" + b"\0\0\x0b\0\0supremum"
-        origins, directory, at = [INFIMUM], [INFIMUM], FIRST_RECORD
+        page[PAGE_ENDS:HEAP_START] = b"\1\0\2\0\0infimum\0" + b"\0\0\x0b\0\0supremum"
+        origins, directory, at = [INFIMUM], [INFIMUM], HEAP_START
         for place, (front, body) in enumerate(records, 1):
             owned = 4 if place % 4 == 0 and place // 4 <= slots - 2 else 0
             minimum = MINIMUM_MARK if level > 0 and place == 1 and siblings[0] == FIL_NULL else 0
             page[at:at + len(front)] = front
             struct.pack_into(">BH", page, at + len(front), minimum + owned,
                              (place + 1) * 8 + (ORDINARY if level == 0 else NODE_POINTER))
-            origins.append(at + len(front) + 5)
+            origins.append(at + len(front) + RECORD_HEADER)
             if owned:
                 directory.append(origins[-1])
             at = origins[-1] + len(body)
             page[origins[-1]:at] = body
-        page[SUPREMUM - 5] = count - 4 * (slots - 2) + 1
+        page[SUPREMUM - RECORD_HEADER] = count - 4 * (slots - 2) + 1
         for here, there in zip(origins, [*origins[1:], SUPREMUM]):
-            struct.pack_into(">H", page, here - 2, (there - here) % 65536)
+            struct.pack_into(">H", page, here - NEXT_RECORD, (there - here) % 65536)
         for place, origin in enumerate([*directory, SUPREMUM]):
-            struct.pack_into(">H", page, LAST_SLOT - 2 * place, origin)
-        struct.pack_into(">II", page, 8, *siblings)
-        struct.pack_into(">HHHIHHHHQHQ", page, 38, slots, at, 0x8000 + count + 2, 0, 0, 5, 0, count, 0, level,
-                         tree.number)
+            struct.pack_into(">H", page, LAST_SLOT - SLOT_SIZE * place, origin)
+        struct.pack_into(">II", page, PAGE_BEFORE, *siblings)
+        struct.pack_into(">HHHIHHHHQHQ", page, SLOT_COUNT, slots, at, NEW_FORMAT + count + 2, 0, 0, 5, 0, count, 0,
+                         level, tree.number)
         if number == tree.root:
-            for at, segment in ((74, tree.leaf_segment), (84, tree.top_segment)):
-                struct.pack_into(">II", page, at, SPACE_ID, 2)
-                struct.pack_into(">H", page, at + 8, FIRST_INODE + INODE_SIZE * (segment - 1))
+            for at, segment in ((LEAF_SEGMENT, tree.leaf_segment), (TOP_SEGMENT, tree.top_segment)):
+                struct.pack_into(">IIH", page, at, THIS_SPACE, INODE_PAGE, inode_place(segment - 1))
         self.write(number, INDEX, page)
 
     def put_space(self):
@@ -254,28 +232,29 @@ class Tablespace:
             for extent in range(first, min(first + DESCRIBED_EXTENTS, extents)):
                 bits = sum((2 if place < used[extent] else 3) << 2 * place for place in range(EXTENT_PAGES))
                 owner, state = (owners[extent], FSEG) if extent in owners else (0, FREE_FRAG)
-                struct.pack_into(">Q6s6sI16s", page, FIRST_DESCRIPTOR + DESCRIPTOR_SIZE * (extent - first), owner,
-                                 *around[extent_address(extent)], state, bits.to_bytes(16, "little"))
+                struct.pack_into(">Q6s6sI16s", page, descriptor_place(extent), owner, *around[extent_address(extent)],
+                                 state, bits.to_bytes(BITMAP_SIZE, "little"))
             if first == 0:
                 fragment_used = sum(used[extent] for extent in range(0, extents, DESCRIBED_EXTENTS))
                 pages = extents * EXTENT_PAGES
-                struct.pack_into(">IIIIII", page, 38, SPACE_ID, 0, pages, pages, DYNAMIC, fragment_used)
-                struct.pack_into(">16s16s16sQ16s16s", page, 62, base([]), base(lists[0]), base([]),
-                                 self.trees[-1].leaf_segment + 1, base([]), base([address(2, 38)]))
+                struct.pack_into(">IIIIII", page, SPACE_ID, THIS_SPACE, 0, pages, pages, DYNAMIC, fragment_used)
+                inodes = base([address(INODE_PAGE, INODE_LIST_NODE)])
+                struct.pack_into(">16s16s16sQ16s16s", page, LIST_FREE, base([]), base(lists[0]), base([]),
+                                 self.trees[-1].leaf_segment + 1, base([]), inodes)
             self.write(first * EXTENT_PAGES, XDES if first > 0 else FSP_HDR, page)
 
     def put_inodes(self):
         page = bytearray(PAGE_SIZE)
-        page[38:50] = NOWHERE + NOWHERE
+        page[INODE_LIST_NODE:INODE_LIST_NODE + 2 * ADDRESS_SIZE] = NOWHERE + NOWHERE
         for tree in self.trees:
             self.put_inode(page, tree.top_segment, tree.top_pages, [], [], 0)
             self.put_inode(page, tree.leaf_segment, [], *self.leaf_lists(tree), tree.last_used)
-        self.write(2, INODE, page)
+        self.write(INODE_PAGE, INODE, page)
 
     @staticmethod
     def put_inode(page, segment, slots, full, not_full, not_full_used):
-        at = FIRST_INODE + INODE_SIZE * (segment - 1)
+        at = inode_place(segment - 1)
         full, not_full = (base(list(map(extent_address, members))) for members in (full, not_full))
         struct.pack_into(">QI16s16s16sI", page, at, segment, not_full_used, base([]), not_full, full, INODE_MAGIC)
-        slots = slots + [FIL_NULL] * (FRAGMENT_SLOTS - len(slots))
-        struct.pack_into(f">{FRAGMENT_SLOTS}I", page, at + 64, *slots)
+        slots = slots + [FIL_NULL] * (SLOTS - len(slots))
+        struct.pack_into(f">{SLOTS}I", page, at + SLOTS_PLACE, *slots)

@@ -2,10 +2,18 @@
 read them. They have no checksums, so they aren't sound."""
 
 import collections
+import pathlib
 import struct
+import sys
 
-PAGE_SIZE, FIL_NULL = 16384, 0xFFFFFFFF
-INODE_SIZE, INODE_MAGIC = 192, 97937874
+sys.path.insert(0, str(pathlib.Path(__file__).resolve().parent.parent / 'tools'))
+from innodb_layout import (  # noqa: E402
+    EXTENT_BITMAP, EXTENT_PAGES, FIL_NULL, FSP_HDR, HEAP_START, INDEX, INFIMUM, INODE, INODES_FREE, INODE_LIST_NODE,
+    INODE_MAGIC, LEAF_SEGMENT, LEVEL, LIST_BASE, LIST_NODE, NEW_FORMAT, NEXT_RECORD, PAGE_SIZE, PAGE_TYPE, RECORDS,
+    RECORD_HEADER, SEGMENT_MAGIC, SLOTS, SLOTS_PLACE, SLOT_COUNT, SPACE_ID, SUPREMUM, TOP_SEGMENT, descriptor_place,
+    inode_place)
+
+SPACE = 7
 
 # A page of an index, of records that are pairs of what stands in front of their header and behind it.
 IndexPage = collections.namedtuple('IndexPage', 'number index_id records level changes')
@@ -17,50 +25,50 @@ def index_page(number, index_id, records=(), level=0, **changes):
 
 def index_bytes(made, segments):
     page = bytearray(PAGE_SIZE)
-    origins, at = [99], 120
+    origins, at = [INFIMUM], HEAP_START
     for front, body in made.records:
         page[at:at + len(front)] = front
-        origins.append(at + len(front) + 5)
+        origins.append(at + len(front) + RECORD_HEADER)
         at = origins[-1] + len(body)
         page[origins[-1]:at] = body
-    for here, there in zip(origins, origins[1:] + [112]):
-        struct.pack_into('>H', page, here - 2, (there - here) % 65536)
+    for here, there in zip(origins, origins[1:] + [SUPREMUM]):
+        struct.pack_into('>H', page, here - NEXT_RECORD, (there - here) % 65536)
     count = len(made.records)
     struct.pack_into('>IIII', page, 0, 0, made.number, made.changes.get('before', FIL_NULL),
                      made.changes.get('after', FIL_NULL))
-    struct.pack_into('>HI', page, 24, made.changes.get('kind', 17855), made.changes.get('key_version', 0))
-    struct.pack_into('>HHHHH', page, 38, 2, at, made.changes.get('new_format', 0x8000) + count + 2, 0, 0)
-    struct.pack_into('>H', page, 54, count)
-    struct.pack_into('>HQ', page, 64, made.level, made.index_id)
-    for place, segment in zip((74, 84), segments):
-        struct.pack_into('>IIH', page, place, made.changes.get('space', 7), 2, 50 + INODE_SIZE * segment)
+    struct.pack_into('>HI', page, PAGE_TYPE, made.changes.get('kind', INDEX), made.changes.get('key_version', 0))
+    struct.pack_into('>HHHHH', page, SLOT_COUNT, 2, at, made.changes.get('new_format', NEW_FORMAT) + count + 2, 0, 0)
+    struct.pack_into('>H', page, RECORDS, count)
+    struct.pack_into('>HQ', page, LEVEL, made.level, made.index_id)
+    for place, segment in zip((LEAF_SEGMENT, TOP_SEGMENT), segments):
+        struct.pack_into('>IIH', page, place, made.changes.get('space', SPACE), 2, inode_place(segment))
     return page
 
 
-def tablespace(roots, others=(), flags=33, size=64, kind=8, free=()):
+def tablespace(roots, others=(), flags=33, size=64, kind=FSP_HDR, free=()):
     """The bytes of a file: page 0, the inodes on page 2, the roots, each with two segments, and other pages."""
     pages = collections.defaultdict(lambda: bytearray(PAGE_SIZE))
     head, inodes = pages[0], pages[2]
-    struct.pack_into('>H', head, 24, kind)
-    struct.pack_into('>IIIII', head, 38, 7, 0, size, 64, flags)
-    struct.pack_into('>IIHIH', head, 134, 1, 2, 38, 2, 38)
-    struct.pack_into('>H', inodes, 24, 3)
-    struct.pack_into('>IHIH', inodes, 38, FIL_NULL, 0, FIL_NULL, 0)
+    struct.pack_into('>H', head, PAGE_TYPE, kind)
+    struct.pack_into('>IIIII', head, SPACE_ID, SPACE, 0, size, EXTENT_PAGES, flags)
+    struct.pack_into(LIST_BASE, head, INODES_FREE, 1, 2, INODE_LIST_NODE, 2, INODE_LIST_NODE)
+    struct.pack_into('>H', inodes, PAGE_TYPE, INODE)
+    struct.pack_into(LIST_NODE, inodes, INODE_LIST_NODE, FIL_NULL, 0, FIL_NULL, 0)
     used = {0, 1, 2}
     for number, root in enumerate(roots):
         segments = 2 * number, 2 * number + 1
         for segment in segments:
-            at = 50 + INODE_SIZE * segment
+            at = inode_place(segment)
             struct.pack_into('>Q', inodes, at, segment + 1)
-            struct.pack_into('>I32I', inodes, at + 60, INODE_MAGIC, *[FIL_NULL] * 32)
-        struct.pack_into('>I', inodes, 50 + INODE_SIZE * segments[1] + 64, root.number)
+            struct.pack_into('>I%dI' % SLOTS, inodes, at + SEGMENT_MAGIC, INODE_MAGIC, *[FIL_NULL] * SLOTS)
+        struct.pack_into('>I', inodes, inode_place(segments[1]) + SLOTS_PLACE, root.number)
         pages[root.number] = index_bytes(root, root.changes.get('segments', segments))
         used.add(root.number)
     for other in others:
         pages[other.number] = index_bytes(other, (0, 1))
         used.add(other.number)
     for number in range(256):
-        extent, place = divmod(number, 64)
+        extent, place = divmod(number, EXTENT_PAGES)
         if number not in used or number in free:
-            head[150 + 40 * extent + 24 + place // 4] |= 1 << place % 4 * 2
+            head[descriptor_place(extent) + EXTENT_BITMAP + place // 4] |= 1 << place % 4 * 2
     return b''.join(bytes(pages[number]) for number in range(max(size, max(pages) + 1)))

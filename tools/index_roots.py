@@ -10,19 +10,17 @@ import collections
 import functools
 import struct
 
-from create_table import decimal_size
-from tablespace_file import INDEX, LEVEL, PAGE_SIZE, RECORDS, NotTold, Root, type_of
+from innodb_layout import (
+    BODY_END, DELETED, GARBAGE, HEAP_START, HEAP_TOP, INDEX, INFIMUM, LEVEL, MARKS, NEXT_RECORD, PAGE_SIZE, RECORDS,
+    RECORD_HEADER, number_at, type_of)
+from table_description import HIDDEN_GROUP, SPATIAL
+from table_schema import FIRST_ROOT, Field, TableSchema, field_of
+from tablespace_file import LeftOut, NotTold, Root, partitioned_table
 
-INFIMUM, HEAP_START = 99, 120
-HEAP_TOP, GARBAGE = 40, 46
-# The mark of a deleted record, and how many entries are looked up at most, about.
-DELETED, ENTRIES = 0x20, 20
+# How many entries are looked up at most, about.
+ENTRIES = 20
 
-# A field of a record: its length where all values have one, the greatest one, whether it may be null, and whether it is
-# filled with spaces where it is compared.
-Field = collections.namedtuple('Field', 'fixed longest null is_text')
 SYSTEM = {length: Field(length, length, False, False) for length in (4, 6, 7)}
-INTEGERS = {'tinyint': 1, 'smallint': 2, 'mediumint': 3, 'int': 4, 'bigint': 8, 'date': 3, 'year': 1}
 
 
 class Shape:
@@ -32,24 +30,6 @@ class Shape:
         self.name, self.leaf, self.key_count, self.columns = name, fields, key_count, columns
         self.node = fields[:key_count] + [SYSTEM[4]]
         self.null_count = sum(field.null for field in fields)
-
-
-def field_of(words):
-    """The field of a column line, from its type to its nullity."""
-    kind, numbers, null = words[0], [int(word) for word in words[1:] if word.isdigit()], words[-1] == 'null'
-    is_text = kind in ('char', 'varchar') or kind.endswith('text')
-    if kind in INTEGERS:
-        fixed = INTEGERS[kind]
-    elif kind in ('char', 'binary'):
-        fixed = numbers[0]
-    elif kind in ('datetime', 'timestamp'):
-        fixed = (5 if kind == 'datetime' else 4) + (numbers[0] + 1) // 2
-    elif kind == 'decimal':
-        fixed = decimal_size(*numbers)
-    else:
-        longest = numbers[0] * (4 if 'utf8mb4' in words else 1) if numbers else PAGE_SIZE * PAGE_SIZE
-        return Field(None, longest, null, is_text)
-    return Field(fixed, fixed, null, is_text)
 
 
 def shapes_of(schema):
@@ -74,25 +54,25 @@ def shapes_of(schema):
 class Page:
     def __init__(self, data):
         self.data = data
-        self.level = struct.unpack_from('>H', data, LEVEL)[0]
+        self.level = number_at(data, LEVEL, 2)
 
     def number(self, place):
-        return struct.unpack_from('>H', self.data, place)[0]
+        return number_at(self.data, place, 2)
 
     def origins(self):
         """The records of the chain; fewer where it isn't one."""
         origin, found = INFIMUM, []
         for _ in range(self.number(RECORDS)):
-            origin = (origin + self.number(origin - 2)) % PAGE_SIZE
-            if not HEAP_START <= origin < PAGE_SIZE - 8:
+            origin = (origin + self.number(origin - NEXT_RECORD)) % PAGE_SIZE
+            if not HEAP_START <= origin < BODY_END:
                 break
             found.append(origin)
         return found
 
     def fields(self, origin, shape):
         """Where the record begins, and the places of its fields, none for a null; nothing where they don't fit."""
-        nulls = origin - 6
-        fields, lengths, at, places = shape.node if self.level else shape.leaf, origin - 6, origin, []
+        nulls = origin - RECORD_HEADER - 1
+        fields, lengths, at, places = shape.node if self.level else shape.leaf, nulls, origin, []
         lengths -= (shape.null_count + 7) // 8
         bit = 0
         for field in fields:
@@ -160,7 +140,7 @@ class Trees:
     def entries(self, page, shape):
         """The values of some entries of the first leaf that aren't deleted."""
         page = self.first_leaf(page, shape)
-        origins = [origin for origin in page.origins() if not page.data[origin - 5] & DELETED] if page else []
+        origins = [origin for origin in page.origins() if not page.data[origin - MARKS] & DELETED] if page else []
         step = max(1, len(origins) // ENTRIES)
         return [values for values in (page.values(origin, shape) for origin in origins[::step]) if values]
 
@@ -237,11 +217,24 @@ def order_of_roots(trees, groups):
     if len(found) > 1:
         found = orders(members, count, agrees)
     if len(found) > 1:
-        # Where the ids follow each other, they were given out in one piece, in the order of the indexes.
-        first = trees.roots[0].index_id
-        in_one_piece = all(root.index_id == first + place for place, root in enumerate(trees.roots))
-        found = [list(indexes)] if in_one_piece and all(agrees(index, index) for index in indexes) else []
+        order = order_of_ids([root.index_id for root in trees.roots], groups)
+        found = [order] if order and all(agrees(index, root) for root, index in enumerate(order)) else []
     return found[0] if found else None
+
+
+def order_of_ids(ids, groups):
+    """The index of each root where the ids alone tell it: where they follow each other, they were given out in one
+    piece, in the order of the indexes. The hidden index of a full-text one comes after those of its other tables, or
+    last, after the full-text ones, where a table that was there got its first."""
+    def in_one_piece(ids):
+        return all(after == before + 1 for before, after in zip(ids, ids[1:]))
+
+    indexes = list(range(len(ids)))
+    if HIDDEN_GROUP not in groups[1:]:
+        return indexes if in_one_piece(ids) else None
+    if in_one_piece(ids[1:]):
+        return indexes
+    return indexes[:1] + indexes[2:] + indexes[1:2] if in_one_piece(ids[:-1]) else None
 
 
 def counted(count, what, many=None):
@@ -267,34 +260,86 @@ class RootsOpen(NotTold):
         self.lines = candidates(trees)
 
 
-def pages_of(table, schema, file):
-    """The root page of each index of the table, in order, as the file has them; raises RootsOpen."""
-    indexes = table.ordered_indexes()
-    trees = Trees(file, shapes_of(schema), file.roots())
+def pages_of(schema, text, file):
+    """The root page of each index of the text, in its order, as the file has them; raises RootsOpen."""
+    indexes = schema.indexes
+    trees = Trees(file, shapes_of(text), file.roots())
     names = ', '.join(index.what for index in indexes)
     if len(trees.roots) != len(indexes):
         raise RootsOpen('the file has %s, and the table %s (%s)' % (
             counted(len(trees.roots), 'root'), counted(len(indexes), 'index', 'indexes'), names), trees)
-    order = order_of_roots(trees, [table.group_of(index) for index in indexes])
+    order = order_of_roots(trees, [schema.table.group_of(index) for index in indexes])
     if order is None:
         raise RootsOpen('the file leaves open which root is that of which index (%s); choose by --roots' % names, trees)
     return [trees.roots[order.index(index)].page for index in range(len(indexes))]
 
 
-def schema_of(table, roots, default_format, file=None):
-    """The schema text of a table, with the roots and the row format of a file where one is given. Raises NotTold where
-    the file doesn't tell them; what else isn't served is on the table's list of what is refused then. Whether the rows
-    are as long as its columns is said by `fills` of the table."""
+def rows_root(schema, file):
+    """The root of the rows: the one with the lowest index id, as the rows' index is made first; nothing where the file
+    has fewer roots than there are indexes, since that of the rows may be lost then, unless it is the usual one."""
+    count = sum(index.kind != SPATIAL for index in schema.table.ordered_indexes())
+    roots = file.roots()
+    return roots[0].page if roots and (len(roots) >= count or roots[0].page == FIRST_ROOT) else None
+
+
+def rows_of(table, choice, file):
+    """The answer where the rows alone are asked for: also of a file that is broken in any place."""
+    notes = []
+    try:
+        table.format = file.row_format(choice.partition, True)
+    except LeftOut:
+        raise
+    except NotTold as why:
+        notes.append("the file doesn't tell its row format: %s" % why)
+    schema, roots = TableSchema(table, choice), choice.roots
+    if roots is None:
+        root = rows_root(schema, file)
+        roots = [root or FIRST_ROOT]
+        if root is None:
+            notes.append("the file doesn't tell the root of the rows; it is taken for page %d, as it mostly is"
+                         % FIRST_ROOT)
+    text = schema.text(roots) if table.is_read else ''
+    if schema.refused or not table.is_read:
+        return Answer('', schema.refused, True, [])
+    return Answer(text, [], bool(notes) or fills(text, roots[0], file), notes)
+
+
+# The schema text, what isn't served, whether the rows of the file are as long as the columns of the table, and what
+# the file doesn't tell.
+Answer = collections.namedtuple('Answer', 'text refused fills notes')
+
+
+def gives_rows(table, choice, file=None):
+    """Whether a table has a schema text for its rows alone, by which `ibd-salvage` reads them."""
+    try:
+        if file is not None:
+            file.row_format(choice.partition, True)
+    except NotTold:
+        return False
+    schema = TableSchema(table, choice._replace(rows=True, roots=None))
+    schema.text()
+    return table.is_read and not schema.refused
+
+
+def schema_of(table, choice, file=None):
+    """The answer for a table of table_description.py and a Choice of table_schema.py, with the roots and the row format
+    of a file where one is given. Raises NotTold where the file doesn't tell them, and NotServed where there is another
+    number of roots; where something is refused the text is none."""
+    if file is not None and partitioned_table(file.name) is not None and not choice.partition:
+        raise LeftOut('a partition of a table, which is served by --partition')
+    if file is not None and choice.rows:
+        return rows_of(table, choice, file)
     if file is not None:
-        table.format = file.row_format()
-    if not table.is_read:
-        return ''
-    schema = table.schema_text(roots, default_format)
-    if file is not None and not table.refused:
-        roots = roots or pages_of(table, schema, file)
-        schema = table.schema_text(roots, default_format)
-        table.fills = fills(schema, roots[0], file)
-    return schema
+        table.format = file.row_format(choice.partition)
+    schema = TableSchema(table, choice)
+    text = schema.text(choice.roots) if table.is_read else ''
+    if schema.refused or not table.is_read:
+        return Answer('', schema.refused, True, [])
+    if file is None:
+        return Answer(text, [], True, [])
+    roots = choice.roots or pages_of(schema, text, file)
+    text = schema.text(roots)
+    return Answer(text, [], fills(text, roots[0], file), [])
 
 
 def fills(schema, root, file):
