@@ -17,7 +17,6 @@ mod sheaf;
 mod shelf;
 mod store;
 mod text;
-mod unread;
 mod words;
 
 use line::try_line;

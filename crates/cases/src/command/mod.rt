@@ -7,7 +7,6 @@ mod file;
 mod get;
 mod page;
 mod row;
-mod salvage;
 mod sample;
 mod schema;
 mod sweep;
@@ -25,7 +24,6 @@ use file::{FetchCase, FileCase};
 use get::GetCase;
 use page::PageCase;
 use row::{RowCase, RowText};
-use salvage::SalvageCase;
 use sample::SampleCase;
 pub use schema::try_schema;
 use std::alloc::Global;
@@ -40,7 +38,6 @@ pub enum Command<'a> {
     Dump(FileCase<'a>),
     Both(FileCase<'a>),
     Cross(FileCase<'a>),
-    Salvage(SalvageCase<'a>),
     Get(GetCase<'a>),
     Build(BuildCase<'a>),
     Sample(SampleCase),
@@ -78,7 +75,6 @@ impl<'a> Command<'a> {
             "dump" => Ok(Command::Dump(FileCase::read(alloc, words)?)),
             "both" => Ok(Command::Both(FileCase::read(alloc, words)?)),
             "cross" => Ok(Command::Cross(FileCase::read(alloc, words)?)),
-            "salvage" => Ok(Command::Salvage(SalvageCase::read(alloc, words)?)),
             "sample" => Ok(Command::Sample(SampleCase::read(words)?)),
             "fetches" => Ok(Command::Fetches(FetchCase::read(alloc, words)?)),
             "audit" => Ok(Command::Audit(AuditCase::read(alloc, words)?)),
@@ -104,7 +100,6 @@ impl<'a> Command<'a> {
                 case.run(alloc, shelf, &[Task::Check, Task::Dump], answer, report)
             }
             Command::Cross(case) => case.run(alloc, shelf, &[Task::Cross], answer, report),
-            Command::Salvage(case) => case.run(alloc, shelf, answer, report),
             Command::Get(case) => case.run(alloc, shelf, answer, report),
             Command::Build(case) => case.run(alloc, shelf, answer, report),
             Command::Sample(case) => case.run(alloc, answer, report),

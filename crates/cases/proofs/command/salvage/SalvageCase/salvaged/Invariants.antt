@@ -1,4 +1,0 @@
-use Rattle.cases.proofs.command.salvage.SalvageCase.salvaged.Given as goal
-
-abbrev pub ghosts-go : goal.ghosts-go
-ghosts-go a = record { name = a.blank.name; parts = a.blank.parts }
