@@ -10,6 +10,8 @@ use Rattle.schema_text.specs.Refusals.{BadLine}
 use Rattle.schema_text.specs.Grammar.{IsTextOf}
 use Rattle.schema_text.specs.declared.errors.SchemaWhy.{SchemaWhy}
 use Rattle.salvage_model.specs.declared.stop.SalvageStop.TheVariants as stops
+use Rattle.salvage_model.specs.Causes.{Counts, counts_of}
+use Rattle.salvage_model.specs.Salvage.{Written}
 use Rattle.command_line.specs.declared.schema_file.SchemaStop.{SchemaStop}
 use Rattle.command_line.specs.declared.schema_file.SchemaStop.TheVariants.{Refused, Source, Memory}
 use Rattle.command_line.specs.Reading.{IsReadUpTo}
@@ -78,39 +80,42 @@ is_source Memory is = absurd (cc)
 
 -- where the text is that of a table, only an input or memory stops the program before the file
 stopped_saves : (text content : List ℕ) (one : HasOneAnswer text) (table : TableDef) (form : Form)
-    (left out : Option (List ℕ)) (faults : ℕ) (stop : SchemaStop) → ReadsSchema text left (Err stop)
-    → IsTextOf table text → IsSalvage content table form faults faults out out (status_of_schema stop)
-stopped_saves text content one table form left out faults (Refused l w) reads is =
+    (left : Option (List ℕ)) (counts : Counts) (heard : ℕ) (old : Written) (stop : SchemaStop)
+    → ReadsSchema text left (Err stop) → IsTextOf table text
+    → IsSalvage content table form counts counts heard heard old old (status_of_schema stop)
+stopped_saves text content one table form left counts heard old (Refused l w) reads is =
     absurd (no_table text one l w table reads is)
-stopped_saves text content one table form left out faults Source reads is =
-    record { result = Err stops.Source; ends = refl; salvages = inl refl }
-stopped_saves text content one table form left out faults Memory reads is =
+stopped_saves text content one table form left counts heard old Source reads is =
+    record { result = Err stops.Source; ends = refl; salvages = inl (record { asked = omega arith; same = refl }) }
+stopped_saves text content one table form left counts heard old Memory reads is =
     record { result = Err stops.Memory; ends = refl; salvages = refl }
 
 pub serves_stopped : {F Q O E : Type 0} (all : (text : List ℕ) → HasOneAnswer text) (g : Meanings F Q O E) (form : Form)
-    (file : F) (schema schema_now : Q) (out : O) (err err_now : E) (steps : ℕ) (stop : SchemaStop)
+    (file : F) (schema schema_now : Q) (out : O) (err : E) (steps : ℕ) (stop : SchemaStop)
     → Stopped g.schema schema schema_now stop
     → Serves g form (record { file = file; schema = schema; out = out; err = err })
-    (record { file = file; schema = schema_now; out = out; err = err_now }) steps steps (status_of_schema stop)
-serves_stopped all g form file schema schema_now out err err_now steps stop stopped =
+    (record { file = file; schema = schema_now; out = out; err = err }) steps steps (status_of_schema stop)
+serves_stopped all g form file schema schema_now out err steps stop stopped =
     let left = g.schema.left schema_now in
     record {
       asked = never_usage stop;
       read = stopped.read;
       refused = λ line why is. (
         told1 (g.schema.left schema) (λ text reads. refused_as text left stop line why is reads) stopped.reads,
-        record { file = refl; uncounted = refl },
+        record { file = refl; out = refl; err = refl; uncounted = refl },
       );
-      untouched = λ text told none. record { file = refl; uncounted = refl };
+      untouched = λ text told none. record { file = refl; out = refl; err = refl; uncounted = refl };
       alone = λ text line why told refused.
           stopped_alone text (all text) left stop (at_told _ (g.schema.left schema) text told stopped.reads) line why
           refused;
       saves = λ text content table told tells is.
-          stopped_saves text content (all text) table form left (g.out.written out) (g.file.faults file) stop
+          stopped_saves text content (all text) table form left (counts_of g.file file) (g.err.faults err)
+          (record { sink = g.out.written out; losses = g.err.written err }) stop
           (at_told _ (g.schema.left schema) text told stopped.reads) is;
-      unwritten = λ before. refl;
+      unwritten = λ before. (refl, refl);
       source = λ is. inr (stopped.cause (is_source stop is));
       sink = λ is. absurd (never_sink stop is);
+      heard = omega arith;
       changed = λ fault is. absurd (never_changed stop fault is);
       content = refl;
       cost = record { told = told0 (g.file.content file) (λ content. omega arith); always = omega arith };
@@ -124,9 +129,10 @@ not_usage status of is = subst IsOfFile is of
 pub serves_file : {F Q O E : Type 0} (all : (text : List ℕ) → HasOneAnswer text) (g : Meanings F Q O E) (form : Form)
     (file file_now : F) (schema schema_now : Q) (out out_now : O) (err err_now : E) (steps steps_now : ℕ)
     (table : TableDef) (status : SalvageStatus) → HasTable g.schema schema schema_now table
-    → OfFile g.file file (λ content. IsSalvage content table form (g.file.faults file) (g.file.faults file_now)
-    (g.out.written out) (g.out.written out_now) status)
-    → SavesOver g.file g.out file file_now out out_now steps steps_now status
+    → OfFile g.file file (λ content. IsSalvage content table form (counts_of g.file file) (counts_of g.file file_now)
+    (g.err.faults err) (g.err.faults err_now) (record { sink = g.out.written out; losses = g.err.written err })
+    (record { sink = g.out.written out_now; losses = g.err.written err_now }) status)
+    → SavesOver g.file g.out g.err file file_now out out_now err err_now steps steps_now status
     → Serves g form (record { file = file; schema = schema; out = out; err = err })
     (record { file = file_now; schema = schema_now; out = out_now; err = err_now }) steps steps_now status
 serves_file all g form file file_now schema schema_now out out_now err err_now steps steps_now table status has told
@@ -141,36 +147,16 @@ serves_file all g form file file_now schema schema_now out out_now err err_now s
       saves = λ text content other left tells is.
           let mine = (at_told _ (g.schema.left schema) text left has.reads).0 in
           let same : table ≡ other = some_table table other (all text (Ok table) (Ok other) mine is) in
-          subst (λ (t : TableDef). IsSalvage content t form (g.file.faults file) (g.file.faults file_now)
-          (g.out.written out) (g.out.written out_now) status) same (at_told _ (g.file.content file) content tells told);
+          subst (λ (t : TableDef). IsSalvage content t form (counts_of g.file file) (counts_of g.file file_now)
+          (g.err.faults err) (g.err.faults err_now) (record { sink = g.out.written out; losses = g.err.written err })
+          (record { sink = g.out.written out_now; losses = g.err.written err_now }) status) same
+          (at_told _ (g.file.content file) content tells told);
       unwritten = over.unwritten;
       source = λ is. inl (over.source is);
       sink = over.sink;
+      heard = over.heard;
       changed = over.changed;
       content = over.content;
       cost = over.cost;
       fetches = over.fetches;
     }
-
--- what is reported changes nothing of it
-pub serves_reported : {F Q O E : Type 0} (g : Meanings F Q O E) (form : Form) (old : Objects F Q O E)
-    (file_now : F) (schema_now : Q) (out_now : O) (err_now err_later : E) (steps steps_now : ℕ) (status : SalvageStatus)
-    → Serves g form old (record { file = file_now; schema = schema_now; out = out_now; err = err_now }) steps steps_now
-    status
-    → Serves g form old (record { file = file_now; schema = schema_now; out = out_now; err = err_later }) steps
-    steps_now status
-serves_reported g form old file_now schema_now out_now err_now err_later steps steps_now status s = record {
-  asked = s.asked;
-  read = s.read;
-  refused = s.refused;
-  untouched = s.untouched;
-  alone = s.alone;
-  saves = s.saves;
-  unwritten = s.unwritten;
-  source = s.source;
-  sink = s.sink;
-  changed = s.changed;
-  content = s.content;
-  cost = s.cost;
-  fetches = s.fetches;
-}

@@ -110,15 +110,16 @@ pub saves_over : {F O E : Type 0} (f : FileOf F) (o : SinkOf O) (e : SinkOf E) (
     (err err_now : E) (steps steps_now : ℕ) (answer : Result Saved SalvageStop) (status : SalvageStatus)
     → Ends answer status → SalvagesOver f o e file file_now out out_now err err_now steps steps_now answer
     → TakesSteps f file salvage_steps steps steps_now → AsksAtMost f file file_now salvage_steps
-    → SavesOver f o file file_now out out_now steps steps_now status
+    → SavesOver f o e file file_now out out_now err err_now steps steps_now status
 saves_over f o e file file_now out out_now err err_now steps steps_now answer status ends over cost fetches = record {
   of_file = of_file answer status ends;
   content = over.same;
   source = λ is. over.source_rose (is_source answer status ends is);
   sink = λ is. over.sink_rose (is_sink answer status ends is);
+  heard = over.losses_later;
   unwritten = λ before. elim (is_before answer status ends before) [
-    | inl root ↦ (over.rootless root).0
-    | inr memory ↦ (over.unwritten memory).0
+    | inl root ↦ over.rootless root
+    | inr memory ↦ over.unwritten memory
   ];
   changed = λ fault is. over.changed fault (is_changed answer status fault ends is);
   cost = cost;

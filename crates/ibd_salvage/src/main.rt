@@ -4,7 +4,6 @@
 
 mod forms;
 mod objects;
-mod quiet;
 mod report;
 mod run;
 mod status;

@@ -2,11 +2,11 @@
 
 ghost use Rattle.std.specs.Prelude.{◌≡◌};
 ghost use Rattle.page_source.specs.Calls.{OfFile};
+ghost use Rattle.salvage_model.specs.Causes.{counts_of};
 ghost use Rattle.ibd_salvage.specs.Run.{IsSalvage, SavesOver, Serves};
 ghost use Rattle.ibd_salvage.specs.Program.{Runs};
 
 use crate::forms::{Form, form_of};
-use crate::quiet::Quiet;
 use crate::report::report;
 use crate::status::{SalvageStatus, status_of};
 use command_line::{Words, read_schema};
@@ -15,7 +15,7 @@ use schema_text::Schema;
 use schema_text::laws::{has_one_schema, texts_pass};
 use std::alloc::Global;
 use std::sync::ledger::Ledger;
-use table_salvage::salvage;
+use table_salvage::salvage_regardless;
 
 /// Saves what the words ask for, and answers how it ended. The words are those of the command line without the
 /// program's name; `file` and `schema` are read, `out` and `err` written: the lines of the records to `out`, and what is
@@ -81,19 +81,12 @@ fn save_table<F: PageSource, O: ByteSink, E: ByteSink, L: Ledger>(
     steps: &mut Steps<L>,
 ) -> SalvageStatus
     ensures told { OfFile F.PageSource file.old (λ content. IsSalvage content table.now form
-        (F.faults file.old) (F.faults file.new) (O.written out.old) (O.written out.new) result) }
-    ensures over { SavesOver F.PageSource O.ByteSink file.old file.new out.old out.new steps.old steps.new result }
+        (counts_of F.PageSource file.old) (counts_of F.PageSource file.new) (E.faults err.old) (E.faults err.new)
+        (record { sink = O.written out.old; losses = E.written err.old })
+        (record { sink = O.written out.new; losses = E.written err.new }) result) }
+    ensures over { SavesOver F.PageSource O.ByteSink E.ByteSink file.old file.new out.old out.new err.old err.new
+        steps.old steps.new result }
 {
-    let mut losses = Quiet::new(err);
-    let answer = salvage(
-        alloc,
-        file,
-        table,
-        form.kind,
-        form.index,
-        out,
-        &mut losses,
-        steps,
-    );
+    let answer = salvage_regardless(alloc, file, table, form.kind, form.index, out, err, steps);
     status_of(answer)
 }

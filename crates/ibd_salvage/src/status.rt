@@ -64,7 +64,7 @@ impl From<SchemaStop> for SalvageStatus {
     }
 }
 
-/// The status of a salvage that answered this. `Losses` never comes from one whose report never fails.
+/// The status of a salvage that answered this. `Losses` never comes from one that a failure of its report doesn't end.
 pub(crate) fn status_of(answer: Result<Saved, SalvageStop>) -> SalvageStatus
     requires { answer ≢ Err SalvageStop.Losses }
     ensures { Ends answer result }

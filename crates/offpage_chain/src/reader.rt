@@ -56,6 +56,7 @@ impl ChainReader {
         ensures gives { IfOk result (λ given. GivesPart self.old self.new given page.new left.old left.new) }
         ensures lacks { (fault : Fault) → result ≡ Err (Halt.Broken fault)
             → LacksPart self.old page.new left.old fault }
+        ensures source { result ≡ Err Halt.Source → 0 < left.old }
         ensures kept { OnErr result (self.new ≡ self.old) }
         ensures one { left.old ≤ left.new + 1 }
         ensures once { S.fetches source.new ≤ S.fetches source.old + 1 }

@@ -1,6 +1,6 @@
 //! The line of a row of which some values are lost.
 
-ghost use Rattle.std.specs.Prelude.{◌≡◌, ◌+◌, length, List, Option, OnOk, Err, false};
+ghost use Rattle.std.specs.Prelude.{◌≡◌, ◌+◌, ◌<◌, length, List, Option, OnOk, Err, false};
 ghost use Rattle.page_source.specs.declared.rule.Fault.{Fault};
 ghost use Rattle.page_source.specs.Calls.{OfFile};
 ghost use Rattle.column_values.specs.declared.value.Value.{Value};
@@ -33,6 +33,7 @@ pub(crate) fn put_partial<S: PageSource, O: ByteSink, L: Ledger>(
     ensures left { OnOk result (OfFile S.PageSource source.old (λ file.
         room.new.left + length (saved_pages file row.now.row losses.now) ≡ room.old.left)) }
     ensures broken { (fault : Fault) → result ≡ Err (WriteStop.Broken fault) → BreaksRow row.now fault }
+    ensures source { result ≡ Err WriteStop.Source → 0 < room.old.left }
     ensures cost { steps.new + room.new.left ≡ steps.old + room.old.left }
     ensures over { WritesOver S.PageSource O.ByteSink source.old source.new sink.old sink.new
         steps.old steps.new result }

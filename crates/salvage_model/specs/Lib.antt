@@ -9,6 +9,7 @@ pub mod Records
 pub mod Outcome
 pub mod Causes
 pub mod Saved
+pub mod LongRow
 pub mod Report
 pub mod IndexId
 pub mod Stops

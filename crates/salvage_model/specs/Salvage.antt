@@ -1,5 +1,5 @@
 -- What a salvage answers over a file that is told, and what both outputs then hold.
-use Rattle.std.specs.Prelude.{◌≡◌, ◌⊎◌, ◌+◌, ◌*◌, ◌≤◌, ℕ, List, length, Option, Result, Ok, Err}
+use Rattle.std.specs.Prelude.{◌≡◌, ◌⊎◌, ◌+◌, ◌*◌, ◌≤◌, ℕ, List, length, Option, Some, None, Result, Ok, Err}
 use Rattle.page_source.specs.declared.objects.PageSource.{Ghosts as FileOf}
 use Rattle.page_source.specs.declared.objects.ByteSink.{Ghosts as SinkOf}
 use Rattle.page_source.specs.Faults.{Rose}
@@ -13,10 +13,11 @@ use Rattle.salvage_model.specs.declared.kind.RecordKind.{RecordKind}
 use Rattle.salvage_model.specs.declared.saved.Saved.{Saved}
 use Rattle.salvage_model.specs.declared.stop.SalvageStop.{SalvageStop}
 use Rattle.salvage_model.specs.declared.stop.SalvageStop.TheVariants.{Root, Source, Sink, Losses, Memory, Changed}
-use Rattle.salvage_model.specs.Causes.{RoseBy}
+use Rattle.salvage_model.specs.Causes.{RoseBy, Counts, Reports}
 use Rattle.salvage_model.specs.Outcome.{Job, Outcome}
 use Rattle.salvage_model.specs.Saved.{AreFirst, IsSaved, text_of, numbers_of}
-use Rattle.salvage_model.specs.Report.{report_of}
+use Rattle.salvage_model.specs.LongRow.{EndsInLongRow}
+use Rattle.salvage_model.specs.Report.{losses_of, report_of}
 use Rattle.salvage_model.specs.IndexId.{IsId, HasNoId}
 
 -- what is looked for: the records of a kind, of a table, and the id of its clustered index if it is given
@@ -50,9 +51,33 @@ pub record Written : Type 0 where
   pub sink : Option (List ℕ)
   pub losses : Option (List ℕ)
 
+-- what is said of the report: of the outcomes of all pages, of those of some first pages, and of those where the report
+-- itself ended the salvage
+pub record Told : Type 1 where
+  pub all : List Outcome → Type 0
+  pub first : List Outcome → Type 0
+  pub ended : List Outcome → Type 0
+
+-- of a report that is heeded: it has everything, or a prefix of what some first pages give
+abbrev pub heeded : TableDef → Written → Written → Told
+heeded table old new = record {
+  all = λ outcomes. GrowsBy old.losses new.losses (report_of table outcomes);
+  first = λ outcomes. GrowsByPart old.losses new.losses (report_of table outcomes);
+  ended = λ outcomes. GrowsByPart old.losses new.losses (report_of table outcomes);
+}
+
+-- of one whose failures end nothing: it has everything that was met, or a prefix of that if its own count of faults
+-- rose
+abbrev pub unheeded : TableDef → Written → Written → ℕ → ℕ → Told
+unheeded table old new faults faults_now = record {
+  all = λ outcomes. Reports old.losses new.losses faults faults_now (report_of table outcomes);
+  first = λ outcomes. Reports old.losses new.losses faults faults_now (losses_of table outcomes);
+  ended = λ outcomes. ⊥;
+}
+
 -- the file was gone through to its end, and all was written
-pub record HasSaved (file : List ℕ) (wanted : Wanted) (before now : ℕ) (saved : Saved) (old new : Written)
-    : Type 0 where
+pub record HasSaved (file : List ℕ) (wanted : Wanted) (before now : ℕ) (saved : Saved) (old new : Option (List ℕ))
+    (Report : List Outcome → Type 0) : Type 0 where
   pub id : ℕ
   pub is_id : IsId file wanted.table wanted.given id
   pub missed : Missed
@@ -60,29 +85,62 @@ pub record HasSaved (file : List ℕ) (wanted : Wanted) (before now : ℕ) (save
   pub outcomes : List Outcome
   pub is_saved : IsSaved (job_of file wanted id missed) outcomes
   pub numbers : saved ≡ numbers_of outcomes
-  pub text : GrowsBy old.sink new.sink (text_of wanted.table outcomes)
-  pub report : GrowsBy old.losses new.losses (report_of wanted.table outcomes)
+  pub text : GrowsBy old new (text_of wanted.table outcomes)
+  pub report : Report outcomes
 
 -- some first pages were gone through, and of what they give a prefix was written
-pub record HasBegun (file : List ℕ) (wanted : Wanted) (before now : ℕ) (old new : Written) : Type 0 where
+pub record HasBegun (file : List ℕ) (wanted : Wanted) (before now : ℕ) (old new : Option (List ℕ))
+    (Report : List Outcome → Type 0) : Type 0 where
   pub id : ℕ
   pub is_id : IsId file wanted.table wanted.given id
   pub missed : Missed
   pub cause : HaveCause before now missed
   pub outcomes : List Outcome
   pub are_first : AreFirst (job_of file wanted id missed) outcomes
-  pub text : GrowsByPart old.sink new.sink (text_of wanted.table outcomes)
-  pub report : GrowsByPart old.losses new.losses (report_of wanted.table outcomes)
+  pub text : GrowsByPart old new (text_of wanted.table outcomes)
+  pub report : Report outcomes
 
--- the answer over a file that is told
-abbrev pub Salvages : List ℕ → Wanted → ℕ → ℕ → Result Saved SalvageStop → Written → Written → Type 0
-Salvages file wanted before now (Ok saved) old new = HasSaved file wanted before now saved old new
-Salvages file wanted before now (Err Root) old new = HasNoId file wanted.table wanted.given × (new ≡ old)
-Salvages file wanted before now (Err Source) old new = (new ≡ old) ⊎ HasBegun file wanted before now old new
-Salvages file wanted before now (Err Sink) old new = HasBegun file wanted before now old new
-Salvages file wanted before now (Err Losses) old new = HasBegun file wanted before now old new
-Salvages file wanted before now (Err Memory) old new = new ≡ old
-Salvages file wanted before now (Err (Changed fault)) old new = ⊥
+-- the same up to a row for whose line other pages are read a second time
+pub record HasBegunLongRow (file : List ℕ) (wanted : Wanted) (before now : ℕ) (old new : Option (List ℕ))
+    (Report : List Outcome → Type 0) : Type 0 where
+  pub begun : HasBegun file wanted before now old new Report
+  pub ends : EndsInLongRow (job_of file wanted begun.id begun.missed) begun.outcomes
+
+-- how many pages are asked for to find the id: the root's, if it isn't given
+abbrev pub id_fetches : Option ℕ → ℕ
+id_fetches None = 1
+id_fetches (Some id) = 0
+
+-- no page was asked for but to find the id, and nothing was written
+pub record HasNotBegun (wanted : Wanted) (before now : Counts) (old new : Written) : Type 0 where
+  pub asked : now.fetches ≤ before.fetches + id_fetches wanted.given
+  pub same : new ≡ old
+
+-- the answer over a file that is told, if this is said of the report. The source ends a salvage before the first page,
+-- or at a page that is read a second time: one that can't be fetched the first time is missed
+abbrev pub SalvagesBy : Told → List ℕ → Wanted → Counts → Counts → Result Saved SalvageStop → Written → Written → Type 0
+SalvagesBy told file wanted before now (Ok saved) old new =
+    HasSaved file wanted before.faults now.faults saved old.sink new.sink told.all
+SalvagesBy told file wanted before now (Err Root) old new = HasNoId file wanted.table wanted.given × (new ≡ old)
+SalvagesBy told file wanted before now (Err Source) old new =
+    HasNotBegun wanted before now old new
+    ⊎ HasBegunLongRow file wanted before.faults now.faults old.sink new.sink told.first
+SalvagesBy told file wanted before now (Err Sink) old new =
+    HasBegun file wanted before.faults now.faults old.sink new.sink told.first
+SalvagesBy told file wanted before now (Err Losses) old new =
+    HasBegun file wanted before.faults now.faults old.sink new.sink told.ended
+SalvagesBy told file wanted before now (Err Memory) old new = new ≡ old
+SalvagesBy told file wanted before now (Err (Changed fault)) old new = ⊥
+
+abbrev pub Salvages : List ℕ → Wanted → Counts → Counts → Result Saved SalvageStop → Written → Written → Type 0
+Salvages file wanted before now result old new =
+    SalvagesBy (heeded wanted.table old new) file wanted before now result old new
+
+-- the same if a failure of the report, whose faults are counted too, ends nothing
+abbrev pub SalvagesRegardless : List ℕ → Wanted → Counts → Counts → ℕ → ℕ → Result Saved SalvageStop → Written → Written
+    → Type 0
+SalvagesRegardless file wanted before now faults faults_now result old new =
+    SalvagesBy (unheeded wanted.table old new faults faults_now) file wanted before now result old new
 
 -- a value of a row isn't any more what it was, or a part of a chain doesn't fit any more
 abbrev pub IsChange : Fault → Type 0

@@ -89,6 +89,8 @@ pub fn put_value<S: PageSource, O: ByteSink, L: Ledger>(
     ensures broken { (fault : Fault) → result ≡ Err (WriteStop.Broken fault)
         → (fault.rule ≡ Rule.ChainLength) × (cell.now.place.external ≡ true) }
     ensures near { IsNear cell.now.place → room.new.left ≡ room.old.left }
+    ensures source { result ≡ Err WriteStop.Source → 0 < room.old.left }
+    ensures fewer { OnOk result (room.new.left ≤ room.old.left) }
     ensures cost { steps.new + room.new.left ≡ steps.old + room.old.left }
     ensures over { WritesOver S.PageSource O.ByteSink source.old source.new sink.old sink.new
         steps.old steps.new result }

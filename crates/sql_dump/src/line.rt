@@ -1,6 +1,6 @@
 //! The line of a row, kept in the buffer or put.
 
-ghost use Rattle.std.specs.Prelude.{◌≡◌, ◌≢◌, ◌+◌, ◌≤◌, List, length, IfOk, OnOk, OnErr, Err};
+ghost use Rattle.std.specs.Prelude.{◌≡◌, ◌≢◌, ◌+◌, ◌<◌, ◌≤◌, List, length, IfOk, OnOk, OnErr, Err};
 ghost use Rattle.page_source.specs.declared.rule.Fault.{Fault};
 ghost use Rattle.page_source.specs.Faults.{Rose, HasCause};
 ghost use Rattle.page_source.specs.Objects.{GrowsByPart};
@@ -51,6 +51,8 @@ fn keep_line<S: PageSource, L: Ledger>(
     ensures broken { (fault : Fault) → result ≡ Err (WriteStop.Broken fault) → BreaksRow row.now fault }
     ensures left { IfOk result (λ kept. OfFile S.PageSource source.old (λ file.
         LeavesOf kept room.old.left room.new.left (length (pages_of_all file row.now.row)))) }
+    ensures source { result ≡ Err WriteStop.Source → 0 < room.old.left }
+    ensures near { room.new.left ≡ room.old.left }
     ensures cost { steps.new + room.new.left ≡ steps.old + room.old.left }
     ensures same { S.content source.new ≡ S.content source.old }
     ensures later { S.faults source.old ≤ S.faults source.new }
@@ -92,6 +94,7 @@ pub fn put_line<S: PageSource, O: ByteSink, L: Ledger>(
     ensures broken { (fault : Fault) → result ≡ Err (WriteStop.Broken fault) → BreaksRow row.now fault }
     ensures left { OnOk result (OfFile S.PageSource source.old (λ file.
         room.new.left + length (pages_of_all file row.now.row) ≡ room.old.left)) }
+    ensures source { result ≡ Err WriteStop.Source → 0 < room.old.left }
     ensures cost { steps.new + room.new.left ≡ steps.old + room.old.left }
     ensures over { WritesOver S.PageSource O.ByteSink source.old source.new sink.old sink.new
         steps.old steps.new result }

@@ -126,6 +126,8 @@ fn put_chain<S: PageSource, O: ByteSink, L: Ledger>(
         room.new.left + length (chain_pages file reference.now) ≡ room.old.left)) }
     ensures came { OnOk result (writer.new ≡ record { came = writer.old.came; lacks = 0 }) }
     ensures broken { (fault : Fault) → result ≡ Err (WriteStop.Broken fault) → fault.rule ≡ Rule.ChainLength }
+    ensures source { result ≡ Err WriteStop.Source → 0 < room.old.left }
+    ensures fewer { OnOk result (room.new.left ≤ room.old.left) }
     ensures cost { steps.new + room.new.left ≡ steps.old + room.old.left }
     ensures over { WritesOver S.PageSource O.ByteSink source.old source.new sink.old sink.new
         steps.old steps.new result }
@@ -161,6 +163,8 @@ pub(crate) fn put_long<S: PageSource, O: ByteSink, L: Ledger>(
         room.new.left + length (chain_pages file (reference_of local.now)) ≡ room.old.left)) }
     ensures came { OnOk result (writer.new ≡ with_value writer.old 0) }
     ensures broken { (fault : Fault) → result ≡ Err (WriteStop.Broken fault) → fault.rule ≡ Rule.ChainLength }
+    ensures source { result ≡ Err WriteStop.Source → 0 < room.old.left }
+    ensures fewer { OnOk result (room.new.left ≤ room.old.left) }
     ensures cost { steps.new + room.new.left ≡ steps.old + room.old.left }
     ensures over { WritesOver S.PageSource O.ByteSink source.old source.new sink.old sink.new
         steps.old steps.new result }

@@ -85,6 +85,7 @@ pub fn put_row<S: PageSource, O: ByteSink, L: Ledger>(
         room.new.left + length (pages_of_all file row.now.row) ≡ room.old.left)) }
     ensures broken { (fault : Fault) → result ≡ Err (WriteStop.Broken fault) → BreaksRow row.now fault }
     ensures near { All IsNear row.now.row.places → room.new.left ≡ room.old.left }
+    ensures source { result ≡ Err WriteStop.Source → 0 < room.old.left }
     ensures cost { steps.new + room.new.left ≡ steps.old + room.old.left }
     ensures over { WritesOver S.PageSource O.ByteSink source.old source.new sink.old sink.new
         steps.old steps.new result }

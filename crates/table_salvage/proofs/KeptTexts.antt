@@ -6,8 +6,6 @@ use Rattle.std.specs.List.{enumerate_from}
 use Rattle.std.proofs.lemmas.List.{append-nil}
 use Rattle.std.proofs.lemmas.List.Concat.{flat_map-append}
 use Rattle.std.proofs.lemmas.List.Sums.{sum_by-append}
-use Rattle.page_source.specs.Objects.{GrowsBy}
-use Rattle.page_source.proofs.Texts.{grows_on}
 use Rattle.space_audit.specs.Marks.{is_in, is_set, Marked}
 use Rattle.tree_walk.proofs.Levels.{is_in-append}
 use Rattle.schema_text.specs.TableDef.{TableDef}
@@ -20,7 +18,9 @@ use Rattle.salvage_model.specs.Outcome.{Job, SavedRow, Outcome, Leaf, looked_of,
 use Rattle.salvage_model.specs.Saved.{rows_on, rows_of, line_of_row, text_of, numbers_of}
 use Rattle.salvage_model.specs.Saved.{whole_count, partial_count, leaf_count, lost_count}
 use Rattle.salvage_model.specs.Report.{losses_of_rows, losses_on, losses_of}
+use Rattle.table_salvage.specs.Heard.{GetsNext}
 use Rattle.table_salvage.specs.Work.{Start, Progress, Kept}
+use Rattle.table_salvage.proofs.Hearing.{got_on}
 
 one : {X A : Type 0} (f : X → List A) (x : X) → flat_map f (x ∷ []) ≡ f x
 one f x = append-nil (f x)
@@ -95,7 +95,8 @@ pub record SavesNone (now next : Progress) : Type 0 where
 
 pub kept_page : {start : Start} {now next : Progress} {job : Job} {xs : List Outcome} (x : Outcome) → rows_on x ≡ []
     → looked_of x ≡ [] → next.saved ≡ with_page now.saved x → SavesNone now next
-    → GrowsBy now.written.losses next.written.losses (losses_on job.table (length xs) x) → Kept start now job xs
+    → GetsNext now.unheard next.unheard now.written.losses next.written.losses (losses_on job.table (length xs) x)
+    → Kept start now job xs
     → Kept start next job (xs ++ x ∷ [])
 kept_page {start = start} {now = now} {next = next} {job = job} {xs = xs} x none unlooked count stays report
     kept = record {
@@ -109,8 +110,8 @@ kept_page {start = start} {now = now} {next = next} {job = job} {xs = xs} x none
           ∙ append-nil (text_of job.table xs) in
           rw (same, stays.held, stays.sink) kept.text;
       report = rw (losses_push job.table xs x)
-          (grows_on start.written.losses now.written.losses next.written.losses (losses_of job.table xs)
-          (losses_on job.table (length xs) x) kept.report report);
+          (got_on now.unheard next.unheard start.written.losses now.written.losses next.written.losses
+          (losses_of job.table xs) (losses_on job.table (length xs) x) kept.report report);
     }
 
 -- a leaf has one row more
@@ -175,7 +176,7 @@ pub kept_row : {start : Start} {now next : Progress} {job : Job} {n : ℕ} (xs :
     (row : SavedRow) → length xs ≡ n → Marked (is_set now.marks) next.marks (looked_in row.columns)
     → next.saved ≡ with_row now.saved row
     → IsSent now.written.sink next.written.sink (now.held ++ line_of_row job.table row) next.held
-    → GrowsBy now.written.losses next.written.losses
+    → GetsNext now.unheard next.unheard now.written.losses next.written.losses
     (row_losses job.table n (row.place + 1) (losses_in row.columns))
     → Kept start now job (xs ++ Leaf rows ∷ []) → Kept start next job (xs ++ Leaf (rows ++ row ∷ []) ∷ [])
 kept_row {start = start} {now = now} {next = next} {job = job} xs rows row size marked count sent report kept =
@@ -191,9 +192,11 @@ kept_row {start = start} {now = now} {next = next} {job = job} xs rows row size 
           (sent_more start.written.sink now.written.sink next.written.sink (text_of job.table before) now.held next.held
           (line_of_row job.table row) kept.text sent);
       report =
-          let report_here : GrowsBy now.written.losses next.written.losses (lost (length xs)) =
-          subst (λ k. GrowsBy now.written.losses next.written.losses (lost k)) (sym size) report in
+          let report_here : GetsNext now.unheard next.unheard now.written.losses next.written.losses
+          (lost (length xs)) =
+          subst (λ k. GetsNext now.unheard next.unheard now.written.losses next.written.losses (lost k)) (sym size)
+          report in
           rw (leaf_losses_push job.table xs rows row)
-          (grows_on start.written.losses now.written.losses next.written.losses (losses_of job.table before)
-          (lost (length xs)) kept.report report_here);
+          (got_on now.unheard next.unheard start.written.losses now.written.losses next.written.losses
+          (losses_of job.table before) (lost (length xs)) kept.report report_here);
     }

@@ -1,6 +1,7 @@
 pub mod MetPages
 pub mod Places
 pub mod Firsts
+pub mod Hearing
 pub mod KeptTexts
 pub mod RowSteps
 pub mod LeafSteps

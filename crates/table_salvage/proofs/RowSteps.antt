@@ -1,49 +1,49 @@
 -- One record of a leaf is saved, or breaks the work off.
-use Rattle.std.proofs.Common.{◌≡◌, ℕ, ◌+◌, ◌<◌, ◌≤◌, Bool, true, false, cond, if◌then◌else◌, List, [], ◌∷◌}
-use Rattle.std.proofs.Common.{◌++◌, length, Option, Result, Ok, Err, OnOk, OnErr, is_err, refl, sym, ap, ◌∙◌}
+use Rattle.std.proofs.Common.{◌≡◌, ◌≢◌, ℕ, ◌+◌, ◌<◌, ◌≤◌, Bool, true, false, cond, if◌then◌else◌, List, [], ◌∷◌}
+use Rattle.std.proofs.Common.{◌++◌, length, Option, Some, None, IfSome, Result, Ok, Err, OnOk, OnErr, is_err, refl, sym}
+use Rattle.std.proofs.Common.{ap, ◌∙◌}
 use Rattle.std.proofs.Common.{subst, arith, inl, inr, append_assoc}
 use Rattle.std.proofs.lemmas.List.{append-nil}
 use Rattle.std.proofs.lemmas.Bool.{false≢true}
 use Rattle.page_source.specs.declared.rule.Fault.{Fault}
 use Rattle.page_source.specs.Pages.{page_of}
-use Rattle.page_source.specs.Objects.{GrowsBy, GrowsByPart}
-use Rattle.page_source.proofs.Texts.{grows_on, grows_part}
+use Rattle.page_source.specs.Objects.{GrowsByPart}
 use Rattle.column_values.specs.declared.value.Value.{Value}
 use Rattle.space_audit.specs.Marks.{is_in, is_set, seen, Marked}
 use Rattle.tree_walk.proofs.Levels.{is_in-append}
 use Rattle.schema_text.specs.TableDef.{TableDef}
 use Rattle.sql_dump.specs.Cells.{RowOnLeaf, BreaksRow, row_on}
 use Rattle.sql_dump.specs.Buffer.{IsSent, Moves}
-use Rattle.sql_dump.proofs.Written.{grown_part}
-use Rattle.sql_dump.proofs.Sends.{sent_part, moves_end}
+use Rattle.sql_dump.proofs.Sends.{moves_end}
 use Rattle.sql_dump.specs.declared.stop.WriteStop.{WriteStop}
 use Rattle.sql_dump.specs.declared.stop.WriteStop.TheVariants.{Broken, Source, Sink}
 use Rattle.compact_record.specs.declared.places.Place.{Place}
 use Rattle.compact_record.specs.Reading.{places_of}
 use Rattle.schema_text.specs.IndexFields.{leaf_fields}
 use Rattle.salvage_model.specs.declared.stop.SalvageStop.{SalvageStop}
-use Rattle.salvage_model.specs.declared.stop.SalvageStop.TheVariants.{Changed}
 use Rattle.salvage_model.specs.Stops.{salvage_stop_of}
-use Rattle.salvage_model.specs.Salvage.{IsChange}
 use Rattle.leaf_salvage.specs.Standing.{reach_of}
 use Rattle.salvage_model.specs.declared.loss.Loss.{Loss}
 use Rattle.salvage_model.specs.declared.saved.Saved.{Saved}
 use Rattle.salvage_model.specs.Records.{first_place, list_length, origin_of, is_of, is_place_of}
 use Rattle.salvage_model.specs.Judged.{Judged, AreJudged, losses_in, looked_in}
-use Rattle.salvage_model.specs.SavedRow.{SavesRow, is_whole_row}
+use Rattle.salvage_model.specs.SavedRow.{SavesRow, is_whole_row, saved_pages}
 use Rattle.salvage_model.specs.SavedLine.{saved_line}
 use Rattle.salvage_model.specs.Losses.{row_losses}
 use Rattle.salvage_model.specs.Outcome.{Job, SavedRow, Outcome, Leaf, AreSavedRows, IsSavedRow}
 use Rattle.salvage_model.specs.Outcome.{looked_of_rows, looked_of_pages, row_at_place}
-use Rattle.salvage_model.specs.Saved.{AreFirst, text_of, numbers_of, line_of_row}
-use Rattle.salvage_model.specs.Report.{losses_of, report_of, numbers_line}
+use Rattle.salvage_model.specs.Saved.{AreFirst, text_of, line_of_row}
+use Rattle.salvage_model.specs.LongRow.{EndsInLongRow}
+use Rattle.salvage_model.specs.Report.{losses_of}
 use Rattle.row_salvage.specs.Missed.{UnderMissed}
 use Rattle.row_salvage.specs.Calls.{AnswersRow}
 use Rattle.table_salvage.specs.Ready.{IsRecordOf}
-use Rattle.table_salvage.specs.Work.{Work, Start, Progress, Met, AtRow, RowsDone, Broke, GoesOn}
+use Rattle.table_salvage.specs.Heard.{HasGot, GetsNext}
+use Rattle.table_salvage.specs.Work.{Work, Start, Progress, Met, AtRow, RowsDone, Broke, BrokeInRow, GoesOn}
 use Rattle.table_salvage.proofs.MetPages.{met_on, met_parts, met_now}
 use Rattle.table_salvage.proofs.Places.{places_more}
 use Rattle.table_salvage.proofs.Firsts.{first_more, row_more}
+use Rattle.table_salvage.proofs.Hearing.{got_on}
 use Rattle.table_salvage.proofs.KeptTexts.{kept_row, looked_push, leaf_text_push, leaf_losses_push}
 
 -- the record at a place of leaf n, whose columns were judged
@@ -76,6 +76,7 @@ looked now marks faults = record {
   saved = now.saved;
   held = now.held;
   written = now.written;
+  unheard = now.unheard;
   faults = faults;
 }
 
@@ -175,7 +176,7 @@ row_put : {start : Start} {job : Job} {n place : ℕ} {now next : Progress} {aft
     {losses : List (Option Loss)} {row_values : List (Option Value)} → next.known ≡ now.known → next.marks ≡ after
     → next.saved ≡ counted now.saved losses
     → IsSent now.written.sink next.written.sink (now.held ++ saved_line job.table row_values) next.held
-    → GrowsBy now.written.losses next.written.losses (row_losses job.table n (place + 1) losses)
+    → GetsNext now.unheard next.unheard now.written.losses next.written.losses (row_losses job.table n (place + 1) losses)
     → Judges start n place now after losses row_values job → AtRow start n (place + 1) next job
 row_put {job = job} {n = n} {place = place} {now = now} {next = next} {row_values = row_values} known marks count sent
     report both =
@@ -195,7 +196,7 @@ row_put {job = job} {n = n} {place = place} {now = now} {next = next} {row_value
           kept_row at.outcomes at.rows row at.pages.all
           (subst (λ (m : List Bool). Marked (is_set now.marks) m (looked_in a.columns)) (sym marks) a.marked)
           (count ∙ ap (λ (l : List (Option Loss)). counted now.saved l) a.are) sent
-          (subst (λ (l : List (Option Loss)). GrowsBy now.written.losses next.written.losses
+          (subst (λ (l : List (Option Loss)). GetsNext now.unheard next.unheard now.written.losses next.written.losses
           (row_losses job.table n (place + 1) l)) a.are report) at.kept;
     }
 
@@ -204,7 +205,7 @@ pub record Part (start : Start) (now : Progress) (job : Job) : Type 0 where
   pub outcomes : List Outcome
   pub first : AreFirst job outcomes
   pub text : GrowsByPart start.written.sink now.written.sink (text_of job.table outcomes)
-  pub report : GrowsByPart start.written.losses now.written.losses (report_of job.table outcomes)
+  pub report : HasGot now.unheard start.written.losses now.written.losses (losses_of job.table outcomes)
 
 pub broke : {work : Work} {start : Start} {n : ℕ} {now : Progress} → Met work start n now (Part start now)
     → Broke work start now
@@ -219,47 +220,11 @@ broke met =
       report = part.report;
     }
 
--- its losses weren't put, or in part
-row_unreported : {start : Start} {job : Job} {n place : ℕ} {now next : Progress} {after : List Bool}
-    {losses : List (Option Loss)} {row_values : List (Option Value)} → n < reach_of job.file
-    → next.written.sink ≡ now.written.sink
-    → GrowsByPart now.written.losses next.written.losses (row_losses job.table n (place + 1) losses)
-    → Judges start n place now after losses row_values job → Part start next job
-row_unreported {start = start} {job = job} {n = n} {place = place} {now = now} {next = next} {row_values = row_values}
-    below same report both =
-    let at = both.0 in
-    let here = both.1 in
-    let a = here.answers in
-    let row = row_of place a.columns row_values in
-    let all = outcomes_with at.outcomes at.rows row in
-    let before = at.outcomes ++ Leaf at.rows ∷ [] in
-    let here_lost = row_losses job.table (length at.outcomes) (place + 1) (losses_in a.columns) in
-    let lost : GrowsByPart now.written.losses next.written.losses here_lost =
-    subst (λ k. GrowsByPart now.written.losses next.written.losses
-    (row_losses job.table k (place + 1) (losses_in a.columns))) (sym at.pages.all)
-    (subst (λ (l : List (Option Loss)). GrowsByPart now.written.losses next.written.losses
-    (row_losses job.table n (place + 1) l)) a.are report) in
-    record {
-      outcomes = all;
-      first = first_with below at here;
-      text =
-          rw (leaf_text_push job.table at.outcomes at.rows row, same)
-          (sent_part start.written.sink now.written.sink (text_of job.table before) now.held (line_of_row job.table row)
-          at.kept.text);
-      report =
-          rw (
-            leaf_losses_push job.table at.outcomes at.rows row,
-            append_assoc (losses_of job.table before) here_lost (numbers_line (numbers_of all)),
-          )
-          (grows_part start.written.losses now.written.losses next.written.losses (losses_of job.table before) here_lost
-          (numbers_line (numbers_of all)) at.kept.report lost);
-    }
-
--- its losses were, and its line wasn't, or in part
+-- its losses were reported, and its line wasn't put, or in part
 row_cut : {start : Start} {job : Job} {n place : ℕ} {now next : Progress} {after : List Bool}
     {losses : List (Option Loss)} {row_values : List (Option Value)} → n < reach_of job.file
     → GrowsByPart now.written.sink next.written.sink (now.held ++ saved_line job.table row_values)
-    → GrowsBy now.written.losses next.written.losses (row_losses job.table n (place + 1) losses)
+    → GetsNext now.unheard next.unheard now.written.losses next.written.losses (row_losses job.table n (place + 1) losses)
     → Judges start n place now after losses row_values job → Part start next job
 row_cut {start = start} {job = job} {n = n} {place = place} {now = now} {next = next} {row_values = row_values} below
     cut report both =
@@ -271,10 +236,10 @@ row_cut {start = start} {job = job} {n = n} {place = place} {now = now} {next = 
     let before = at.outcomes ++ Leaf at.rows ∷ [] in
     let line = line_of_row job.table row in
     let here_lost = row_losses job.table (length at.outcomes) (place + 1) (losses_in a.columns) in
-    let lost : GrowsBy now.written.losses next.written.losses here_lost =
-    subst (λ k. GrowsBy now.written.losses next.written.losses
+    let lost : GetsNext now.unheard next.unheard now.written.losses next.written.losses here_lost =
+    subst (λ k. GetsNext now.unheard next.unheard now.written.losses next.written.losses
     (row_losses job.table k (place + 1) (losses_in a.columns))) (sym at.pages.all)
-    (subst (λ (l : List (Option Loss)). GrowsBy now.written.losses next.written.losses
+    (subst (λ (l : List (Option Loss)). GetsNext now.unheard next.unheard now.written.losses next.written.losses
     (row_losses job.table n (place + 1) l)) a.are report) in
     let ends : GrowsByPart start.written.sink next.written.sink (text_of job.table before ++ (line ++ [])) =
     moves_end start.written.sink now.written.sink next.written.sink (text_of job.table before) now.held [] line [] Sink
@@ -288,10 +253,78 @@ row_cut {start = start} {job = job} {n = n} {place = place} {now = now} {next = 
           (append-nil line) ends);
       report =
           rw (leaf_losses_push job.table at.outcomes at.rows row)
-          (grown_part start.written.losses next.written.losses (losses_of job.table before ++ here_lost)
-          (numbers_line (numbers_of all))
-          (grows_on start.written.losses now.written.losses next.written.losses (losses_of job.table before) here_lost
-          at.kept.report lost));
+          (got_on now.unheard next.unheard start.written.losses now.written.losses next.written.losses
+          (losses_of job.table before) here_lost at.kept.report lost);
+    }
+
+-- values of the record at a place of leaf n that aren't lost go on in other pages
+abbrev pub IsLongAt : Work → ℕ → ℕ → List (Option Loss) → Type 0
+IsLongAt work n place losses =
+    saved_pages work.file (row_on work.table (page_of work.file n) (origin_of work.kind (page_of work.file n) place)) losses
+    ≢ []
+
+none_or_some : (pages : List ℕ) → 0 < length pages → pages ≢ []
+none_or_some [] some is = omega (arith, some)
+none_or_some (p ∷ pages) some is = cc
+
+-- the record in hand is such a one, if some pages are left to be read for its line
+pub long_here : (work : Work) (n place : ℕ) (losses : List (Option Loss)) {left : ℕ} (row : RowOnLeaf) (page : List ℕ)
+    (origin : ℕ) → page ≡ page_of work.file n → IsRecordOf work.kind page place origin
+    → row ≡ record { row = row_on work.table page origin; leaf = n }
+    → left ≡ length (saved_pages work.file row.row losses) → 0 < left → IsLongAt work n place losses
+long_here work n place losses row page origin page_is found row_is count some =
+    let here : IsRecordOf work.kind (page_of work.file n) place origin =
+    subst (λ (p : List ℕ). IsRecordOf work.kind p place origin) page_is found in
+    let long : saved_pages work.file row.row losses ≢ [] = none_or_some (saved_pages work.file row.row losses)
+    (omega (arith, count, some)) in
+    subst (λ (o : ℕ). saved_pages work.file (row_on work.table (page_of work.file n) o) losses ≢ []) here.at
+    (subst (λ (p : List ℕ). saved_pages work.file (row_on work.table p origin) losses ≢ []) page_is
+    (subst (λ (r : RowOnLeaf). saved_pages work.file r.row losses ≢ []) row_is long))
+
+-- the last of some first outcomes ends in a long row
+pub record PartInRow (start : Start) (now : Progress) (job : Job) : Type 0 where
+  pub part : Part start now job
+  pub ends : EndsInLongRow job part.outcomes
+
+pub broke_in_row : {work : Work} {start : Start} {n : ℕ} {now : Progress} → Met work start n now (PartInRow start now)
+    → BrokeInRow work start now
+broke_in_row met =
+    let in_row = met_now met in
+    record {
+      broke = record {
+        missed = met.missed;
+        cause = met.cause;
+        outcomes = in_row.part.outcomes;
+        are_first = in_row.part.first;
+        text = in_row.part.text;
+        report = in_row.part.report;
+      };
+      ends = in_row.ends;
+    }
+
+-- the same of a record that is long
+row_cut_long : {start : Start} {job : Job} {n place : ℕ} {now next : Progress} {after : List Bool}
+    {losses : List (Option Loss)} {row_values : List (Option Value)}
+    → saved_pages job.file (row_at_place job n place).row losses ≢ [] → n < reach_of job.file
+    → GrowsByPart now.written.sink next.written.sink (now.held ++ saved_line job.table row_values)
+    → GetsNext now.unheard next.unheard now.written.losses next.written.losses (row_losses job.table n (place + 1) losses)
+    → Judges start n place now after losses row_values job → PartInRow start next job
+unfolding row_cut
+row_cut_long {job = job} {n = n} {place = place} {row_values = row_values} long below cut report both =
+    let at = both.0 in
+    let a = both.1.answers in
+    record {
+      part = row_cut below cut report both;
+      ends = record {
+        before = at.outcomes;
+        rows = at.rows;
+        row = row_of place a.columns row_values;
+        last = refl;
+        long =
+            subst (λ (k : ℕ). saved_pages job.file (row_at_place job k place).row (losses_in a.columns) ≢ [])
+            (sym at.pages.all)
+            (subst (λ (l : List (Option Loss)). saved_pages job.file (row_at_place job n place).row l ≢ []) a.are long);
+      };
     }
 
 -- the row that was read
@@ -343,55 +376,48 @@ pub met_put : {work : Work} {start : Start} {n place : ℕ} {now next : Progress
     {losses : List (Option Loss)} {row_values : List (Option Value)} → faults ≤ next.faults → next.marks ≡ after
     → next.known ≡ now.known → next.saved ≡ counted now.saved losses
     → IsSent now.written.sink next.written.sink (now.held ++ saved_line work.table row_values) next.held
-    → GrowsBy now.written.losses next.written.losses (row_losses work.table n (place + 1) losses)
+    → GetsNext now.unheard next.unheard now.written.losses next.written.losses (row_losses work.table n (place + 1) losses)
     → Met work start (n + 1) (looked now after faults) (Judges start n place now after losses row_values)
     → RowsDone n (place + 1) work start next
 met_put least marks known count sent report met =
     met_on least marks (λ pages parts both. row_put known marks count sent report both) met
 
-pub met_unreported : {work : Work} {start : Start} {n place : ℕ} {now next : Progress} {after : List Bool} {faults : ℕ}
-    {losses : List (Option Loss)} {row_values : List (Option Value)} → faults ≤ next.faults → next.marks ≡ after
-    → n < reach_of work.file → next.written.sink ≡ now.written.sink
-    → GrowsByPart now.written.losses next.written.losses (row_losses work.table n (place + 1) losses)
-    → Met work start (n + 1) (looked now after faults) (Judges start n place now after losses row_values)
-    → Broke work start next
-met_unreported least marks below same report met =
-    broke (met_on least marks (λ pages parts both. row_unreported below same report both) met)
-
 pub met_cut : {work : Work} {start : Start} {n place : ℕ} {now next : Progress} {after : List Bool} {faults : ℕ}
     {losses : List (Option Loss)} {row_values : List (Option Value)} → faults ≤ next.faults → next.marks ≡ after
     → n < reach_of work.file
     → GrowsByPart now.written.sink next.written.sink (now.held ++ saved_line work.table row_values)
-    → GrowsBy now.written.losses next.written.losses (row_losses work.table n (place + 1) losses)
+    → GetsNext now.unheard next.unheard now.written.losses next.written.losses (row_losses work.table n (place + 1) losses)
     → Met work start (n + 1) (looked now after faults) (Judges start n place now after losses row_values)
     → Broke work start next
 met_cut least marks below cut report met =
     broke (met_on least marks (λ pages parts both. row_cut below cut report both) met)
 
+pub met_cut_long : {work : Work} {start : Start} {n place : ℕ} {now next : Progress} {after : List Bool} {faults : ℕ}
+    {losses : List (Option Loss)} {row_values : List (Option Value)} → IsLongAt work n place losses
+    → faults ≤ next.faults → next.marks ≡ after → n < reach_of work.file
+    → GrowsByPart now.written.sink next.written.sink (now.held ++ saved_line work.table row_values)
+    → GetsNext now.unheard next.unheard now.written.losses next.written.losses (row_losses work.table n (place + 1) losses)
+    → Met work start (n + 1) (looked now after faults) (Judges start n place now after losses row_values)
+    → BrokeInRow work start next
+met_cut_long long least marks below cut report met =
+    broke_in_row (met_on least marks (λ pages parts both. row_cut_long long below cut report both) met)
+
+-- the source ended the writing of a line
+abbrev pub is_source : WriteStop → Type 0
+is_source e = let x : Result (Unit {0}) WriteStop = Err e in x ≡ Err Source
+
+-- six facts on a content that may not be told
+pub told6 : {X : Type 0} {P Q R S T U V : X → Type 0} (o : Option X)
+    → ((x : X) → P x → Q x → R x → S x → T x → U x → V x) → IfSome o P → IfSome o Q → IfSome o R → IfSome o S
+    → IfSome o T → IfSome o U → IfSome o V
+told6 None f p q r s t u = tt
+told6 (Some x) f p q r s t u = f x p q r s t u
+
 -- a line that wasn't put broke the work off
-pub line_ends : (Next Off : Type 0) (p q : Option (List ℕ)) (held now line : List ℕ) (e : WriteStop)
+pub line_ends : (Next Off InRow : Type 0) (p q : Option (List ℕ)) (held now line : List ℕ) (e : WriteStop)
     → Moves {A = Unit {0}} (Err e) p q held now line → (GrowsByPart p q (held ++ line) → Off)
-    → GoesOn {A = Unit {0}} (Err (salvage_stop_of e)) Next Off
-line_ends Next Off p q held now line (Broken fault) moves off = absurd moves
-line_ends Next Off p q held now line Source moves off = off moves
-line_ends Next Off p q held now line Sink moves off = off moves
-
--- two answers that are one
-abbrev pub SameWrite : WriteStop → WriteStop → Type 0
-SameWrite a b = let x : Result (Unit {0}) WriteStop = Err a in let y : Result (Unit {0}) WriteStop = Err b in x ≡ y
-
-abbrev pub SameStop : SalvageStop → SalvageStop → Type 0
-SameStop a b = let x : Result (Unit {0}) SalvageStop = Err a in let y : Result (Unit {0}) SalvageStop = Err b in x ≡ y
-
--- what changed, where a row that was checked can't be written
-pub is_change : (row : RowOnLeaf) (stop : WriteStop) (fault : Fault)
-    → ((f : Fault) → SameWrite stop (Broken f) → BreaksRow row f) → SameStop (salvage_stop_of stop) (Changed fault)
-    → IsChange fault
-is_change row (Broken f) fault broken is =
-    let same : f ≡ fault = cc in
-    elim (broken f refl) [
-      | inl value ↦ inl (ap (λ (x : Fault). x.rule) (sym same ∙ value.0))
-      | inr chain ↦ inr (ap (λ (x : Fault). x.rule) (sym same) ∙ chain.0)
-    ]
-is_change row Source fault broken is = cc
-is_change row Sink fault broken is = cc
+    → (is_source e → GrowsByPart p q (held ++ line) → InRow)
+    → GoesOn {A = Unit {0}} (Err (salvage_stop_of e)) Next Off InRow
+line_ends Next Off InRow p q held now line (Broken fault) moves off in_row = absurd moves
+line_ends Next Off InRow p q held now line Source moves off in_row = in_row refl moves
+line_ends Next Off InRow p q held now line Sink moves off in_row = off moves

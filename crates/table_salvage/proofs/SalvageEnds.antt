@@ -1,19 +1,18 @@
 -- The first page, and what stands after the last one.
-use Rattle.std.proofs.Common.{◌≡◌, ℕ, ◌≤◌, ◌++◌, Bool, false, List, [], replicate, Option, Result, Ok, Err}
+use Rattle.std.proofs.Common.{◌≡◌, ℕ, ◌≤◌, ◌+◌, ◌++◌, Bool, true, false, List, [], replicate, Option, Result, Ok, Err}
 use Rattle.std.proofs.Common.{IfSome, refl, sym, ap, ◌∙◌, subst, arith, inl, inr}
 use Rattle.std.proofs.lemmas.List.{append-nil, get_or-replicate, get_or_past, length-replicate}
-use Rattle.std.proofs.lemmas.Bool.{false≢true, cases_lt}
+use Rattle.std.proofs.lemmas.Bool.{false≢true, cases_Bool, cases_lt}
 use Rattle.page_source.specs.declared.objects.PageSource.{Ghosts as FileOf}
 use Rattle.page_source.specs.declared.objects.ByteSink.{Ghosts as SinkOf}
 use Rattle.page_source.specs.declared.rule.Fault.{Fault}
 use Rattle.page_source.specs.Faults.{Rose}
 use Rattle.page_source.specs.Objects.{GrowsBy, GrowsByPart}
 use Rattle.page_source.proofs.Told.{told0, told1}
-use Rattle.page_source.proofs.Texts.{grows_on, grows_part, grows_whole}
+use Rattle.page_source.proofs.Texts.{grows_whole}
 use Rattle.schema_text.specs.TableDef.{TableDef}
 use Rattle.sql_dump.proofs.SomeValues.{grows_none}
-use Rattle.sql_dump.proofs.Sends.{all_sent, sent_cut}
-use Rattle.sql_dump.proofs.Written.{grown_part}
+use Rattle.sql_dump.proofs.Sends.{all_sent, sent_cut, sent_part}
 use Rattle.leaf_salvage.specs.Known.{Knows}
 use Rattle.leaf_salvage.specs.Standing.{reach_of}
 use Rattle.space_audit.specs.Marks.{is_set}
@@ -22,13 +21,17 @@ use Rattle.salvage_model.specs.declared.saved.Saved.{Saved}
 use Rattle.salvage_model.specs.declared.stop.SalvageStop.{SalvageStop}
 use Rattle.salvage_model.specs.declared.stop.SalvageStop.TheVariants.{Root, Source, Sink, Losses, Memory, Changed}
 use Rattle.salvage_model.specs.IndexId.{IsId, HasNoId}
-use Rattle.salvage_model.specs.Outcome.{Job, looked_of_pages}
+use Rattle.salvage_model.specs.Outcome.{Job, Outcome, looked_of_pages}
 use Rattle.salvage_model.specs.Saved.{text_of, numbers_of}
-use Rattle.salvage_model.specs.Report.{losses_of, numbers_line}
-use Rattle.salvage_model.specs.Salvage.{Wanted, Written, HasSaved, HasBegun, Salvages, SalvagesOver}
-use Rattle.table_salvage.specs.Work.{Work, Start, Progress, job_with, Kept, PagesDone, Broke, GoesOn}
+use Rattle.salvage_model.specs.Report.{losses_of, report_of, numbers_line}
+use Rattle.salvage_model.specs.Causes.{Counts}
+use Rattle.salvage_model.specs.Salvage.{Wanted, Written, HasSaved, HasBegun, HasBegunLongRow, SalvagesBy, SalvagesOver}
+use Rattle.salvage_model.specs.Salvage.{id_fetches}
+use Rattle.table_salvage.specs.Work.{Work, Start, Progress, job_with, Kept, AtPage, PagesDone, Broke, BrokeInRow, GoesOn}
+use Rattle.table_salvage.specs.Heard.{HasGot, GetsNext, FailsRising, told_of}
 use Rattle.table_salvage.specs.Over.{PartOver}
 use Rattle.table_salvage.proofs.MetPages.{met_on, met_now}
+use Rattle.table_salvage.proofs.Hearing.{got_on, got_part}
 use Rattle.table_salvage.proofs.Firsts.{no_pages}
 use Rattle.table_salvage.proofs.PartSteps.{done}
 use Rattle.table_salvage.proofs.RowSteps.{broke}
@@ -45,9 +48,10 @@ abbrev pub none_saved : Saved
 none_saved = record { rows = 0; partial = 0; leaves = 0; lost = 0 }
 
 nothing_kept : (start : Start) (now : Progress) (job : Job) (pages : ℕ) → now.marks ≡ replicate pages false
-    → now.held ≡ [] → now.saved ≡ none_saved → now.written ≡ start.written → Kept start now job []
+    → now.held ≡ [] → now.saved ≡ none_saved → now.unheard ≡ false → now.written ≡ start.written
+    → Kept start now job []
 unfolding text_of losses_of looked_of_pages numbers_of
-nothing_kept start now job pages marks held saved written = record {
+nothing_kept start now job pages marks held saved heard written = record {
   marked = λ k. ap (λ (m : List Bool). is_set m k) marks ∙ none_set pages k;
   numbers = saved;
   text = record {
@@ -55,16 +59,17 @@ nothing_kept start now job pages marks held saved written = record {
     grown = subst (λ (w : Written). GrowsBy start.written.sink w.sink []) (sym written) (grows_none start.written.sink);
     split = sym held;
   };
-  report = subst (λ (w : Written). GrowsBy start.written.losses w.losses []) (sym written)
-      (grows_none start.written.losses);
+  report = subst (λ (b : Bool). HasGot b start.written.losses now.written.losses []) (sym heard)
+      (subst (λ (w : Written). GrowsBy start.written.losses w.losses []) (sym written)
+      (grows_none start.written.losses));
 }
 
 -- before the first page
 pub begins : {work : Work} {start : Start} {now : Progress} (pages : ℕ)
     → ((file : List ℕ) (missed : ℕ → Bool) → Knows file missed 0 now.known) → start.faults ≤ now.faults
-    → now.marks ≡ replicate pages false → now.held ≡ [] → now.saved ≡ none_saved → now.written ≡ start.written
-    → PagesDone 0 work start now
-begins {work = work} {start = start} {now = now} pages knows least marks held saved written = record {
+    → now.marks ≡ replicate pages false → now.held ≡ [] → now.saved ≡ none_saved → now.unheard ≡ false
+    → now.written ≡ start.written → PagesDone 0 work start now
+begins {work = work} {start = start} {now = now} pages knows least marks held saved heard written = record {
   later = least;
   missed = record { pages = []; parts = [] };
   cause = omega (arith, least);
@@ -74,7 +79,7 @@ begins {work = work} {start = start} {now = now} pages knows least marks held sa
     knows = knows work.file missed;
     outcomes = [];
     pages = no_pages (job_with work missed parts);
-    kept = nothing_kept start now (job_with work missed parts) pages marks held saved written;
+    kept = nothing_kept start now (job_with work missed parts) pages marks held saved heard written;
   };
 }
 
@@ -89,11 +94,38 @@ is_wanted file wanted id table kind table_is kind_is =
     ap (λ (t : TableDef). record { file = file; table = t; kind = kind; id = id }) table_is
     ∙ ap (λ (k : RecordKind). record { file = file; table = wanted.table; kind = k; id = id }) kind_is
 
+-- what the report got is what is said of it
+first_says : (heeds unheard : Bool) (table : TableDef) (old new : Written) (before now : ℕ)
+    → (unheard ≡ true → Rose before now) → (outcomes : List Outcome)
+    → HasGot unheard old.losses new.losses (losses_of table outcomes)
+    → (told_of heeds table old new before now).first outcomes
+first_says true unheard table old new before now rose outcomes got =
+    got_part unheard old.losses new.losses (losses_of table outcomes) (numbers_line (numbers_of outcomes)) got
+first_says false true table old new before now rose outcomes got = inr (got, rose refl)
+first_says false false table old new before now rose outcomes got = inl got
+
+all_says : (heeds unheard : Bool) (table : TableDef) (old new : Written) (before now : ℕ)
+    → (unheard ≡ true → Rose before now) → (heeds ≡ true → unheard ≡ false) → (outcomes : List Outcome)
+    → HasGot unheard old.losses new.losses (report_of table outcomes)
+    → (told_of heeds table old new before now).all outcomes
+all_says true true table old new before now rose heard outcomes got = absurd (false≢true (sym (heard refl)))
+all_says true false table old new before now rose heard outcomes got = got
+all_says false true table old new before now rose heard outcomes got = inr (got, rose refl)
+all_says false false table old new before now rose heard outcomes got = inl got
+
+ended_says : (heeds : Bool) (table : TableDef) (old new : Written) (before now : ℕ) → heeds ≡ true
+    → (outcomes : List Outcome) → GrowsByPart old.losses new.losses (report_of table outcomes)
+    → (told_of heeds table old new before now).ended outcomes
+ended_says true table old new before now heeds outcomes part = part
+ended_says false table old new before now heeds outcomes part = absurd (false≢true heeds)
+
 -- of some first pages a prefix was written
-pub has_begun : {file : List ℕ} {wanted : Wanted} {id : ℕ} {work : Work} {start : Start} {now : Progress}
+begun : {file : List ℕ} {wanted : Wanted} {id : ℕ} {work : Work} {start : Start} {now : Progress}
+    (Report : List Outcome → Type 0) → ((outcomes : List Outcome)
+    → HasGot now.unheard start.written.losses now.written.losses (losses_of wanted.table outcomes) → Report outcomes)
     → work ≡ wanted_work file wanted id → IsId file wanted.table wanted.given id → Broke work start now
-    → HasBegun file wanted start.faults now.faults start.written now.written
-has_begun {file = file} {wanted = wanted} {id = id} {start = start} {now = now} is found off =
+    → HasBegun file wanted start.faults now.faults start.written.sink now.written.sink Report
+begun {file = file} {wanted = wanted} {id = id} {start = start} {now = now} Report says is found off =
     let b : Broke (wanted_work file wanted id) start now = subst (λ (w : Work). Broke w start now) is off in
     record {
       id = id;
@@ -103,22 +135,79 @@ has_begun {file = file} {wanted = wanted} {id = id} {start = start} {now = now} 
       outcomes = b.outcomes;
       are_first = b.are_first;
       text = b.text;
-      report = b.report;
+      report = says b.outcomes b.report;
     }
 
--- a page broke it off
-pub page_stops : {file : List ℕ} {id : ℕ} {work : Work} (wanted : Wanted) (start : Start) (now : Progress)
-    (Next : Type 0) (stop : SalvageStop) → work ≡ wanted_work file wanted id → IsId file wanted.table wanted.given id
-    → GoesOn {A = Unit {0}} (Err stop) Next (Broke work start now)
-    → Salvages file wanted start.faults now.faults (Err stop) start.written now.written
-page_stops wanted start now Next Root is found goes = absurd goes
-page_stops wanted start now Next Source is found goes = inr (has_begun is found goes)
-page_stops wanted start now Next Sink is found goes = has_begun is found goes
-page_stops wanted start now Next Losses is found goes = has_begun is found goes
-page_stops wanted start now Next Memory is found goes = absurd goes
-page_stops wanted start now Next (Changed fault) is found goes = absurd goes
+-- an object that failed ended it
+pub has_begun : {file : List ℕ} {wanted : Wanted} {id : ℕ} {work : Work} {start : Start} {now : Progress}
+    (heeds : Bool) (before after : ℕ) → (now.unheard ≡ true → Rose before after)
+    → work ≡ wanted_work file wanted id → IsId file wanted.table wanted.given id → Broke work start now
+    → HasBegun file wanted start.faults now.faults start.written.sink now.written.sink
+    (told_of heeds wanted.table start.written now.written before after).first
+has_begun {wanted = wanted} {start = start} {now = now} heeds before after rose is found off =
+    begun {now = now} _ (first_says heeds now.unheard wanted.table start.written now.written before after rose) is found off
 
--- the same with other outputs
+-- the source did, in the line of a long row
+has_begun_long : {file : List ℕ} {wanted : Wanted} {id : ℕ} {work : Work} {start : Start} {now : Progress}
+    (heeds : Bool) (before after : ℕ) → (now.unheard ≡ true → Rose before after)
+    → work ≡ wanted_work file wanted id → IsId file wanted.table wanted.given id → BrokeInRow work start now
+    → HasBegunLongRow file wanted start.faults now.faults start.written.sink now.written.sink
+    (told_of heeds wanted.table start.written now.written before after).first
+has_begun_long {file = file} {wanted = wanted} {id = id} {start = start} {now = now} heeds before after rose is found off =
+    let b : BrokeInRow (wanted_work file wanted id) start now = subst (λ (w : Work). BrokeInRow w start now) is off in
+    record {
+      begun = record {
+        id = id;
+        is_id = found;
+        missed = b.broke.missed;
+        cause = b.broke.cause;
+        outcomes = b.broke.outcomes;
+        are_first = b.broke.are_first;
+        text = b.broke.text;
+        report = first_says heeds now.unheard wanted.table start.written now.written before after rose b.broke.outcomes
+            b.broke.report;
+      };
+      ends = b.ends;
+    }
+
+-- in a page
+pub page_stops : {file : List ℕ} {id : ℕ} {work : Work} (wanted : Wanted) (start : Start) (now : Progress)
+    (Next : Type 0) (heeds : Bool) (before after asked asked_now : ℕ) (stop : SalvageStop)
+    → (now.unheard ≡ true → Rose before after)
+    → work ≡ wanted_work file wanted id → IsId file wanted.table wanted.given id
+    → GoesOn {A = Unit {0}} (Err stop) Next (Broke work start now) (BrokeInRow work start now)
+    → SalvagesBy (told_of heeds wanted.table start.written now.written before after) file wanted
+    (record { faults = start.faults; fetches = asked }) (record { faults = now.faults; fetches = asked_now })
+    (Err stop) start.written now.written
+page_stops wanted start now Next heeds before after asked asked_now Root rose is found goes = absurd goes
+page_stops wanted start now Next heeds before after asked asked_now Source rose is found goes =
+    inr (has_begun_long heeds before after rose is found goes)
+page_stops wanted start now Next heeds before after asked asked_now Sink rose is found goes =
+    has_begun heeds before after rose is found goes
+page_stops wanted start now Next heeds before after asked asked_now Losses rose is found goes = absurd goes
+page_stops wanted start now Next heeds before after asked asked_now Memory rose is found goes = absurd goes
+page_stops wanted start now Next heeds before after asked asked_now (Changed fault) rose is found goes = absurd goes
+
+-- the report did, after a page
+pub report_stops : {file : List ℕ} {wanted : Wanted} {id n : ℕ} {work : Work} {start : Start} {now : Progress}
+    (heeds : Bool) (before after : ℕ) → heeds ≡ true → work ≡ wanted_work file wanted id
+    → IsId file wanted.table wanted.given id → PagesDone n work start now
+    → HasBegun file wanted start.faults now.faults start.written.sink now.written.sink
+    (told_of heeds wanted.table start.written now.written before after).ended
+report_stops {wanted = wanted} {work = work} {start = start} {now = now} heeds before after heeded is found met =
+    begun {now = now} _ (λ outcomes got. ended_says heeds wanted.table start.written now.written before after heeded outcomes
+    (got_part now.unheard start.written.losses now.written.losses (losses_of wanted.table outcomes)
+    (numbers_line (numbers_of outcomes)) got)) is found
+    (broke (met_on (omega arith) refl (λ pages parts at. record {
+      outcomes = at.outcomes;
+      first = at.pages.first;
+      text = subst (λ (t : List ℕ). GrowsByPart start.written.sink now.written.sink t)
+          (append-nil (text_of work.table at.outcomes))
+          (sent_part start.written.sink now.written.sink (text_of work.table at.outcomes) now.held [] at.kept.text);
+      report = at.kept.report;
+    }) met))
+
+-- the same with other outputs, and a report that may have failed
 abbrev pub with_written : Progress → Written → Progress
 with_written now written = record {
   known = now.known;
@@ -126,6 +215,7 @@ with_written now written = record {
   saved = now.saved;
   held = now.held;
   written = written;
+  unheard = now.unheard;
   faults = now.faults;
 }
 
@@ -140,38 +230,61 @@ flush_breaks {work = work} {start = start} {now = now} new cut same met =
       text = sent_cut start.written.sink now.written.sink new.sink
           (text_of work.table at.outcomes) now.held at.kept.text
           cut;
-      report = rw same (grown_part start.written.losses now.written.losses (losses_of work.table at.outcomes)
-          (numbers_line (numbers_of at.outcomes)) at.kept.report);
+      report = rw same at.kept.report;
     }) met)
 
--- the line of numbers wasn't put, or in part
-pub numbers_break : {work : Work} {start : Start} {n : ℕ} {now : Progress} (new : Written)
+-- the numbers were reported
+reported : {start : Start} {n : ℕ} {now : Progress} {job : Job} (new : Written) (unheard : Bool)
+    → GetsNext now.unheard unheard now.written.losses new.losses (numbers_line now.saved)
+    → (at : AtPage start n now job)
+    → HasGot unheard start.written.losses new.losses (report_of job.table at.outcomes)
+reported {start = start} {now = now} {job = job} new unheard next at =
+    let line : GetsNext now.unheard unheard now.written.losses new.losses (numbers_line (numbers_of at.outcomes)) =
+    subst (λ (s : Saved). GetsNext now.unheard unheard now.written.losses new.losses (numbers_line s))
+    at.kept.numbers next in
+    got_on now.unheard unheard start.written.losses now.written.losses new.losses (losses_of job.table at.outcomes)
+    (numbers_line (numbers_of at.outcomes)) at.kept.report line
+
+-- the report failed there
+pub numbers_stop : {file : List ℕ} {wanted : Wanted} {id n : ℕ} {work : Work} {start : Start} {now : Progress}
+    (new : Written) (heeds unheard : Bool) (before after : ℕ) → PagesDone n work start now → heeds ≡ true
+    → work ≡ wanted_work file wanted id → IsId file wanted.table wanted.given id
     → GrowsBy now.written.sink new.sink now.held
-    → GrowsByPart now.written.losses new.losses (numbers_line now.saved) → PagesDone n work start now
-    → Broke work start (with_written now new)
-numbers_break {work = work} {start = start} {now = now} new sent cut met =
-    broke (met_on (omega arith) refl (λ pages parts at. record {
+    → GetsNext now.unheard unheard now.written.losses new.losses (numbers_line now.saved)
+    → HasBegun file wanted start.faults now.faults start.written.sink new.sink
+    (told_of heeds wanted.table start.written new before after).ended
+numbers_stop {file = file} {wanted = wanted} {id = id} {n = n} {start = start} {now = now} new heeds unheard before
+    after made heeded is found sent next =
+    let met : PagesDone n (wanted_work file wanted id) start now =
+    subst (λ (w : Work). PagesDone n w start now) is made in
+    let at = met_now met in
+    record {
+      id = id;
+      is_id = found;
+      missed = met.missed;
+      cause = met.cause;
       outcomes = at.outcomes;
-      first = at.pages.first;
-      text = grows_whole start.written.sink new.sink (text_of work.table at.outcomes)
-          (all_sent start.written.sink now.written.sink new.sink (text_of work.table at.outcomes) now.held at.kept.text
-          sent);
-      report =
-          let line : GrowsByPart now.written.losses new.losses (numbers_line (numbers_of at.outcomes)) =
-          subst (λ (s : Saved). GrowsByPart now.written.losses new.losses (numbers_line s)) at.kept.numbers cut in
-          subst (λ (t : List ℕ). GrowsByPart start.written.losses new.losses (losses_of work.table at.outcomes ++ t))
-          (append-nil (numbers_line (numbers_of at.outcomes)))
-          (grows_part start.written.losses now.written.losses new.losses (losses_of work.table at.outcomes)
-          (numbers_line (numbers_of at.outcomes)) [] at.kept.report line);
-    }) met)
+      are_first = at.pages.first;
+      text = grows_whole start.written.sink new.sink (text_of wanted.table at.outcomes)
+          (all_sent start.written.sink now.written.sink new.sink (text_of wanted.table at.outcomes) now.held
+          at.kept.text sent);
+      report = ended_says heeds wanted.table start.written new before after heeded at.outcomes
+          (subst (λ (t : List ℕ). GrowsByPart start.written.losses new.losses t)
+          (append-nil (report_of wanted.table at.outcomes))
+          (got_part unheard start.written.losses new.losses (report_of wanted.table at.outcomes) []
+          (reported new unheard next at)));
+    }
 
 -- all was written
 pub all_saved : {file : List ℕ} {wanted : Wanted} {id n : ℕ} {work : Work} {start : Start} {now : Progress}
-    (new : Written) → work ≡ wanted_work file wanted id → IsId file wanted.table wanted.given id → n ≡ reach_of file
-    → GrowsBy now.written.sink new.sink now.held → GrowsBy now.written.losses new.losses (numbers_line now.saved)
-    → PagesDone n work start now → HasSaved file wanted start.faults now.faults now.saved start.written new
-all_saved {file = file} {wanted = wanted} {id = id} {n = n} {start = start}
-    {now = now} new is found all sent report made =
+    (new : Written) (heeds unheard : Bool) (before after : ℕ) → PagesDone n work start now
+    → (unheard ≡ true → Rose before after) → (heeds ≡ true → unheard ≡ false) → work ≡ wanted_work file wanted id
+    → IsId file wanted.table wanted.given id → n ≡ reach_of file → GrowsBy now.written.sink new.sink now.held
+    → GetsNext now.unheard unheard now.written.losses new.losses (numbers_line now.saved)
+    → HasSaved file wanted start.faults now.faults now.saved start.written.sink new.sink
+    (told_of heeds wanted.table start.written new before after).all
+all_saved {file = file} {wanted = wanted} {id = id} {n = n} {start = start} {now = now} new heeds unheard before after
+    made rose heard is found all sent next =
     let met : PagesDone n (wanted_work file wanted id) start now =
     subst (λ (w : Work). PagesDone n w start now) is made in
     let at = met_now met in
@@ -189,11 +302,8 @@ all_saved {file = file} {wanted = wanted} {id = id} {n = n} {start = start}
       numbers = at.kept.numbers;
       text = all_sent start.written.sink now.written.sink new.sink (text_of wanted.table at.outcomes) now.held
           at.kept.text sent;
-      report =
-          let line : GrowsBy now.written.losses new.losses (numbers_line (numbers_of at.outcomes)) =
-          subst (λ (s : Saved). GrowsBy now.written.losses new.losses (numbers_line s)) at.kept.numbers report in
-          grows_on start.written.losses now.written.losses new.losses (losses_of wanted.table at.outcomes)
-          (numbers_line (numbers_of at.outcomes)) at.kept.report line;
+      report = all_says heeds unheard wanted.table start.written new before after rose heard at.outcomes
+          (reported new unheard next at);
     }
 
 -- two answers that are one
@@ -204,22 +314,29 @@ pub same_err : (A B : Type 0) (a b : SalvageStop) → SameErr A a b → SameErr 
 same_err A B a b is = cc
 
 -- no id was found
-pub id_stops : (o : Option (List ℕ)) (wanted : Wanted) (before now : ℕ) (old : Written) (stop : SalvageStop)
+pub id_stops : (o : Option (List ℕ)) (heeds : Bool) (wanted : Wanted) (before now : Counts) (heard heard_now : ℕ)
+    (old new : Written) (stop : SalvageStop) → new ≡ old
     → (SameErr ℕ stop Root → IfSome o (λ file. HasNoId file wanted.table wanted.given))
+    → (SameErr ℕ stop Source → now.fetches ≤ before.fetches + id_fetches wanted.given)
     → (SameErr ℕ stop Sink → ⊥) → (SameErr ℕ stop Losses → ⊥)
     → ((fault : Fault) → SameErr ℕ stop (Changed fault) → ⊥)
-    → IfSome o (λ file. Salvages file wanted before now (Err stop) old old)
-id_stops o wanted before now old Root root sink losses changed = told1 o (λ file none. (none, refl)) (root refl)
-id_stops o wanted before now old Source root sink losses changed = told0 o (λ file. inl refl)
-id_stops o wanted before now old Sink root sink losses changed = absurd (sink refl)
-id_stops o wanted before now old Losses root sink losses changed = absurd (losses refl)
-id_stops o wanted before now old Memory root sink losses changed = told0 o (λ file. refl)
-id_stops o wanted before now old (Changed fault) root sink losses changed = absurd (changed fault refl)
+    → IfSome o (λ file. SalvagesBy (told_of heeds wanted.table old new heard heard_now) file wanted before now
+    (Err stop) old new)
+id_stops o heeds wanted before now heard heard_now old new Root same root asked sink losses changed =
+    told1 o (λ file none. (none, same)) (root refl)
+id_stops o heeds wanted before now heard heard_now old new Source same root asked sink losses changed =
+    told0 o (λ file. inl (record { asked = asked refl; same = same }))
+id_stops o heeds wanted before now heard heard_now old new Sink same root asked sink losses changed = absurd (sink refl)
+id_stops o heeds wanted before now heard heard_now old new Losses same root asked sink losses changed = absurd (losses refl)
+id_stops o heeds wanted before now heard heard_now old new Memory same root asked sink losses changed =
+    told0 o (λ file. same)
+id_stops o heeds wanted before now heard heard_now old new (Changed fault) same root asked sink losses changed =
+    absurd (changed fault refl)
 
 module _ {S O E : Type 0} (g : FileOf S) (o : SinkOf O) (e : SinkOf E) where
   -- what a page that broke it off leaves
-  pub over_stops : {old new : S × O × E} {steps steps_now : ℕ} (stop : SalvageStop)
-      → PartOver {A = Unit {0}} g o e old new steps steps_now (Err stop)
+  pub over_stops : {old new : S × O × E} {unheard unheard_now : Bool} {steps steps_now : ℕ} (stop : SalvageStop)
+      → PartOver {A = Unit {0}} g o e old new unheard unheard_now steps steps_now (Err stop)
       → SalvagesOver g o e old.0 new.0 old.1 new.1 old.2 new.2 steps steps_now (Err stop)
   over_stops stop over = record {
     same = over.same;
@@ -228,7 +345,7 @@ module _ {S O E : Type 0} (g : FileOf S) (o : SinkOf O) (e : SinkOf E) where
     losses_later = over.losses_later;
     source_rose = λ is. over.source_rose (same_err Saved (Unit {0}) stop Source is);
     sink_rose = λ is. over.sink_rose (same_err Saved (Unit {0}) stop Sink is);
-    losses_rose = λ is. over.losses_rose (same_err Saved (Unit {0}) stop Losses is);
+    losses_rose = λ is. absurd (over.losses (same_err Saved (Unit {0}) stop Losses is));
     rootless = λ is. absurd (over.root (same_err Saved (Unit {0}) stop Root is));
     unwritten = λ is. absurd (over.memory (same_err Saved (Unit {0}) stop Memory is));
     changed = λ fault is. over.changed fault (same_err Saved (Unit {0}) stop (Changed fault) is);
@@ -236,8 +353,9 @@ module _ {S O E : Type 0} (g : FileOf S) (o : SinkOf O) (e : SinkOf E) where
   }
 
   -- what was held back wasn't put
-  pub over_unsent : {old : S × O × E} {source : S} {sink : O} {losses : E} {steps steps_now : ℕ} (sink_now : O)
-      → PartOver g o e old (source, sink, losses) steps steps_now done → o.faults sink ≤ o.faults sink_now
+  pub over_unsent : {old : S × O × E} {source : S} {sink : O} {losses : E} {unheard unheard_now : Bool}
+      {steps steps_now : ℕ} (sink_now : O)
+      → PartOver g o e old (source, sink, losses) unheard unheard_now steps steps_now done → o.faults sink ≤ o.faults sink_now
       → Rose (o.faults sink) (o.faults sink_now)
       → SalvagesOver g o e old.0 source old.1 sink_now old.2 losses steps steps_now (Err Sink)
   over_unsent sink_now over later rose = record {
@@ -254,11 +372,12 @@ module _ {S O E : Type 0} (g : FileOf S) (o : SinkOf O) (e : SinkOf E) where
     asked = over.asked;
   }
 
-  -- the line of numbers wasn't
-  pub over_unreported : {old : S × O × E} {source : S} {sink : O} {losses : E} {steps steps_now : ℕ} (sink_now : O)
-      (losses_now : E) → PartOver g o e old (source, sink, losses) steps steps_now done
+  -- the report failed
+  pub over_unreported : {old : S × O × E} {source : S} {sink : O} {losses : E} {unheard unheard_now : Bool}
+      {steps steps_now : ℕ} (sink_now : O) (losses_now : E)
+      → PartOver g o e old (source, sink, losses) unheard unheard_now steps steps_now done
       → o.faults sink ≤ o.faults sink_now → e.faults losses ≤ e.faults losses_now
-      → Rose (e.faults losses) (e.faults losses_now)
+      → Rose (e.faults old.2) (e.faults losses_now)
       → SalvagesOver g o e old.0 source old.1 sink_now old.2 losses_now steps steps_now (Err Losses)
   over_unreported sink_now losses_now over later reported rose = record {
     same = over.same;
@@ -267,7 +386,7 @@ module _ {S O E : Type 0} (g : FileOf S) (o : SinkOf O) (e : SinkOf E) where
     losses_later = omega (arith, over.losses_later, reported);
     source_rose = λ is. cc;
     sink_rose = λ is. cc;
-    losses_rose = λ is. omega (arith, rose, over.losses_later);
+    losses_rose = λ is. rose;
     rootless = λ is. cc;
     unwritten = λ is. cc;
     changed = λ fault is. cc;
@@ -275,8 +394,9 @@ module _ {S O E : Type 0} (g : FileOf S) (o : SinkOf O) (e : SinkOf E) where
   }
 
   -- all was
-  pub over_saved : {old : S × O × E} {source : S} {sink : O} {losses : E} {steps steps_now : ℕ} (sink_now : O)
-      (losses_now : E) (saved : Saved) → PartOver g o e old (source, sink, losses) steps steps_now done
+  pub over_saved : {old : S × O × E} {source : S} {sink : O} {losses : E} {unheard unheard_now : Bool}
+      {steps steps_now : ℕ} (sink_now : O) (losses_now : E) (saved : Saved)
+      → PartOver g o e old (source, sink, losses) unheard unheard_now steps steps_now done
       → o.faults sink ≤ o.faults sink_now → e.faults losses ≤ e.faults losses_now
       → SalvagesOver g o e old.0 source old.1 sink_now old.2 losses_now steps steps_now (Ok saved)
   over_saved sink_now losses_now saved over later reported = record {
@@ -292,3 +412,16 @@ module _ {S O E : Type 0} (g : FileOf S) (o : SinkOf O) (e : SinkOf E) where
     changed = λ fault is. cc;
     asked = over.asked;
   }
+
+  -- the report fails only if its count of faults rose
+  pub failed_since : {old : S × O × E} {source : S} {sink : O} {losses : E} {unheard unheard_now : Bool}
+      {steps steps_now : ℕ} (losses_now : E)
+      → PartOver g o e old (source, sink, losses) false unheard steps steps_now done
+      → e.faults losses ≤ e.faults losses_now
+      → FailsRising unheard unheard_now (e.faults losses) (e.faults losses_now) → unheard_now ≡ true
+      → Rose (e.faults old.2) (e.faults losses_now)
+  failed_since {unheard = unheard} losses_now over later rises failed =
+      elim (cases_Bool unheard) [
+        | inl already ↦ let rose = over.losses_rose refl already in omega (arith, rose, later)
+        | inr not_yet ↦ let rose = rises not_yet failed in omega (arith, rose, over.losses_later)
+      ]

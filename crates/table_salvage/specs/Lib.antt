@@ -1,3 +1,4 @@
 pub mod Ready
+pub mod Heard
 pub mod Work
 pub mod Over

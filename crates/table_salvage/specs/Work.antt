@@ -8,7 +8,7 @@ use Rattle.page_source.specs.declared.objects.PageSource.{Ghosts as FileOf}
 use Rattle.page_source.specs.declared.objects.ByteSink.{Ghosts as SinkOf}
 use Rattle.page_source.specs.Pages.{page_of}
 use Rattle.page_source.specs.Calls.{OfFile}
-use Rattle.page_source.specs.Objects.{GrowsBy, GrowsByPart}
+use Rattle.page_source.specs.Objects.{GrowsByPart}
 use Rattle.space_audit.specs.Marks.{is_in, is_set}
 use Rattle.schema_text.specs.TableDef.{TableDef}
 use Rattle.sql_dump.specs.Buffer.{IsSent}
@@ -22,8 +22,10 @@ use Rattle.salvage_model.specs.Records.{first_place, is_place_of}
 use Rattle.salvage_model.specs.Outcome.{Job, SavedRow, Outcome, Unused, Leaf, Is, looked_of_pages, IsFull}
 use Rattle.salvage_model.specs.Outcome.{AreSavedRows}
 use Rattle.salvage_model.specs.Saved.{AreFirst, text_of, numbers_of}
-use Rattle.salvage_model.specs.Report.{losses_of, report_of}
+use Rattle.salvage_model.specs.LongRow.{EndsInLongRow}
+use Rattle.salvage_model.specs.Report.{losses_of}
 use Rattle.salvage_model.specs.Salvage.{Missed, Written, HaveCause}
+use Rattle.table_salvage.specs.Heard.{HasGot}
 use Rattle.table_salvage.specs.declared.search.Search.{Search}
 use Rattle.table_salvage.specs.declared.room.Room.{Room}
 
@@ -56,13 +58,14 @@ pub record Start : Type 0 where
 
 -- how far it has come: what the descriptor pages tell, the pages that were looked at as parts of values, the
 -- numbers, what
--- the buffer holds back, both outputs, and the faults of the source
+-- the buffer holds back, both outputs, whether the report failed, and the faults of the source
 pub record Progress : Type 0 where
   pub known : Known
   pub marks : List Bool
   pub saved : Saved
   pub held : List ℕ
   pub written : Written
+  pub unheard : Bool
   pub faults : ℕ
 
 -- these may be the pages that a job misses, as far as the pages below n and the marked ones go
@@ -81,12 +84,12 @@ pub record Met (work : Work) (start : Start) (n : ℕ) (now : Progress) (Fact : 
   pub holds : (pages parts : ℕ → Bool) → MayBe missed n now.marks (job_with work pages parts)
       → Fact (job_with work pages parts)
 
--- of these outcomes the text and what they lost is written, or held back
+-- of these outcomes the text is written, or held back, and what they lost was reported, as far as the report took it
 pub record Kept (start : Start) (now : Progress) (job : Job) (outcomes : List Outcome) : Type 0 where
   pub marked : (k : ℕ) → is_set now.marks k ≡ is_in (looked_of_pages outcomes) k
   pub numbers : now.saved ≡ numbers_of outcomes
   pub text : IsSent start.written.sink now.written.sink (text_of job.table outcomes) now.held
-  pub report : GrowsBy start.written.losses now.written.losses (losses_of job.table outcomes)
+  pub report : HasGot now.unheard start.written.losses now.written.losses (losses_of job.table outcomes)
 
 -- the outcomes of n pages
 pub record ArePages (job : Job) (n : ℕ) (outcomes : List Outcome) : Type 0 where
@@ -127,24 +130,29 @@ PagesDone n work start now = Met work start n now (AtPage start n now)
 abbrev pub RowsDone : ℕ → ℕ → Stage
 RowsDone n place work start now = Met work start (n + 1) now (AtRow start n place now)
 
--- of what some first pages give a prefix was written
+-- of what some first pages give a prefix was written, and what they lost was reported
 pub record Broke (work : Work) (start : Start) (now : Progress) : Type 0 where
   pub missed : Missed
   pub cause : HaveCause start.faults now.faults missed
   pub outcomes : List Outcome
   pub are_first : AreFirst (job_missing work missed) outcomes
   pub text : GrowsByPart start.written.sink now.written.sink (text_of work.table outcomes)
-  pub report : GrowsByPart start.written.losses now.written.losses (report_of work.table outcomes)
+  pub report : HasGot now.unheard start.written.losses now.written.losses (losses_of work.table outcomes)
 
--- a part of the work went on, or an object that failed broke it off
-abbrev pub GoesOn : {A : Type 0} → Result A SalvageStop → Type 0 → Type 0 → Type 0
-GoesOn (Ok a) Next Off = Next
-GoesOn (Err Root) Next Off = ⊥
-GoesOn (Err Source) Next Off = Off
-GoesOn (Err Sink) Next Off = Off
-GoesOn (Err Losses) Next Off = Off
-GoesOn (Err Memory) Next Off = ⊥
-GoesOn (Err (Changed fault)) Next Off = ⊥
+-- the same up to a row for whose line other pages are read a second time
+pub record BrokeInRow (work : Work) (start : Start) (now : Progress) : Type 0 where
+  pub broke : Broke work start now
+  pub ends : EndsInLongRow (job_missing work broke.missed) broke.outcomes
+
+-- a part of the work went on, or an object that failed broke it off: the source in the line of a long row
+abbrev pub GoesOn : {A : Type 0} → Result A SalvageStop → Type 0 → Type 0 → Type 0 → Type 0
+GoesOn (Ok a) Next Off InRow = Next
+GoesOn (Err Root) Next Off InRow = ⊥
+GoesOn (Err Source) Next Off InRow = InRow
+GoesOn (Err Sink) Next Off InRow = Off
+GoesOn (Err Losses) Next Off InRow = ⊥
+GoesOn (Err Memory) Next Off InRow = ⊥
+GoesOn (Err (Changed fault)) Next Off InRow = ⊥
 
 -- the salvage of a file that a search is
 abbrev pub work_of : List ℕ → Search → Work
@@ -159,6 +167,7 @@ progress_of g o e objects room = record {
   saved = room.saved;
   held = room.buffer.bytes;
   written = record { sink = o.written objects.1; losses = e.written objects.2 };
+  unheard = room.unheard;
   faults = g.faults objects.0;
 }
 
@@ -168,4 +177,5 @@ pub record Goes {S O E A : Type 0} (g : FileOf S) (o : SinkOf O) (e : SinkOf E) 
   pub told : OfFile g old.0 (λ file. (start : Start)
       → From (work_of file search) start (progress_of g o e old room)
       → GoesOn result (To (work_of file search) start (progress_of g o e new room_now))
-      (Broke (work_of file search) start (progress_of g o e new room_now)))
+      (Broke (work_of file search) start (progress_of g o e new room_now))
+      (BrokeInRow (work_of file search) start (progress_of g o e new room_now)))

@@ -6,6 +6,7 @@ ghost use Rattle.page_source.specs.Faults.{Rose};
 ghost use Rattle.page_source.specs.declared.rule.Fault.{Fault};
 ghost use Rattle.leaf_salvage.specs.Standing.{reach_of};
 ghost use Rattle.salvage_model.specs.IndexId.{IsId, HasNoId};
+ghost use Rattle.salvage_model.specs.Salvage.{id_fetches};
 
 use leaf_salvage::index_id;
 use page_source::{Page, PageSource, Steps};
@@ -28,6 +29,7 @@ pub(crate) fn clustered_id<S: PageSource, L: Ledger>(
     ensures rootless { result ≡ Err SalvageStop.Root
         → OfFile S.PageSource source.old (λ file. HasNoId file schema.now given) }
     ensures source { result ≡ Err SalvageStop.Source → Rose (S.faults source.old) (S.faults source.new) }
+    ensures found_by { result ≡ Err SalvageStop.Source → S.fetches source.new ≤ S.fetches source.old + id_fetches given }
     ensures unwritten { (result ≢ Err SalvageStop.Sink) × (result ≢ Err SalvageStop.Losses)
         × (result ≢ Err SalvageStop.Memory) }
     ensures unchanged { (fault : Fault) → result ≢ Err (SalvageStop.Changed fault) }

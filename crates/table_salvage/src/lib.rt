@@ -10,4 +10,4 @@ mod room;
 mod rows;
 mod search;
 
-pub use file::salvage;
+pub use file::{salvage, salvage_regardless};

@@ -5,12 +5,12 @@ ghost use Rattle.table_salvage.specs.Ready.{IsReady, AreFew, most_rows};
 ghost use Rattle.table_salvage.specs.Work.{PagesDone, Goes};
 ghost use Rattle.table_salvage.specs.Over.{PartOver, IsPaid};
 
+use crate::report::{report_broken, report_unread};
 use crate::room::Room;
 use crate::rows::save_rows;
 use crate::search::Search;
 use leaf_salvage::{Verdict, leaf_verdict};
 use page_source::{ByteSink, PageSource, Steps};
-use row_salvage::{put_broken, put_unread};
 use salvage_model::SalvageStop;
 use std::sync::ledger::Ledger;
 
@@ -34,7 +34,7 @@ pub(crate) fn save_page<S: PageSource, O: ByteSink, E: ByteSink, L: Ledger>(
     ensures few { AreFew (n + 1) (most_rows (n + 1)) room.new.saved }
     ensures paid { IsPaid 1 room.old.marks room.new.marks steps.old steps.new }
     ensures over { PartOver S.PageSource O.ByteSink E.ByteSink (source.old, sink.old, losses.old)
-        (source.new, sink.new, losses.new) steps.old steps.new result }
+        (source.new, sink.new, losses.new) room.old.unheard room.new.unheard steps.old steps.new result }
 {
     if room.descriptors.is_unused(n) {
         return Ok(());
@@ -42,9 +42,7 @@ pub(crate) fn save_page<S: PageSource, O: ByteSink, E: ByteSink, L: Ledger>(
     if source.fetch(n, &mut room.page, steps).is_err() {
         room.descriptors.miss(n);
         room.saved.lost += 1;
-        if put_unread(losses, n).is_err() {
-            return Err(SalvageStop::Losses);
-        }
+        report_unread(losses, &mut room.unheard, n);
         return Ok(());
     }
     room.descriptors.learn(n, &room.page);
@@ -52,9 +50,7 @@ pub(crate) fn save_page<S: PageSource, O: ByteSink, E: ByteSink, L: Ledger>(
         Verdict::Other => Ok(()),
         Verdict::Lost(rule) => {
             room.saved.lost += 1;
-            if put_broken(losses, n, rule).is_err() {
-                return Err(SalvageStop::Losses);
-            }
+            report_broken(losses, &mut room.unheard, n, rule);
             Ok(())
         }
         Verdict::Leaf => {

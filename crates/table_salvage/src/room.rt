@@ -17,7 +17,7 @@ use std::alloc::Global;
 const MOST_FIELDS: u32 = 128;
 
 /// What a salvage works in: three pages, a mark for each page of the file, the room of one record, the buffers of the
-/// output, and the numbers so far.
+/// output, the numbers so far, and whether the report failed.
 #[derive(Drop)]
 pub(crate) struct Room<'a> {
     pub scratch: Scratch,
@@ -31,6 +31,8 @@ pub(crate) struct Room<'a> {
     pub buffer: Buffer,
     pub losses: ColumnLosses,
     pub saved: Saved,
+    /// Whether the report failed.
+    pub unheard: bool,
 }
 
 impl<'a> Room<'a> {
@@ -45,6 +47,7 @@ impl<'a> Room<'a> {
         ensures losses { IfOk result (λ room. length room.losses ≡ length schema.now.columns) }
         ensures saved { IfOk result (λ room.
             room.saved ≡ record { rows = 0; partial = 0; leaves = 0; lost = 0 }) }
+        ensures heard { IfOk result (λ room. room.unheard ≡ false) }
     {
         Ok(Room {
             scratch: Scratch::new(alloc, MOST_FIELDS)?,
@@ -65,6 +68,7 @@ impl<'a> Room<'a> {
                 leaves: 0,
                 lost: 0,
             },
+            unheard: false,
         })
     }
 }

@@ -8,12 +8,13 @@ ghost use Rattle.table_salvage.specs.Work.{RowsDone, PagesDone, Goes};
 ghost use Rattle.table_salvage.specs.Over.{PartOver, IsPaid};
 
 use crate::records::{FoundRecord, RecordList, is_of};
+use crate::report::report_row;
 use crate::room::Room;
 use crate::search::Search;
 use compact_record::next_origin;
 use leaf_salvage::laws::whole_leaves_can_be_read;
 use page_source::{ByteSink, PageSource, Steps};
-use row_salvage::{check_columns, put_row_losses, put_saved_row};
+use row_salvage::{check_columns, put_saved_row};
 use salvage_model::SalvageStop;
 use std::sync::ledger::Ledger;
 
@@ -40,7 +41,7 @@ fn save_row<S: PageSource, O: ByteSink, E: ByteSink, L: Ledger>(
     ensures few { AreFew (found.page + 1) (most_rows found.page + found.place + 1) room.new.saved }
     ensures paid { IsPaid 0 room.old.marks room.new.marks steps.old steps.new }
     ensures over { PartOver S.PageSource O.ByteSink E.ByteSink (source.old, sink.old, losses.old)
-        (source.new, sink.new, losses.new) steps.old steps.new result }
+        (source.new, sink.new, losses.new) room.old.unheard room.new.unheard steps.old steps.new result }
 {
     room.reader.read(&room.page, found.page, found.origin)?;
     let row = room.reader.row(&room.page, found.page);
@@ -54,9 +55,14 @@ fn save_row<S: PageSource, O: ByteSink, E: ByteSink, L: Ledger>(
         steps,
     );
     let number = found.place + 1;
-    if put_row_losses(losses, search.schema, found.page, number, &room.losses).is_err() {
-        return Err(SalvageStop::Losses);
-    }
+    report_row(
+        losses,
+        &mut room.unheard,
+        search.schema,
+        found.page,
+        number,
+        &room.losses,
+    );
     put_saved_row(
         source,
         sink,
@@ -94,7 +100,7 @@ pub(crate) fn save_rows<S: PageSource, O: ByteSink, E: ByteSink, L: Ledger>(
     ensures few { AreFew (n + 1) (most_rows (n + 1)) room.new.saved }
     ensures paid { IsPaid 0 room.old.marks room.new.marks steps.old steps.new }
     ensures over { PartOver S.PageSource O.ByteSink E.ByteSink (source.old, sink.old, losses.old)
-        (source.new, sink.new, losses.new) steps.old steps.new result }
+        (source.new, sink.new, losses.new) room.old.unheard room.new.unheard steps.old steps.new result }
 {
     whole_leaves_can_be_read();
     let list = RecordList::of(&room.page, search.kind);

@@ -1,6 +1,5 @@
-use Rattle.std.proofs.Common.{sym, ◌∙◌}
+use Rattle.std.proofs.Common.{refl, sym, ◌∙◌}
 use Rattle.ibd_salvage.proofs.OneForm.{same_form}
-use Rattle.ibd_salvage.proofs.Serving.{serves_reported}
 use Rattle.ibd_salvage.proofs.run.run_salvage.Goals as goal
 use Rattle.ibd_salvage.proofs.run.run_salvage.Goals.{in-None, in-Some}
 
@@ -18,14 +17,12 @@ returns g c = record {
           | in-Some w ↦ absurd (none _ _ w.in-Some.ensures)
         ],
   );
+  between = c.match-form_of.err;
+  line = record { got = c.report.ensures.text; later = c.report.ensures.later };
   untouched = λ none.
       elim c.match-form_of.branch [
-        | in-None w ↦ record { file = w.file-is; schema = w.schema-is; out = w.out-is; uncounted = w.steps-is }
-        | in-Some w ↦ absurd (none _ _ w.in-Some.ensures)
-      ];
-  report = λ none.
-      elim c.match-form_of.branch [
-        | in-None w ↦ rw w.err-is at c.report.ensures.text
+        | in-None w ↦
+            rw (w.file-is, w.schema-is, w.out-is, w.err-is) (record { objects = refl; uncounted = w.steps-is })
         | in-Some w ↦ absurd (none _ _ w.in-Some.ensures)
       ];
   serves = λ form is.
@@ -33,7 +30,7 @@ returns g c = record {
         | in-None w ↦ absurd (w.in-None.ensures form.kind form.index is)
         | in-Some w ↦
             let same = same_form _ _ form w.in-Some.ensures is in
-            rw (w.status-is, w.file-is, w.schema-is, w.out-is, w.steps-is)
-            (serves_reported _ form _ _ _ _ _ _ _ _ _ (rw same at w.serve-status.ensures))
+            rw (w.status-is, w.file-is, w.schema-is, w.out-is, w.err-is, w.steps-is)
+            (rw same at w.serve-status.ensures)
       ];
 }

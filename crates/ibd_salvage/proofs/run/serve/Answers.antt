@@ -19,7 +19,7 @@ returns-in-Err g c =
     (serves_stopped
     (one_answer c.has_one_schema.ensures.texts c.texts_pass.ensures.pass c.texts_pass.ensures.one_answer)
     (record { file = g.F.PageSource; schema = g.Q.ByteSource; out = g.O.ByteSink; err = g.E.ByteSink }) c.args.form
-    c.args.file.now c.args.schema.now c.read_schema.new.source c.args.out.now c.args.err.now c.args.err.now
+    c.args.file.now c.args.schema.now c.read_schema.new.source c.args.out.now c.args.err.now
     c.args.steps.now c.in-Err.stop
     (record {
       reads = c.in-Err.ensures.exact;

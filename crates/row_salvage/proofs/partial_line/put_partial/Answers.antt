@@ -48,6 +48,7 @@ loop-c-init g c =
       asked = omega arith;
       sink_later = omega (arith, c.put.ensures.cause.later, c.in_ok-writer.ensures.puts.cause.later);
       cost = refl;
+      fewer = omega arith;
       came = ap (λ (w : Writer). w.came) c.in_ok-writer.ensures.fresh;
       used = told0 (g.S.PageSource.content c.args.source.now)
           (λ file. omega (arith, first_none file row c.args.losses.now));
@@ -101,6 +102,7 @@ loop-c-preserved-then-is_some g c =
       asked = i.asked;
       sink_later = omega (arith, i.sink_later, c.in_ok-default.ensures.puts.cause.later);
       cost = i.cost;
+      fewer = i.fewer;
       came = omega (arith, ap (λ (w : Writer). w.came) c.in_ok-default.ensures.counts, i.came);
       used = told1 (g.S.PageSource.content c.args.source.now)
           (λ file used. omega (
@@ -235,6 +237,7 @@ loop-c-preserved g c =
       asked = omega (arith, i.asked, c.in_ok-put_value.ensures.over.asked);
       sink_later = omega (arith, i.sink_later, c.in_ok-put_value.ensures.over.sink_later);
       cost = c.in_ok-put_value.ensures.cost ∙ i.cost;
+      fewer = omega (arith, i.fewer, c.in_ok-put_value.ensures.fewer);
       came = omega (arith, c.in_ok-put_value.ensures.came, i.came);
       used = told2 (g.S.PageSource.content c.args.source.now)
           (λ file used left. omega (

@@ -16,6 +16,7 @@ invariant-loop-c g l =
       asked : AsksNoMore g.S.PageSource l.fn.source l.source l.fn.steps l.steps;
       sink_later : g.O.ByteSink.faults l.fn.sink ≤ g.O.ByteSink.faults l.sink;
       cost : l.steps + l.room.left ≡ l.fn.steps + l.fn.room.left;
+      fewer : l.room.left ≤ l.fn.room.left;
       came : l.writer.came ≡ l.c;
       used : IfSome (content l.fn.source) (λ file.
           l.room.left + length (first_pages file l.fn.row.row l.fn.losses l.c) ≡ l.fn.room.left);

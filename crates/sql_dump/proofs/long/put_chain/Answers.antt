@@ -15,6 +15,7 @@ loop-length-init g c = record {
   asked = omega arith;
   sink_later = omega arith;
   cost = refl;
+  fewer = omega arith;
   came = refl;
   some = no_bytes c.args.kind.now (g.O.ByteSink.written c.args.sink.now) c.args.reference.now.length
       c.args.writer.now.lacks c.parts_are_the_value.ensures.none c.requires.lacks;
@@ -56,6 +57,7 @@ loop-length-preserved g c =
       asked = omega (arith, i.asked, c.in_ok-length.ensures.over.asked);
       sink_later = omega (arith, i.sink_later, c.in_ok-put_part.ensures.puts.cause.later);
       cost = c.in_ok-length.ensures.cost ∙ i.cost;
+      fewer = omega (arith, i.fewer, gives.3);
       came = ap (λ (w : Writer). w.came) counts ∙ i.came;
       some = more_bytes c.args.kind.now (g.O.ByteSink.written c.args.sink.now) (g.O.ByteSink.written
           c.loop-length.sink) (g.O.ByteSink.written c.put_part.new.sink) c.args.reference.now.length

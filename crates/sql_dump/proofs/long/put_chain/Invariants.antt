@@ -14,6 +14,7 @@ invariant-loop-length g l =
       asked : AsksNoMore g.S.PageSource l.fn.source l.source l.fn.steps l.steps;
       sink_later : g.O.ByteSink.faults l.fn.sink ≤ g.O.ByteSink.faults l.sink;
       cost : l.steps + l.room.left ≡ l.fn.steps + l.fn.room.left;
+      fewer : l.room.left ≤ l.fn.room.left;
       came : l.writer.came ≡ l.fn.writer.came;
       lacks : l.writer.lacks ≡ l.reader.lacks;
       some : SomeSoFar l.fn.kind (written l.fn.sink) (written l.sink) l.fn.reference.length l.writer.lacks;

@@ -67,6 +67,7 @@ loop-c-init g c =
       asked = omega arith;
       sink_later = c.in_ok-writer.ensures.puts.cause.later;
       cost = refl;
+      fewer = omega arith;
       came = ap (λ (w : Writer). w.came) c.in_ok-writer.ensures.fresh;
       some = row_begins row.table (g.O.ByteSink.written c.args.sink.now) (g.O.ByteSink.written c.begin.new.sink) grown;
       near = λ _. refl;
@@ -153,6 +154,7 @@ loop-c-preserved g c =
       asked = omega (arith, i.asked, c.in_ok-put_value.ensures.over.asked);
       sink_later = omega (arith, i.sink_later, c.in_ok-put_value.ensures.over.sink_later);
       cost = c.in_ok-put_value.ensures.cost ∙ i.cost;
+      fewer = omega (arith, i.fewer, c.in_ok-put_value.ensures.fewer);
       came = omega (arith, c.in_ok-put_value.ensures.came, i.came);
       some = row_goes_on row.table (g.O.ByteSink.written c.args.sink.now) (g.O.ByteSink.written c.loop-c.sink)
           (g.O.ByteSink.written c.put_value.new.sink) c.loop-c.c c.loop-c.writer.came cell.kind i.some within i.came

@@ -17,6 +17,7 @@ invariant-loop-c g l =
       asked : AsksNoMore g.S.PageSource l.fn.source l.source l.fn.steps l.steps;
       sink_later : g.O.ByteSink.faults l.fn.sink ≤ g.O.ByteSink.faults l.sink;
       cost : l.steps + l.room.left ≡ l.fn.steps + l.fn.room.left;
+      fewer : l.room.left ≤ l.fn.room.left;
       came : l.writer.came ≡ l.c;
       some : SomeValues l.fn.row.row.table (written l.fn.sink) (written l.sink) l.c;
       near : All IsNear l.fn.row.row.places → l.room.left ≡ l.fn.room.left;

@@ -2,8 +2,7 @@ use Rattle.std.proofs.Common.{◌∙◌, refl, sym, arith}
 use Rattle.std.proofs.lemmas.Bool.{false≢true}
 use Rattle.page_source.proofs.Told.{told1, told2, told3}
 use Rattle.table_salvage.proofs.RowSteps.{of_ok, of_err}
-use Rattle.table_salvage.proofs.PageSteps.{page_unused, page_unread, page_unread_cut, page_other, page_lost}
-use Rattle.table_salvage.proofs.PageSteps.{page_lost_cut}
+use Rattle.table_salvage.proofs.PageSteps.{page_unused, page_unread, page_other, page_lost}
 use Rattle.table_salvage.proofs.PageSteps.{leaf_begins, add_lost, add_leaf, IsUsed}
 use Rattle.table_salvage.proofs.page.save_page.Goals as goal
 
@@ -35,23 +34,9 @@ returns-in-Other-clause-goes g c =
             verdict = c.in-Other.ensures.exact;
             used = used;
             on = c.learn.ensures;
-          }) c.fetch.ensures.cause.later refl (record { marks = refl; held = refl; sink = refl }) refl met)
+          }) c.fetch.ensures.cause.later refl (record { marks = refl; held = refl; sink = refl })
+          (record { losses = refl; unheard = refl }) met)
           c.requires.ready.look.told (of_ok c.fetch.result (sym c.if-is_err.ensures.value) c.fetch.ensures.bytes);
-    }
-
-pub returns-then-is_err-2-clause-goes : goal.returns-then-is_err-2-clause-goes
-returns-then-is_err-2-clause-goes g c =
-    let used : IsUsed c.args.n c.args.room.now.descriptors =
-    λ f missed knows free.
-    false≢true (sym c.if-is_unused.false ∙ (c.is_unused.ensures.told f missed knows).1 free) in
-    record {
-      told = told1 (g.S.PageSource.content c.args.source.now)
-          (λ file pages. λ start met.
-          page_unread_cut used (omega (arith, pages, c.requires.below)) c.fetch.ensures.cause.later
-          (of_err c.fetch.result (sym c.if-is_err.ensures.value) c.fetch.ensures.cause.failed)
-          (record { marks = refl; held = refl; sink = refl })
-          (of_err c.put_unread.result (sym c.if-is_err-2.ensures.value) c.put_unread.ensures.failed) met)
-          c.requires.ready.look.told;
     }
 
 pub returns-then-is_err-clause-goes : goal.returns-then-is_err-clause-goes
@@ -65,34 +50,12 @@ returns-then-is_err-clause-goes g c =
           page_unread used c.miss.ensures (omega (arith, pages, c.requires.below)) c.fetch.ensures.cause.later
           (of_err c.fetch.result (sym c.if-is_err.ensures.value) c.fetch.ensures.cause.failed)
           (add_lost c.args.room.now.saved) (record { marks = refl; held = refl; sink = refl })
-          (of_ok c.put_unread.result (sym c.if-is_err-2.ensures.value) c.put_unread.ensures.ok) met)
+          c.report_unread.ensures.got met)
           c.requires.ready.look.told;
     }
 
-pub returns-then-is_err-3-clause-goes : goal.returns-then-is_err-3-clause-goes
-returns-then-is_err-3-clause-goes g c =
-    let used : IsUsed c.args.n c.args.room.now.descriptors =
-    λ f missed knows free.
-    false≢true (sym c.if-is_unused.false ∙ (c.is_unused.ensures.told f missed knows).1 free) in
-    record {
-      told = told2 (g.S.PageSource.content c.args.source.now)
-          (λ file pages bytes. λ start met.
-          page_lost_cut c.in-Lost.rule (record {
-            below = omega (arith, pages, c.requires.below);
-            page = c.fetch.new.page;
-            fields = c.args.search.now.fields;
-            page_is = bytes;
-            fields_are = c.requires.ready.fields;
-            verdict = c.in-Lost.ensures.exact;
-            used = used;
-            on = c.learn.ensures;
-          }) c.fetch.ensures.cause.later (record { marks = refl; held = refl; sink = refl })
-          (of_err c.put_broken.result (sym c.if-is_err-3.ensures.value) c.put_broken.ensures.failed) met)
-          c.requires.ready.look.told (of_ok c.fetch.result (sym c.if-is_err.ensures.value) c.fetch.ensures.bytes);
-    }
-
-pub returns-else-is_err-3-clause-goes : goal.returns-else-is_err-3-clause-goes
-returns-else-is_err-3-clause-goes g c =
+pub returns-in-Lost-clause-goes : goal.returns-in-Lost-clause-goes
+returns-in-Lost-clause-goes g c =
     let used : IsUsed c.args.n c.args.room.now.descriptors =
     λ f missed knows free.
     false≢true (sym c.if-is_unused.false ∙ (c.is_unused.ensures.told f missed knows).1 free) in
@@ -110,7 +73,7 @@ returns-else-is_err-3-clause-goes g c =
             on = c.learn.ensures;
           }) c.fetch.ensures.cause.later (add_lost c.args.room.now.saved)
           (record { marks = refl; held = refl; sink = refl })
-          (of_ok c.put_broken.result (sym c.if-is_err-3.ensures.value) c.put_broken.ensures.ok) met)
+          c.report_broken.ensures.got met)
           c.requires.ready.look.told (of_ok c.fetch.result (sym c.if-is_err.ensures.value) c.fetch.ensures.bytes);
     }
 
@@ -135,6 +98,6 @@ returns-in-Leaf-clause-goes g c =
             on = c.learn.ensures;
           }) c.fetch.ensures.cause.later (add_leaf c.args.room.now.saved)
           (record { marks = refl; held = refl; sink = refl })
-          refl met))
+          (record { losses = refl; unheard = refl }) met))
           c.requires.ready.look.told (of_ok c.fetch.result (sym c.if-is_err.ensures.value) c.fetch.ensures.bytes) goes;
     }

@@ -23,7 +23,7 @@ loop-k-init g c =
         lost_most = c.requires.few.lost_most;
       };
       paid = omega arith;
-      over = over_none g.S.PageSource g.O.ByteSink g.E.ByteSink _ _;
+      over = over_none g.S.PageSource g.O.ByteSink g.E.ByteSink _ _ _;
       goes = record {
         told = told1 (g.S.PageSource.content c.args.source.now)
             (λ file held. λ start met.

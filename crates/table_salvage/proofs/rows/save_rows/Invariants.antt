@@ -15,7 +15,7 @@ invariant-loop-k g l = record {
   few : AreFew (l.n + 1) (most_rows l.n + (l.list.place + l.k)) l.room.saved;
   paid : IsPaid 0 l.fn.room.marks l.room.marks l.fn.steps l.steps;
   over : PartOver g.S.PageSource g.O.ByteSink g.E.ByteSink (l.fn.source, l.fn.sink, l.fn.losses)
-      (l.source, l.sink, l.losses) l.fn.steps l.steps done;
+      (l.source, l.sink, l.losses) l.fn.room.unheard l.room.unheard l.fn.steps l.steps done;
   goes : Goes g.S.PageSource g.O.ByteSink g.E.ByteSink (l.fn.source, l.fn.sink, l.fn.losses)
       (l.source, l.sink, l.losses) l.fn.room l.room l.search done (RowsDone l.n 0) (RowsDone l.n (l.list.place + l.k));
 }
