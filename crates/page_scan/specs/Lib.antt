@@ -1,0 +1,4 @@
+pub mod Found
+pub mod Newest
+pub mod Scan
+pub mod Window
