@@ -1,0 +1,5 @@
+pub mod Versions
+pub mod Cut
+pub mod Maps
+pub mod Noted
+pub mod Turns

@@ -1,0 +1,5 @@
+pub mod Carved
+pub mod Files
+pub mod Carving
+pub mod Takes
+pub mod Laws
