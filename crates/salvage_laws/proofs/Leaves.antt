@@ -116,8 +116,8 @@ segment_owner n FreeExtent kind can is same = absurd can
 segment_owner n Beyond kind can is same = absurd can
 
 -- each page that a sound value goes on in is one of a chain
-field_blob : HasOneChain → (file : List ℕ) (segment : ℕ) → size_of file ≤ 4194304 → (kind : FieldType) (page : List ℕ)
-    (place : Place) → IsSoundField file segment kind page place → (n : ℕ)
+pub field_blob : HasOneChain → (file : List ℕ) (segment : ℕ) → size_of file ≤ 4194304 → (kind : FieldType)
+    (page : List ℕ) (place : Place) → IsSoundField file segment kind page place → (n : ℕ)
     → Contains (pages_of_field file kind page place) n → IsBlobPage file segment n
 field_blob one file segment most (Column kind) page place sound n c =
     by_tests place.null place.external refl refl c

@@ -132,7 +132,7 @@ module _ (one : HasOneChain) (whole : ChecksAreWhole) (file : List ℕ) (table :
       subst (λ (r : Row). ReadsRecord file table r (get_or all among.0 [])) among.2 at in
       record { values_of = get_or all among.0 []; reads_it = here.reads }
 
-  sound_cell : (row : Row) → Contains (live_rows tree) row → (c : ℕ) → c < length table.columns
+  pub sound_cell : (row : Row) → Contains (live_rows tree) row → (c : ℕ) → c < length table.columns
       → IsSoundValue file (leaf_segment tree) (column_at table c).kind (page_of file row.page) (cell_in row c).place
   unfolding index_in
   sound_cell row among c within =

@@ -1,0 +1,7 @@
+pub mod Moves
+pub mod Rows
+pub mod Known
+pub mod Pages
+pub mod Alike
+pub mod Held
+pub mod Carved
