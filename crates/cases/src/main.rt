@@ -5,6 +5,7 @@
 mod command;
 mod edit;
 mod error;
+mod failing;
 mod hex;
 mod line;
 mod outcome;
@@ -17,6 +18,7 @@ mod sheaf;
 mod shelf;
 mod store;
 mod text;
+mod unread;
 mod words;
 
 use line::try_line;

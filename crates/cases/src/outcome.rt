@@ -4,8 +4,10 @@ use crate::error::LineError;
 use crate::text::{put_hex, put_number};
 use cross_index::{CrossStop, Crossed};
 use fil_frame::crc32c;
+use image_listing::ListStop;
 use key_lookup::GetStop;
 use page_source::{ByteList, Fault, Halt, NoMemory, Stop};
+use salvage_model::{SalvageStop, Saved};
 use schema_text::{SchemaError, SchemaWhy};
 use sql_dump::DumpStop;
 use std::alloc::Global;
@@ -27,6 +29,10 @@ pub enum End {
     Key,
     /// No row has the key.
     Absent,
+    /// No id was given, and the root's page tells none.
+    Root,
+    /// The sink for what is lost failed.
+    Losses,
 }
 
 impl From<NoMemory> for End {
@@ -90,6 +96,29 @@ impl From<GetStop> for End {
     }
 }
 
+impl From<SalvageStop> for End {
+    fn from(stop: SalvageStop) -> Self {
+        match stop {
+            SalvageStop::Root => End::Root,
+            SalvageStop::Changed(fault) => End::Broken(fault),
+            SalvageStop::Source => End::Source,
+            SalvageStop::Sink => End::Sink,
+            SalvageStop::Losses => End::Losses,
+            SalvageStop::Memory => End::Memory,
+        }
+    }
+}
+
+impl From<ListStop> for End {
+    fn from(stop: ListStop) -> Self {
+        match stop {
+            ListStop::Source => End::Source,
+            ListStop::Sink => End::Sink,
+            ListStop::Memory => End::Memory,
+        }
+    }
+}
+
 impl From<SchemaError> for End {
     fn from(error: SchemaError) -> Self {
         match error {
@@ -119,6 +148,8 @@ impl End {
             }
             End::Key => text.extend(b"key"),
             End::Absent => text.extend(b"absent"),
+            End::Root => text.extend(b"root"),
+            End::Losses => text.extend(b"losses"),
         }
     }
 }
@@ -242,4 +273,16 @@ pub fn put_crossed(text: &mut ByteList, crossed: &Crossed) -> Result<(), NoMemor
     put_number(text, u64::from(crossed.indexes))?;
     text.extend(b" entries=")?;
     put_number(text, crossed.entries)
+}
+
+/// Adds the numbers of a salvage.
+pub fn put_saved(text: &mut ByteList, saved: &Saved) -> Result<(), NoMemory> {
+    text.extend(b"rows=")?;
+    put_number(text, saved.rows)?;
+    text.extend(b" partial=")?;
+    put_number(text, saved.partial)?;
+    text.extend(b" leaves=")?;
+    put_number(text, u64::from(saved.leaves))?;
+    text.extend(b" lost=")?;
+    put_number(text, u64::from(saved.lost))
 }

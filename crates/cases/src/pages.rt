@@ -4,6 +4,7 @@ ghost use Rattle.std.specs.Prelude.{◌≡◌, ◌+◌, ℕ, None};
 ghost use Rattle.page_source.specs.Faults.{HasCause, AsksOne};
 
 use crate::sheaf::Sheaf;
+use crate::unread::Unread;
 use page_source::{Failed, Page, PageSource, Steps};
 use std::alloc::Global;
 use std::marker::Model;
@@ -33,13 +34,14 @@ impl Image<'_> {
 }
 
 /// A file of pages that tells nothing. From its call number `turns_at` on, counted from 1, it is another one, and its
-/// call number `fails_at` fails.
+/// call number `fails_at` fails, as do fetches of the pages that can't be read.
 #[derive(Drop)]
 pub struct CasePages<'a> {
     first: Image<'a>,
     second: Image<'a>,
     turns_at: u64,
     fails_at: u64,
+    unread: Unread,
     made: u64,
     faults: u64,
     fetches: u64,
@@ -62,6 +64,7 @@ impl<'a> CasePages<'a> {
             second: image,
             turns_at: 0,
             fails_at: 0,
+            unread: Unread::none(alloc),
             made: 0,
             faults: 0,
             fetches: 0,
@@ -72,6 +75,11 @@ impl<'a> CasePages<'a> {
     /// Makes the call with this number fail.
     pub fn fail_at(&mut self, call: u64) {
         self.fails_at = call;
+    }
+
+    /// Makes fetches of these pages fail.
+    pub fn lose(&mut self, unread: Unread) {
+        self.unread = unread;
     }
 
     /// Makes the file another one from the call with this number on.
@@ -142,8 +150,9 @@ impl PageSource for CasePages<'_> {
     {
         steps.tick();
         self.fetches = self.fetches.saturating_add(1);
+        let is_lost = self.unread.has_failing(n);
         let is_there = match self.count_call() {
-            Some(image) => image.fill(page, n),
+            Some(image) => !is_lost && image.fill(page, n),
             None => false,
         };
         if !is_there {

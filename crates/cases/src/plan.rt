@@ -27,6 +27,8 @@ pub enum Trouble<'a> {
     File(Range),
     /// The sink's call with this number fails.
     Sink(Range),
+    /// The call with this number of the sink for what is lost fails.
+    Losses(Range),
     /// The sink has room for so many bytes.
     Room(Range),
     /// From the call with this number on the file is the named one.
@@ -107,6 +109,7 @@ impl<'a> Plan<'a> {
             _ => match words.next()? {
                 "file" => Trouble::File(words.range()?),
                 "sink" => Trouble::Sink(words.range()?),
+                "losses" => Trouble::Losses(words.range()?),
                 _ => return Err(LineError::Word),
             },
         };

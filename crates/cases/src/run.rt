@@ -64,6 +64,8 @@ pub enum Hitch {
     File(u64),
     /// This call of the sink fails.
     Sink(u64),
+    /// This call of the sink for what is lost fails.
+    Losses(u64),
     /// The sink has room for so many bytes.
     Room(u64),
     /// From this call on the file is the other one.
@@ -143,7 +145,7 @@ impl<'a> Ready<'a> {
     }
 
     /// The file of one run.
-    fn file(&self, alloc: Global, hitch: Hitch) -> CasePages<'_> {
+    pub fn file(&self, alloc: Global, hitch: Hitch) -> CasePages<'_> {
         let mut file = CasePages::new(alloc, self.image());
         match (hitch, self.later) {
             (Hitch::File(call), _) => file.fail_at(call),
@@ -214,7 +216,7 @@ impl<'a> Ready<'a> {
 }
 
 /// How it ended, with what the sink was given.
-fn written_of(
+pub fn written_of(
     alloc: Global,
     end: Result<(), End>,
     sink: &MemorySink,
@@ -311,7 +313,7 @@ fn dump_file<L: Ledger>(
 }
 
 /// The sink of one run.
-fn sink_of(alloc: Global, hitch: Hitch) -> Result<MemorySink, NoMemory> {
+pub fn sink_of(alloc: Global, hitch: Hitch) -> Result<MemorySink, NoMemory> {
     let room = match hitch {
         Hitch::Room(room) => room,
         _ => ROOM,
@@ -323,12 +325,22 @@ fn sink_of(alloc: Global, hitch: Hitch) -> Result<MemorySink, NoMemory> {
     MemorySink::new(alloc, room as usize, fails)
 }
 
+/// The sink of one run for what is lost.
+pub fn losses_of(alloc: Global, hitch: Hitch) -> Result<MemorySink, NoMemory> {
+    let fails = match hitch {
+        Hitch::Losses(call) => Fails::of(alloc, &[call])?,
+        _ => Fails::of(alloc, &[])?,
+    };
+    MemorySink::new(alloc, ROOM as usize, fails)
+}
+
 /// The numbers of what goes wrong, and what it is at each of them.
 pub fn numbers_of(trouble: Trouble<'_>) -> Range {
     match trouble {
         Trouble::None => Range { first: 0, last: 0 },
         Trouble::File(range)
         | Trouble::Sink(range)
+        | Trouble::Losses(range)
         | Trouble::Room(range)
         | Trouble::Turns(_, range) => range,
     }
@@ -340,6 +352,7 @@ pub fn hitch_at(trouble: Trouble<'_>, number: u64) -> Hitch {
         Trouble::None => Hitch::None,
         Trouble::File(_) => Hitch::File(number),
         Trouble::Sink(_) => Hitch::Sink(number),
+        Trouble::Losses(_) => Hitch::Losses(number),
         Trouble::Room(_) => Hitch::Room(number),
         Trouble::Turns(_, _) => Hitch::Turns(number),
     }

@@ -2,7 +2,8 @@
 
 use crate::edit::{Edit, Frame};
 use crate::error::LineError;
-use fil_frame::{SumKind, kind, seal_as};
+use crate::text::{put_hex, put_number};
+use fil_frame::{SumKind, crc32c, kind, seal_as};
 use page_source::{ByteList, NoMemory, PAGE_SIZE, Page, read_be};
 use std::alloc::Global;
 use std::collections::BTreeMap;
@@ -64,6 +65,19 @@ impl Sheaf {
     pub fn put_all(&mut self, alloc: Global, other: &Sheaf) -> Result<(), NoMemory> {
         for (n, leaf) in &other.leaves {
             self.put(alloc, *n, leaf.page.bytes())?;
+        }
+        Ok(())
+    }
+
+    /// Adds the number of each page, and its checksum.
+    pub fn put_pages(&self, text: &mut ByteList) -> Result<(), NoMemory> {
+        let mut before = b" | ".as_slice();
+        for (n, leaf) in &self.leaves {
+            text.extend(before)?;
+            put_number(text, u64::from(*n))?;
+            text.extend(b" ")?;
+            put_hex(text, crc32c(leaf.page.bytes()))?;
+            before = b", ";
         }
         Ok(())
     }

@@ -1,10 +1,11 @@
-//! The store that a case builds into.
+//! The store that a case builds or carves into.
 
-ghost use Rattle.std.specs.Prelude.{◌≡◌, ℕ};
+ghost use Rattle.std.specs.Prelude.{◌≡◌, ℕ, None};
 ghost use Rattle.page_source.specs.Faults.{HasCause};
 ghost use Rattle.page_source.specs.Objects.{untold};
 
 use crate::sheaf::Sheaf;
+use image_carve::PageFile;
 use page_source::{Failed, PAGE_SIZE, Page, PageStore};
 use std::alloc::Global;
 use std::marker::Model;
@@ -91,6 +92,18 @@ impl PageStore for CaseStore {
             self.faults = self.faults.saturating_add(1);
             return Err(Failed);
         }
+        Ok(())
+    }
+}
+
+impl PageFile for CaseStore {
+    ghost held = { λ store. None };
+
+    ghost faults = { λ count. count };
+
+    fn put(&mut self, n: u32, page: &Page) -> Result<(), Failed> {
+        self.size = self.size.max(n.saturating_add(1));
+        PageStore::put(self, n, page)?;
         Ok(())
     }
 }

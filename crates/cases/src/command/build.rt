@@ -3,6 +3,7 @@
 ghost use Rattle.std.specs.Prelude.{◌≡◌, ◌<◌};
 
 use crate::error::LineError;
+use crate::failing::{Failing, Object, which_of};
 use crate::outcome::{End, put_checked};
 use crate::report::Report;
 use crate::rows::rows_of;
@@ -11,7 +12,7 @@ use crate::sheaf::Sheaf;
 use crate::shelf::{Base, Shelf, copied};
 use crate::store::CaseStore;
 use crate::text::{put_hex, put_number};
-use crate::words::{Range, Words};
+use crate::words::Words;
 use fil_frame::crc32c;
 use page_source::{ByteList, Fails, MemoryBytes, NoMemory, Page, Steps};
 use schema_text::Schema;
@@ -23,50 +24,6 @@ use table_check::Checked;
 
 /// The room of a store of which a line says nothing: as much as a build may need.
 const ROOM: u32 = 16_384;
-
-/// The most tries of a line.
-const MOST_TRIES: u64 = 1000;
-
-/// An object of which calls fail.
-#[derive(Clone, Copy)]
-enum Object {
-    Rows,
-    Target,
-}
-
-/// Which calls of an object fail, each of them in a try of its own. There is no call 0.
-#[derive(Clone, Copy)]
-struct Failing {
-    object: Object,
-    calls: Range,
-}
-
-impl Failing {
-    /// No call at all.
-    const NONE: Failing = Failing {
-        object: Object::Rows,
-        calls: Range { first: 0, last: 0 },
-    };
-
-    /// `rows 2` or `target 1-5`.
-    fn read(words: &mut Words) -> Result<Failing, LineError> {
-        let object = match words.next()? {
-            "rows" => Object::Rows,
-            "target" => Object::Target,
-            _ => return Err(LineError::Word),
-        };
-        let calls = words.range()?;
-        if calls.last.saturating_sub(calls.first) > MOST_TRIES {
-            return Err(LineError::Number);
-        }
-        Ok(Failing { object, calls })
-    }
-
-    /// The call of the object that fails in a try, if it is this one.
-    fn call_of(self, object: Object, call: u64) -> u64 {
-        if self.object == object { call } else { 0 }
-    }
-}
 
 /// `build SCHEMA [room N] [fail OBJECT CALLS] = ROWS`, without its first word.
 #[derive(Drop)]
@@ -90,11 +47,7 @@ impl<'a> BuildCase<'a> {
         let mut words = Words::of(alloc, items)?;
         let schema = words.next()?;
         let room = read_room(&mut words)?;
-        let failing = if words.skip("fail") {
-            Failing::read(&mut words)?
-        } else {
-            Failing::NONE
-        };
+        let failing = Failing::read(&mut words)?;
         words.end()?;
         Ok(BuildCase {
             schema,
@@ -149,7 +102,7 @@ impl<'a> BuildCase<'a> {
 
     /// Builds into a store of which this call fails, or from rows of which it does.
     fn left_at(&self, alloc: Global, table: &Schema, call: u64) -> Result<Left, LineError> {
-        let fails = Fails::of(alloc, &[self.failing.call_of(Object::Rows, call)])?;
+        let fails = Fails::of(alloc, &[self.failing.call_of(Object::Source, call)])?;
         let mut rows = MemoryBytes::new(copied(alloc, self.rows.bytes())?, fails);
         let fails_at = self.failing.call_of(Object::Target, call);
         let mut store = CaseStore::new(alloc, self.room, fails_at);
@@ -342,14 +295,4 @@ fn put_wrong(text: &mut ByteList, stop: BuildStop, store: &CaseStore) -> Result<
         }
     }
     Ok(())
-}
-
-/// Which call of an object failed.
-fn which_of(alloc: Global, call: u64) -> Result<ByteList, NoMemory> {
-    let mut which = ByteList::new(alloc);
-    if call > 0 {
-        which.extend(b" at call ")?;
-        put_number(&mut which, call)?;
-    }
-    Ok(which)
 }

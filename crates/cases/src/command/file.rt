@@ -6,7 +6,7 @@ use crate::report::Report;
 use crate::run::{Hitch, Ready, Task, hitch_at, numbers_of};
 use crate::shelf::{Shelf, copied};
 use crate::text::{decode, put_number};
-use crate::words::Words;
+use crate::words::{Range, Words};
 use page_source::ByteList;
 use std::alloc::Global;
 
@@ -67,28 +67,34 @@ impl<'a> FileCase<'a> {
             Trouble::None => ByteList::new(alloc),
             _ => ready.run(alloc, task, Hitch::None)?.written,
         };
-        let numbers = numbers_of(trouble);
-        if numbers.last.saturating_sub(numbers.first) > MOST_TRIES {
-            return Err(LineError::Number);
-        }
+        let numbers = tries_of(trouble)?;
         for number in numbers.first..numbers.last.saturating_add(1) {
             let outcome = ready.run(alloc, task, hitch_at(trouble, number))?;
             let came = outcome.said_as(alloc, wanted, whole.bytes())?;
-            let which = which_of(alloc, task, trouble, number)?;
+            let which = which_of(alloc, task.which(), trouble, number)?;
             report.compare(which.bytes(), wanted, came.bytes())?;
         }
         Ok(())
     }
 }
 
-/// Which of a line's tries it is.
-fn which_of(
+/// The numbers of a line's tries.
+pub fn tries_of(trouble: Trouble<'_>) -> Result<Range, LineError> {
+    let numbers = numbers_of(trouble);
+    if numbers.last.saturating_sub(numbers.first) > MOST_TRIES {
+        return Err(LineError::Number);
+    }
+    Ok(numbers)
+}
+
+/// Which of a line's tries it is, behind the words for what is run.
+pub fn which_of(
     alloc: Global,
-    task: Task<'_>,
+    task: &[u8],
     trouble: Trouble<'_>,
     number: u64,
 ) -> Result<ByteList, LineError> {
-    let mut which = copied(alloc, task.which())?;
+    let mut which = copied(alloc, task)?;
     if !matches!(trouble, Trouble::None) {
         which.extend(b" at ")?;
         put_number(&mut which, number)?;

@@ -3,10 +3,12 @@
 
 mod audit;
 mod build;
+mod carve;
 mod file;
 mod get;
 mod page;
 mod row;
+mod salvage;
 mod sample;
 mod schema;
 mod sweep;
@@ -20,10 +22,12 @@ use crate::shelf::Shelf;
 use crate::words::Words;
 use audit::AuditCase;
 pub use build::BuildCase;
+use carve::CarveCase;
 use file::{FetchCase, FileCase};
 use get::GetCase;
 use page::PageCase;
 use row::{RowCase, RowText};
+use salvage::SalvageCase;
 use sample::SampleCase;
 pub use schema::try_schema;
 use std::alloc::Global;
@@ -38,8 +42,10 @@ pub enum Command<'a> {
     Dump(FileCase<'a>),
     Both(FileCase<'a>),
     Cross(FileCase<'a>),
+    Salvage(SalvageCase<'a>),
     Get(GetCase<'a>),
     Build(BuildCase<'a>),
+    Carve(CarveCase<'a>),
     Sample(SampleCase),
     Fetches(FetchCase<'a>),
     Audit(AuditCase<'a>),
@@ -75,6 +81,9 @@ impl<'a> Command<'a> {
             "dump" => Ok(Command::Dump(FileCase::read(alloc, words)?)),
             "both" => Ok(Command::Both(FileCase::read(alloc, words)?)),
             "cross" => Ok(Command::Cross(FileCase::read(alloc, words)?)),
+            "salvage" => Ok(Command::Salvage(SalvageCase::read(alloc, words)?)),
+            "carve_list" => Ok(Command::Carve(CarveCase::read_list(alloc, words)?)),
+            "carve_take" => Ok(Command::Carve(CarveCase::read_take(alloc, words)?)),
             "sample" => Ok(Command::Sample(SampleCase::read(words)?)),
             "fetches" => Ok(Command::Fetches(FetchCase::read(alloc, words)?)),
             "audit" => Ok(Command::Audit(AuditCase::read(alloc, words)?)),
@@ -100,8 +109,10 @@ impl<'a> Command<'a> {
                 case.run(alloc, shelf, &[Task::Check, Task::Dump], answer, report)
             }
             Command::Cross(case) => case.run(alloc, shelf, &[Task::Cross], answer, report),
+            Command::Salvage(case) => case.run(alloc, shelf, answer, report),
             Command::Get(case) => case.run(alloc, shelf, answer, report),
             Command::Build(case) => case.run(alloc, shelf, answer, report),
+            Command::Carve(case) => case.run(alloc, shelf, answer, report),
             Command::Sample(case) => case.run(alloc, answer, report),
             Command::Fetches(case) => case.run(alloc, shelf, answer, report),
             Command::Audit(case) => case.run(alloc, shelf, answer, report),
