@@ -12,3 +12,4 @@ pub mod SparseFiles
 pub mod Texts
 pub mod Decided
 pub mod Answered
+pub mod Transferred

@@ -11,4 +11,5 @@ pub mod Memory
 pub mod MemoryCodes
 pub mod Slots
 pub mod Sources
+pub mod Transfers
 pub mod SourceCodes

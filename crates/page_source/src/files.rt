@@ -1,26 +1,41 @@
 //! Real files as the outside objects. Each opens its file at its first call, counts its faults, and
-//! tells nothing of what the file holds: all that is seen of it is the word that names it, the count, and of a file of
-//! pages how many were asked for.
+//! tells nothing of what the file holds: all that is seen of it is the word that names it, how it is opened, the count,
+//! and of a file of pages how many were asked for.
 
-ghost use Rattle.std.specs.Prelude.{◌≡◌, ◌+◌, ◌<◌, ◌≤◌, List, ℕ, Option, option_map, length, IfOk, None, is_err};
+ghost use Rattle.std.specs.Prelude.{◌≡◌, ◌+◌, ◌<◌, ◌≤◌, List, ℕ, Option, option_map, length, IfOk, IfSome, None, Some};
+ghost use Rattle.std.specs.Prelude.{is_err};
 ghost use Rattle.page_source.specs.Faults.{HasCause, AsksOne, count_after, one_more};
 ghost use Rattle.page_source.specs.Objects.{untold};
+ghost use Rattle.page_source.specs.Sources.{for_reading, anew, pages_to_read, text_to_read, pages_to_make};
 
 use crate::counted::counted;
 use crate::errors::Failed;
 use crate::objects::{ByteSource, PageSource, PageStore};
 use crate::page::{PAGE_SIZE, Page};
 use crate::steps::Steps;
+use crate::transfers::{count_pages, read_page, read_some, write_page};
 use std::fs::{Files, OpenFile, OpenOptions};
 use std::io;
-use std::io::{Error, ErrorKind, Read, Seek, SeekFrom, Write};
+use std::io::{Error, ErrorKind};
 use std::marker::Model;
 use std::sync::ledger::Ledger;
 
-#[derive(Clone, Copy)]
-enum Opening {
-    ForReading,
-    Anew,
+/// To be read, and for nothing else.
+fn for_reading() -> OpenOptions
+    ensures { result ≡ for_reading }
+{
+    let mut how = OpenOptions::new();
+    how.read(true);
+    how
+}
+
+/// To be written, made if there is none, and emptied.
+fn anew() -> OpenOptions
+    ensures { result ≡ anew }
+{
+    let mut how = OpenOptions::new();
+    how.write(true).create(true).truncate(true);
+    how
 }
 
 /// The word of the command line that names a file, and how this is opened. A word that is missing or isn't UTF-8 names
@@ -29,23 +44,30 @@ enum Opening {
 struct FileName<'a, R: Files> {
     rt: &'a R,
     word: Option<&'a [u8]>,
-    opening: Opening,
+    how: OpenOptions,
+}
+
+impl<'a, R: Files> Model for FileName<'a, R> {
+    ghost use Rattle.std.specs.Prelude.{option_map};
+    ghost use Rattle.page_source.specs.Sources.{FileName};
+
+    ghost Value = { FileName };
+
+    ghost view = { λ s. record { word = option_map (λ bytes. bytes.now) s.word; how = s.how } };
 }
 
 impl<R: Files> FileName<'_, R> {
-    fn open(&self) -> io::Result<R::File> {
+    fn path(&self) -> io::Result<&str>
+        ensures { IfOk result (λ path. self.now.word ≡ Some path.now) }
+    {
         let Some(word) = self.word else {
             return Err(Error::from(ErrorKind::NotFound));
         };
-        let Ok(path) = str::from_utf8(word) else {
-            return Err(Error::from(ErrorKind::InvalidInput));
-        };
-        let mut how = OpenOptions::new();
-        match self.opening {
-            Opening::ForReading => how.read(true),
-            Opening::Anew => how.write(true).create(true).truncate(true),
-        };
-        how.open(self.rt, path)
+        str::from_utf8(word).map_err(|_| Error::from(ErrorKind::InvalidInput))
+    }
+
+    fn open(&self) -> io::Result<R::File> {
+        self.how.open(self.rt, self.path()?)
     }
 }
 
@@ -53,14 +75,16 @@ impl<R: Files> FileName<'_, R> {
 fn opened<'f, R: Files>(
     file: &'f mut Option<R::File>,
     name: &FileName<R>,
-) -> io::Result<&'f mut R::File> {
+) -> io::Result<&'f mut R::File>
+    ensures { IfSome file.old (λ before. IfOk result (λ found. found.now ≡ before)) }
+{
     if file.is_none() {
         *file = Some(name.open()?);
     }
     file.as_mut().ok_or(Error::from(ErrorKind::NotFound))
 }
 
-/// A file by its name, seen as the word. It is opened by the first call.
+/// A file by its name, seen as that. It is opened by the first call.
 #[derive(Drop)]
 struct NamedFile<'a, R: Files> {
     name: FileName<'a, R>,
@@ -68,17 +92,19 @@ struct NamedFile<'a, R: Files> {
 }
 
 impl<'a, R: Files> Model for NamedFile<'a, R> {
-    ghost Value = { Option (List ℕ) };
+    ghost use Rattle.page_source.specs.Sources.{FileName};
 
-    ghost view = { λ s. option_map (λ bytes. bytes.now) s.name.word };
+    ghost Value = { FileName };
+
+    ghost view = { λ s. s.name };
 }
 
 impl<'a, R: Files> NamedFile<'a, R> {
-    fn new(rt: &'a R, word: Option<&'a [u8]>, opening: Opening) -> Self
-        ensures { result ≡ option_map (λ bytes. bytes.now) word.entry }
+    fn new(rt: &'a R, word: Option<&'a [u8]>, how: OpenOptions) -> Self
+        ensures { result ≡ record { word = option_map (λ bytes. bytes.now) word.entry; how = how } }
     {
         NamedFile {
-            name: FileName { rt, word, opening },
+            name: FileName { rt, word, how },
             file: None,
         }
     }
@@ -91,16 +117,13 @@ impl<'a, R: Files> NamedFile<'a, R> {
         if file.metadata()?.is_dir() {
             return Err(Error::from(ErrorKind::IsADirectory));
         }
-        let pages = file.seek(SeekFrom::End(0))? / PAGE_SIZE as u64;
-        Ok(u32::try_from(pages).unwrap_or(u32::MAX))
+        count_pages(file)
     }
 
     fn read_page(&mut self, n: u32, page: &mut Page) -> io::Result<()>
         ensures { self.new ≡ self.old }
     {
-        let file = opened(&mut self.file, &self.name)?;
-        file.seek(SeekFrom::Start(PAGE_SIZE as u64 * u64::from(n)))?;
-        page.fill_from(file)
+        read_page(opened(&mut self.file, &self.name)?, n, page)
     }
 
     fn read_some(&mut self, buffer: &mut [u8]) -> io::Result<usize>
@@ -119,23 +142,8 @@ impl<'a, R: Files> NamedFile<'a, R> {
     fn write_page(&mut self, n: u32, page: &Page) -> io::Result<()>
         ensures { self.new ≡ self.old }
     {
-        let file = opened(&mut self.file, &self.name)?;
-        file.seek(SeekFrom::Start(PAGE_SIZE as u64 * u64::from(n)))?;
-        file.write_all(page.bytes())
+        write_page(opened(&mut self.file, &self.name)?, n, page)
     }
-}
-
-/// A read that a signal interrupts is tried again.
-fn read_some<F: Read>(file: &mut F, buffer: &mut [u8]) -> io::Result<usize>
-    ensures { IfOk result (λ k. k ≤ length buffer.new) }
-{
-    for _ in 0..u64::MAX {
-        match file.read(buffer) {
-            Err(error) if error.kind() == ErrorKind::Interrupted => {}
-            answer => return answer,
-        }
-    }
-    Err(Error::from(ErrorKind::Interrupted))
 }
 
 /// A file that is read page by page, of 16,384 bytes each.
@@ -151,16 +159,21 @@ impl<'a, R: Files> Model for FilePages<'a, R> {
 
     ghost Value = { NamedPages };
 
-    ghost view = { λ s. record { word = s.named; faults = s.faults; fetches = s.fetches } };
+    ghost view = { λ s. record {
+      word = s.named.word;
+      how = s.named.how;
+      faults = s.faults;
+      fetches = s.fetches;
+    } };
 }
 
 impl<'a, R: Files> FilePages<'a, R> {
     /// The file that the word names; none where the word is missing.
     pub fn new(rt: &'a R, word: Option<&'a [u8]>) -> Self
-        ensures { result ≡ record { word = option_map (λ bytes. bytes.now) word.entry; faults = 0; fetches = 0 } }
+        ensures { result ≡ pages_to_read (option_map (λ bytes. bytes.now) word.entry) }
     {
         FilePages {
-            named: NamedFile::new(rt, word, Opening::ForReading),
+            named: NamedFile::new(rt, word, for_reading()),
             faults: 0,
             fetches: 0,
         }
@@ -216,16 +229,16 @@ impl<'a, R: Files> Model for FileBytes<'a, R> {
 
     ghost Value = { NamedObject };
 
-    ghost view = { λ s. record { word = s.named; faults = s.faults } };
+    ghost view = { λ s. record { word = s.named.word; how = s.named.how; faults = s.faults } };
 }
 
 impl<'a, R: Files> FileBytes<'a, R> {
     /// The file that the word names; none where the word is missing.
     pub fn new(rt: &'a R, word: Option<&'a [u8]>) -> Self
-        ensures { result ≡ record { word = option_map (λ bytes. bytes.now) word.entry; faults = 0 } }
+        ensures { result ≡ text_to_read (option_map (λ bytes. bytes.now) word.entry) }
     {
         FileBytes {
-            named: NamedFile::new(rt, word, Opening::ForReading),
+            named: NamedFile::new(rt, word, for_reading()),
             faults: 0,
         }
     }
@@ -259,16 +272,16 @@ impl<'a, R: Files> Model for FileStore<'a, R> {
 
     ghost Value = { NamedObject };
 
-    ghost view = { λ s. record { word = s.named; faults = s.faults } };
+    ghost view = { λ s. record { word = s.named.word; how = s.named.how; faults = s.faults } };
 }
 
 impl<'a, R: Files> FileStore<'a, R> {
     /// The file that the word names; none where the word is missing.
     pub fn new(rt: &'a R, word: Option<&'a [u8]>) -> Self
-        ensures { result ≡ record { word = option_map (λ bytes. bytes.now) word.entry; faults = 0 } }
+        ensures { result ≡ pages_to_make (option_map (λ bytes. bytes.now) word.entry) }
     {
         FileStore {
-            named: NamedFile::new(rt, word, Opening::Anew),
+            named: NamedFile::new(rt, word, anew()),
             faults: 0,
         }
     }

@@ -14,6 +14,7 @@ mod pieces;
 mod rule;
 mod steps;
 mod streams;
+mod transfers;
 
 pub use bytes::ByteList;
 pub use checks::{Halt, Stop};

@@ -6,8 +6,9 @@ ghost use Rattle.page_source.specs.Faults.{HasCause, count_after};
 use crate::counted::counted;
 use crate::errors::Failed;
 use crate::objects::ByteSink;
+use crate::transfers::write_whole;
 use std::io;
-use std::io::{Error, ErrorKind, Print};
+use std::io::{Print, Write};
 use std::marker::Model;
 
 /// One of the two standard streams. It tells nothing of what was written: all that is seen of it is
@@ -24,22 +25,20 @@ impl<P: Print> Model for StdSink<P> {
     ghost view = { λ s. s.faults };
 }
 
-/// Writes the whole piece, in as many turns as the stream needs. A stream that takes nothing fails;
-/// a write that a signal interrupts is tried again.
-fn write_whole<P: Print>(stream: &P, piece: &[u8]) -> io::Result<()> {
-    let mut rest = piece;
-    for _ in 0..u64::MAX {
-        if rest.is_empty() {
-            return Ok(());
-        }
-        match stream.write_some(rest) {
-            Ok(0) => return Err(Error::from(ErrorKind::WriteZero)),
-            Ok(count) => rest = &rest[count..],
-            Err(error) if error.kind() == ErrorKind::Interrupted => {}
-            Err(error) => return Err(error),
-        }
+/// A stream as a writer of std, which tells nothing.
+#[derive(Drop)]
+struct Printed<'a, P: Print> {
+    stream: &'a P,
+}
+
+impl<P: Print> Write for Printed<'_, P> {
+    fn write(&mut self, piece: &[u8]) -> io::Result<usize> {
+        self.stream.write_some(piece)
     }
-    Err(Error::from(ErrorKind::Interrupted))
+
+    fn flush(&mut self) -> io::Result<()> {
+        Ok(())
+    }
 }
 
 impl<P: Print> StdSink<P> {
@@ -60,7 +59,10 @@ impl<P: Print> ByteSink for StdSink<P> {
         ensures count { self.new ≡ count_after self.old (is_err result) }
         ensures cause { HasCause self.old self.new result }
     {
-        let done = write_whole(&self.stream, piece);
+        let mut stream = Printed {
+            stream: &self.stream,
+        };
+        let done = write_whole(&mut stream, piece);
         counted(&mut self.faults, done)
     }
 }

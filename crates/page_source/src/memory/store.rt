@@ -97,7 +97,7 @@ fn held_pages(alloc: Global, mut slots: Vec<Slot>) -> Result<PageMap, NoMemory>
     Ok(held)
 }
 
-/// So many slots that hold nothing.
+/// A list of so many slots that hold nothing.
 #[tactic(auto, using(crate::proofs::Slots::slot_changes))]
 fn empty_slots(alloc: Global, count: u32) -> Result<Vec<Slot>, NoMemory>
     ensures count { IfOk result (λ slots. vec_len slots ≡ count) }
