@@ -2,7 +2,8 @@
 
 ghost use Rattle.std.specs.Prelude.{◌≡◌, ◌+◌, ◌^◌, ◌≤◌, ◌<◌, ◌&&◌, ◌||◌, nat_lt, if◌then◌else◌, length, reverse};
 ghost use Rattle.page_source.specs.Pages.{with_bytes};
-ghost use Rattle.column_values.specs.Types.{field_at};
+ghost use Rattle.column_values.specs.Types.{AreFields, field_at};
+ghost use Rattle.compact_record.specs.Laws.{IsReadAgain};
 ghost use Rattle.compact_record.specs.Reading.{null_bytes};
 ghost use Rattle.compact_record.specs.Writing.{FitsField, FitFields, CanPlace, local_bytes, null_byte, length_of_part};
 ghost use Rattle.compact_record.specs.Writing.{all_null_bytes, all_lengths, value_bytes, header_bytes, record_bytes};
@@ -243,6 +244,7 @@ pub fn place_record(
     ensures page { page.new ≡ with_bytes page.old at (record_bytes fields.now parts.now heap kind minimum) }
     ensures origin { result.origin ≡ at + origin_in fields.now parts.now }
     ensures end { result.end ≡ at + size_of_record fields.now parts.now }
+    ensures read { AreFields fields.now → IsReadAgain page.new at heap kind minimum fields.now parts.now }
 {
     prove!(page.bytes().len() == PAGE_SIZE);
     let nulls = put_lengths(page, at, fields, parts);
@@ -252,7 +254,7 @@ pub fn place_record(
     RecordPlace { origin, end }
 }
 
-/// The same, where its end isn't asked for: it answers the byte where its fields begin.
+/// Writes a record as `place_record` does, and answers the byte where its fields begin.
 pub fn place(
     page: &mut Page,
     at: usize,
@@ -265,6 +267,7 @@ pub fn place(
     requires { CanPlace at heap kind fields.now parts.now }
     ensures page { page.new ≡ with_bytes page.old at (record_bytes fields.now parts.now heap kind minimum) }
     ensures origin { result ≡ at + origin_in fields.now parts.now }
+    ensures read { AreFields fields.now → IsReadAgain page.new at heap kind minimum fields.now parts.now }
 {
     place_record(page, at, fields, parts, heap, kind, minimum).origin
 }

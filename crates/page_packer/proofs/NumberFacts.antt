@@ -1,5 +1,5 @@
 -- The numbers that a page is packed with are read back.
-use Rattle.std.proofs.Common.{◌≡◌, ℕ, ◌+◌, ◌-◌, ◌*◌, ◌^◌, ◌<◌, ◌≤◌, true, List, [], ◌++◌, length, get_or}
+use Rattle.std.proofs.Common.{◌≡◌, ℕ, ◌+◌, ◌-◌, ◌*◌, ◌^◌, ◌<◌, ◌≤◌, Bool, true, List, [], ◌++◌, length, get_or}
 use Rattle.std.proofs.Common.{replicate, flat_map, slice_index, Option, Some, None, refl, sym, ap, ◌∙◌, subst, arith}
 use Rattle.std.proofs.Common.{lit≤, append-nil}
 use Rattle.std.proofs.Common.{length-append}
@@ -15,7 +15,7 @@ use Rattle.page_packer.specs.Packing.{Packing, AreWhole, slots_for, total_size, 
 use Rattle.page_packer.specs.Packing.{front_bytes, page_beside, packed_page, directory_bytes}
 use Rattle.page_packer.specs.Laws.{HasBodyOf, HaveRoom, HasHeads}
 use Rattle.page_packer.specs.Laws.{PacksNumbers, HasOwnBody, SealingKeepsBody, SealedHasBody}
-use Rattle.page_packer.specs.Entries.{packing_of}
+use Rattle.page_packer.specs.Entries.{packing_with, lowest_mark}
 use Rattle.page_packer.proofs.Packed.{ArePacked, packed_entries}
 use Rattle.page_packer.specs.Packing.{is_leaf, header_numbers}
 use Rattle.index_page.specs.Page.{is_lowest_first}
@@ -150,12 +150,14 @@ link_num page packing prev next index_id heads at i whole fit has inside place =
     ∙ link_at packing prev next index_id heads (i + k) whole fit (omega arith))
 
 pub packs_numbers : PacksNumbers
-unfolding packing_of
+unfolding packing_with
 packs_numbers page fields level root leftmost entries prev next index_id heads make fit has =
-    let packing : Packing = packing_of fields level (is_lowest_first (is_leaf level) leftmost) entries in
-    let packed : ArePacked fields root leftmost entries packing = packed_entries fields level root leftmost entries make in
+    let marks : ℕ → Bool = lowest_mark (is_lowest_first (is_leaf level) leftmost) in
+    let packing : Packing = packing_with fields level marks entries in
+    let packed : ArePacked fields root leftmost marks entries packing =
+    packed_entries fields level root leftmost marks entries make in
     let whole : AreWhole packing.records =
-    are_whole fields level (is_lowest_first (is_leaf level) leftmost) entries packing.records packed.pushed in
+    are_whole fields level marks entries packing.records packed.pushed in
     let pieces : HasPieces page packing index_id heads =
     pieces_of_body page packing prev next index_id heads whole packed.fit has in
     record {

@@ -23,9 +23,9 @@ use Rattle.page_packer.specs.declared.packer.Heads.{Heads}
 use Rattle.page_packer.specs.Packing.{Pushed, Packing, AreWhole, slots_for, total_size, pushed_at, start_of}
 use Rattle.page_packer.specs.Packing.{origin_at, owned_at}
 use Rattle.page_packer.specs.Packing.{next_of_record, packed_chain, packed_page, is_leaf, status_on}
-use Rattle.page_packer.specs.Entries.{Entry, entry_at, packing_of}
-use Rattle.page_packer.specs.Laws.{HasBodyOf, HoldsEntries, PacksIndexPage, PacksWholePage}
-use Rattle.page_packer.proofs.Packed.{ArePacked, packed_entries}
+use Rattle.page_packer.specs.Entries.{Entry, entry_at, packing_with, lowest_mark}
+use Rattle.page_packer.specs.Laws.{HasBodyOf, HoldsRecords, PacksPushed, PacksIndexPage, PacksWholePage}
+use Rattle.page_packer.proofs.Packed.{ArePacked, suited_entries, packed_entries}
 use Rattle.page_packer.proofs.Sizes.{fits_of, start_more, starts_rise, origin_behind}
 use Rattle.page_packer.proofs.PagePieces.{HasPieces, pieces_of_body, length-packed_page}
 use Rattle.page_packer.proofs.HeaderFacts.{HeaderNumbers, header_numbers, has_header, EndFacts, end_facts, few_records}
@@ -34,9 +34,10 @@ use Rattle.page_packer.proofs.RecordFacts.{next_fits, leads_to, pushed_as, Entry
 use Rattle.page_packer.proofs.DirectoryFacts.{slot_is, is_cut}
 
 -- a page on which these entries stand as the records of a packing
-pub record Stands (page : List ℕ) (fields : Fields) (root leftmost : Bool) (entries : List Entry) (packing : Packing)
+pub record Stands (page : List ℕ) (fields : Fields) (root leftmost : Bool) (marks : ℕ → Bool) (entries : List Entry)
+    (packing : Packing)
     : Type 0 where
-  pub packed : ArePacked fields root leftmost entries packing
+  pub packed : ArePacked fields root leftmost marks entries packing
   pub laid : AreLaid packing.records
   pub fits : 120 + total_size packing.records + 2 * slots_for (length packing.records) ≤ 16376
   pub numbers : HeaderNumbers page packing
@@ -44,18 +45,18 @@ pub record Stands (page : List ℕ) (fields : Fields) (root leftmost : Bool) (en
   pub entry : (k : ℕ) → k < length packing.records
       → EntryStands page fields (entry_at entries k) (origin_at packing.records k) (start_of packing.records k) (2 + k)
       (status_on packing.level) (owned_at (length packing.records) k) (next_of_record packing.records k)
-      (is_lowest_first (is_leaf packing.level) leftmost && (k == 0))
+      (marks k)
   pub directory : IsDirectory page (packed_chain packing.records)
 
-pub stands_packed : (page : List ℕ) (fields : Fields) (root leftmost : Bool) (entries : List Entry) (packing : Packing)
+pub stands_packed : (page : List ℕ) (fields : Fields) (root leftmost : Bool) (marks : ℕ → Bool) (entries : List Entry)
+    (packing : Packing)
     (prev next index_id : ℕ) (heads : Option Heads)
-    → ArePacked fields root leftmost entries packing
+    → ArePacked fields root leftmost marks entries packing
     → HasBodyOf (packed_page packing prev next index_id heads) page
-    → Stands page fields root leftmost entries packing
-stands_packed page fields root leftmost entries packing prev next index_id heads packed has =
+    → Stands page fields root leftmost marks entries packing
+stands_packed page fields root leftmost marks entries packing prev next index_id heads packed has =
     let records : List Pushed = packing.records in
-    let lowest : Bool = is_lowest_first (is_leaf packing.level) leftmost in
-    let whole : AreWhole records = are_whole fields packing.level lowest entries records packed.pushed in
+    let whole : AreWhole records = are_whole fields packing.level marks entries records packed.pushed in
     let fits = fits_of (length records) (total_size records) packed.fit in
     let laid : AreLaid records = record { whole = whole; fits = omega arith } in
     let pieces : HasPieces page packing index_id heads =
@@ -65,12 +66,12 @@ stands_packed page fields root leftmost entries packing prev next index_id heads
     let count = packed.pushed.count in
     let stands : (k : ℕ) → k < length records
     → EntryStands page fields (entry_at entries k) (origin_at records k) (start_of records k) (2 + k)
-    (status_on packing.level) (owned_at (length records) k) (next_of_record records k) (lowest && (k == 0)) =
+    (status_on packing.level) (owned_at (length records) k) (next_of_record records k) (marks k) =
     λ k below.
     let in' : k < length entries = omega arith in
-    entry_stands page packing index_id heads fields lowest (entry_at entries k) k pieces laid below packed.are_fields
+    entry_stands page packing index_id heads fields (marks k) (entry_at entries k) k pieces laid below packed.are_fields
     (packed.pushed.fit k [] in')
-    (pushed_as fields packing.level (lowest && (k == 0)) k (entry_at entries k) (pushed_at records k)
+    (pushed_as fields packing.level (marks k) k (entry_at entries k) (pushed_at records k)
     (packed.pushed.each k in')) in
     record {
       packed = packed;
@@ -128,10 +129,11 @@ first_origin records laid =
       | inr past ↦ omega (arith, origin_behind records 0 past)
     ]
 
-has_chain : (page : List ℕ) (fields : Fields) (root leftmost : Bool) (entries : List Entry) (packing : Packing)
-    → Stands page fields root leftmost entries packing
+has_chain : (page : List ℕ) (fields : Fields) (root leftmost : Bool) (marks : ℕ → Bool) (entries : List Entry)
+    (packing : Packing)
+    → Stands page fields root leftmost marks entries packing
     → IsChain page (packed_chain packing.records)
-has_chain page fields root leftmost entries packing is =
+has_chain page fields root leftmost marks entries packing is =
     let records : List Pushed = packing.records in
     let g : ℕ → ℕ = origin_at records in
     let n : ℕ = length records in
@@ -165,10 +167,11 @@ has_chain page fields root leftmost entries packing is =
           (leads_by page g infimum 0 n start links);
     }
 
-has_free : (page : List ℕ) (fields : Fields) (root leftmost : Bool) (entries : List Entry) (packing : Packing)
-    → Stands page fields root leftmost entries packing
+has_free : (page : List ℕ) (fields : Fields) (root leftmost : Bool) (marks : ℕ → Bool) (entries : List Entry)
+    (packing : Packing)
+    → Stands page fields root leftmost marks entries packing
     → IsFreeList page (packed_chain packing.records) []
-has_free page fields root leftmost entries packing is =
+has_free page fields root leftmost marks entries packing is =
     let records : List Pushed = packing.records in
     let g : ℕ → ℕ = origin_at records in
     let n : ℕ = length records in
@@ -187,10 +190,11 @@ has_free page fields root leftmost entries packing is =
       all = omega (arith, size, heap, few);
     }
 
-has_heap_numbers : (page : List ℕ) (fields : Fields) (root leftmost : Bool) (entries : List Entry) (packing : Packing)
-    → Stands page fields root leftmost entries packing
+has_heap_numbers : (page : List ℕ) (fields : Fields) (root leftmost : Bool) (marks : ℕ → Bool) (entries : List Entry)
+    (packing : Packing)
+    → Stands page fields root leftmost marks entries packing
     → HasHeapNumbers page (packed_chain packing.records)
-has_heap_numbers page fields root leftmost entries packing is =
+has_heap_numbers page fields root leftmost marks entries packing is =
     let records : List Pushed = packing.records in
     let g : ℕ → ℕ = origin_at records in
     let n : ℕ = length records in
@@ -219,27 +223,28 @@ has_heap_numbers page fields root leftmost entries packing is =
           λ same. omega (arith, a, b, same);
     }
 
-entry_ends : (page : List ℕ) (fields : Fields) (root leftmost : Bool) (entries : List Entry) (packing : Packing)
-    → Stands page fields root leftmost entries packing
+entry_ends : (page : List ℕ) (fields : Fields) (root leftmost : Bool) (marks : ℕ → Bool) (entries : List Entry)
+    (packing : Packing)
+    → Stands page fields root leftmost marks entries packing
     → (k : ℕ) → k < length packing.records
     → record_end page (origin_at packing.records k) fields ≡ start_of packing.records (k + 1)
-entry_ends page fields root leftmost entries packing is =
+entry_ends page fields root leftmost marks entries packing is =
     let records : List Pushed = packing.records in
     let n : ℕ = length records in
     λ k below.
     let count = is.packed.pushed.count in
-    let lowest : Bool = is_lowest_first (is_leaf packing.level) leftmost in
-    let pushed = pushed_as fields packing.level (lowest && (k == 0)) k (entry_at entries k) (pushed_at records k)
+    let pushed = pushed_as fields packing.level (marks k) k (entry_at entries k) (pushed_at records k)
     (is.packed.pushed.each k (omega arith)) in
     let long : length (pushed_at records k).bytes ≡ size_of_record fields (entry_at entries k) =
     ap length pushed.bytes
-    ∙ length-record_bytes fields (entry_at entries k) (2 + k) (status_on packing.level) (lowest && (k == 0)) in
+    ∙ length-record_bytes fields (entry_at entries k) (2 + k) (status_on packing.level) (marks k) in
     (is.entry k below).ends ∙ ap (λ (m : ℕ). start_of records k + m) (sym long) ∙ sym (start_more records k below)
 
-lie_apart : (page : List ℕ) (fields : Fields) (root leftmost : Bool) (entries : List Entry) (packing : Packing)
-    → Stands page fields root leftmost entries packing
+lie_apart : (page : List ℕ) (fields : Fields) (root leftmost : Bool) (marks : ℕ → Bool) (entries : List Entry)
+    (packing : Packing)
+    → Stands page fields root leftmost marks entries packing
     → LieApart page fields (packed_chain packing.records)
-lie_apart page fields root leftmost entries packing is =
+lie_apart page fields root leftmost marks entries packing is =
     let records : List Pushed = packing.records in
     let g : ℕ → ℕ = origin_at records in
     let n : ℕ = length records in
@@ -252,21 +257,22 @@ lie_apart page fields root leftmost entries packing is =
           let first = facts.first in
           let last = facts.last in
           let starts = (is.entry k below).starts in
-          let ends = entry_ends page fields root leftmost entries packing is k below in
+          let ends = entry_ends page fields root leftmost marks entries packing is k below in
           let more = start_more records k below in
           record { least = omega arith; most = omega arith });
       apart = pairs_chain (AreApart page fields) g n
           (λ i j before below.
           let first : i < n = omega arith in
           let starts = (is.entry j below).starts in
-          let ends = entry_ends page fields root leftmost entries packing is i first in
+          let ends = entry_ends page fields root leftmost marks entries packing is i first in
           inl (omega (arith, starts, ends, starts_rise records (i + 1) j (omega arith))));
     }
 
-keys_rise : (page : List ℕ) (fields : Fields) (root leftmost : Bool) (entries : List Entry) (packing : Packing)
-    → Stands page fields root leftmost entries packing
+keys_rise : (page : List ℕ) (fields : Fields) (root leftmost : Bool) (marks : ℕ → Bool) (entries : List Entry)
+    (packing : Packing)
+    → Stands page fields root leftmost marks entries packing
     → KeysRise page fields (is_lowest_first (is_leaf packing.level) leftmost) (packed_chain packing.records)
-keys_rise page fields root leftmost entries packing is =
+keys_rise page fields root leftmost marks entries packing is =
     let records : List Pushed = packing.records in
     let g : ℕ → ℕ = origin_at records in
     let n : ℕ = length records in
@@ -287,30 +293,11 @@ keys_rise page fields root leftmost entries packing is =
       | inr before ↦ inr (rw (here, next) before)
     ]
 
-has_mark : (page : List ℕ) (fields : Fields) (root leftmost : Bool) (entries : List Entry) (packing : Packing)
-    → Stands page fields root leftmost entries packing
-    → HasMinimumMark page (is_leaf packing.level) leftmost (packed_chain packing.records)
-has_mark page fields root leftmost entries packing is =
-    let records : List Pushed = packing.records in
-    let g : ℕ → ℕ = origin_at records in
-    let n : ℕ = length records in
-    let laid : AreLaid records = is.laid in
-    let lowest : Bool = is_lowest_first (is_leaf packing.level) leftmost in
-    let size : length (packed_chain records) ≡ n = length-map-range_with_len g 0 n in
-    λ k inside.
-    let below : k < n = omega arith in
-    let mark : is_minimum page (get_or (packed_chain records) k 0) ≡ (lowest && (k == 0)) =
-    ap (λ (o : ℕ). is_minimum page o) (get_or-map-range_with_len g 0 n k k 0 below (omega arith))
-    ∙ (is.entry k below).mark in (
-      λ marked.
-          let parts = and_parts lowest (k == 0) (sym mark ∙ marked) in (eqb-true k 0 parts.1, parts.0),
-      λ first. mark ∙ and_from lowest (k == 0) first.1 (eq-eqb k 0 first.0),
-    )
-
-is_index_page : (page : List ℕ) (fields : Fields) (root leftmost : Bool) (entries : List Entry) (packing : Packing)
-    → Stands page fields root leftmost entries packing
+is_index_page : (page : List ℕ) (fields : Fields) (root leftmost : Bool) (marks : ℕ → Bool) (entries : List Entry)
+    (packing : Packing)
+    → Stands page fields root leftmost marks entries packing
     → IsIndexPage page fields (is_leaf packing.level) root leftmost (packed_chain packing.records)
-is_index_page page fields root leftmost entries packing is =
+is_index_page page fields root leftmost marks entries packing is =
     let records : List Pushed = packing.records in
     let g : ℕ → ℕ = origin_at records in
     let n : ℕ = length records in
@@ -322,25 +309,25 @@ is_index_page page fields root leftmost entries packing is =
     record {
       header = has_header page packing is.numbers is.fits;
       ends = is.ends.has_ends;
-      is_chain = has_chain page fields root leftmost entries packing is;
+      is_chain = has_chain page fields root leftmost marks entries packing is;
       free = [];
-      is_free = has_free page fields root leftmost entries packing is;
+      is_free = has_free page fields root leftmost marks entries packing is;
       heap_numbers = subst (λ (xs : List ℕ). HasHeapNumbers page xs) none
-          (has_heap_numbers page fields root leftmost entries packing is);
+          (has_heap_numbers page fields root leftmost marks entries packing is);
       directory = is.directory;
       kinds = all_chain (HasKind page (is_leaf packing.level)) g n (λ k below. (is.entry k below).status);
       spelled = subst (λ (xs : List ℕ). AreSpelled page fields xs) none
           (all_chain (λ o. IsSpelled page o fields) g n (λ k below. (is.entry k below).read.spelled));
       room = subst (λ (xs : List ℕ). LieApart page fields xs) none
-          (lie_apart page fields root leftmost entries packing is);
+          (lie_apart page fields root leftmost marks entries packing is);
       some_record = λ empty. is.packed.some_entry (omega arith);
-      rise = keys_rise page fields root leftmost entries packing is;
+      rise = keys_rise page fields root leftmost marks entries packing is;
     }
 
-holds_entries : (page : List ℕ) (fields : Fields) (root leftmost : Bool) (entries : List Entry) (packing : Packing)
-    → Stands page fields root leftmost entries packing
-    → HoldsEntries page fields (is_leaf packing.level) root leftmost entries
-holds_entries page fields root leftmost entries packing is =
+holds_records : (page : List ℕ) (fields : Fields) (root leftmost : Bool) (marks : ℕ → Bool) (entries : List Entry)
+    (packing : Packing) → Stands page fields root leftmost marks entries packing
+    → HoldsRecords page fields (is_leaf packing.level) root leftmost marks entries
+holds_records page fields root leftmost marks entries packing is =
     let records : List Pushed = packing.records in
     let g : ℕ → ℕ = origin_at records in
     let n : ℕ = length records in
@@ -348,13 +335,14 @@ holds_entries page fields root leftmost entries packing is =
     let leaf : Bool = is_leaf packing.level in
     let chain : List ℕ = packed_chain records in
     let count = is.packed.pushed.count in
-    let same : chain ≡ records_of page = chain_is page chain (has_chain page fields root leftmost entries packing is) in
+    let same : chain ≡ records_of page =
+    chain_is page chain (has_chain page fields root leftmost marks entries packing is) in
     let place : (k : ℕ) → k < n → g k ≡ get_or (records_of page) k 0 =
     λ k below.
     sym (get_or-map-range_with_len g 0 n k k 0 below (omega arith)) ∙ ap (λ (xs : List ℕ). get_or xs k 0) same in
     record {
       is_page = subst (λ (xs : List ℕ). IsIndexPage page fields leaf root leftmost xs) same
-          (is_index_page page fields root leftmost entries packing is);
+          (is_index_page page fields root leftmost marks entries packing is);
       count = is.numbers.count ∙ count;
       read = λ k inside.
           let below : k < n = omega arith in
@@ -362,22 +350,48 @@ holds_entries page fields root leftmost entries packing is =
       live = λ k inside.
           let below : k < n = omega arith in
           subst (λ (o : ℕ). is_deleted page o ≡ false) (place k below) (is.entry k below).live;
-      mark = subst (λ (xs : List ℕ). HasMinimumMark page leaf leftmost xs) same
-          (has_mark page fields root leftmost entries packing is);
+      marked = λ k inside.
+          let below : k < n = omega arith in
+          subst (λ (o : ℕ). is_minimum page o ≡ marks k) (place k below) (is.entry k below).mark;
     }
 
+-- the marks of a page of a tree
+has_mark : (page : List ℕ) (fields : Fields) (leaf root leftmost : Bool) (entries : List Entry)
+    → HoldsRecords page fields leaf root leftmost (lowest_mark (is_lowest_first leaf leftmost)) entries
+    → HasMinimumMark page leaf leftmost (records_of page)
+has_mark page fields leaf root leftmost entries held k inside =
+    let lowest : Bool = is_lowest_first leaf leftmost in
+    let count = held.count in
+    let counted = held.is_page.is_chain.counted in
+    let mark : is_minimum page (get_or (records_of page) k 0) ≡ (lowest && (k == 0)) = held.marked k (omega arith) in (
+      λ marked.
+          let parts = and_parts lowest (k == 0) (sym mark ∙ marked) in (eqb-true k 0 parts.1, parts.0),
+      λ first. mark ∙ and_from lowest (k == 0) first.1 (eq-eqb k 0 first.0),
+    )
+
+-- what was pushed is held by its page
+pub packs_pushed : PacksPushed
+packs_pushed packing page prev next index_id heads room has fields root leftmost marks entries is suit =
+    holds_records page fields root leftmost marks entries packing
+    (stands_packed page fields root leftmost marks entries packing prev next index_id heads
+    (suited_entries fields root leftmost marks entries packing is room suit) has)
+
 pub packs_index_page : PacksIndexPage
-unfolding packing_of
+unfolding packing_with
 packs_index_page page fields level root leftmost entries prev next index_id heads make has =
-    let packing : Packing = packing_of fields level (is_lowest_first (is_leaf level) leftmost) entries in
-    holds_entries page fields root leftmost entries packing
-    (stands_packed page fields root leftmost entries packing prev next index_id heads
-    (packed_entries fields level root leftmost entries make) has)
+    let marks : ℕ → Bool = lowest_mark (is_lowest_first (is_leaf level) leftmost) in
+    let packing : Packing = packing_with fields level marks entries in
+    let held : HoldsRecords page fields (is_leaf level) root leftmost marks entries =
+    holds_records page fields root leftmost marks entries packing
+    (stands_packed page fields root leftmost marks entries packing prev next index_id heads
+    (packed_entries fields level root leftmost marks entries make) has) in
+    record { held = held; mark = has_mark page fields (is_leaf level) root leftmost entries held }
 
 pub packs_whole_page : PacksWholePage
 packs_whole_page fields level root leftmost entries prev next index_id heads make =
-    let packing : Packing = packing_of fields level (is_lowest_first (is_leaf level) leftmost) entries in
-    let packed : ArePacked fields root leftmost entries packing = packed_entries fields level root leftmost entries make in
-    let whole = are_whole fields packing.level (is_lowest_first (is_leaf packing.level) leftmost) entries packing.records
-    packed.pushed in
+    let marks : ℕ → Bool = lowest_mark (is_lowest_first (is_leaf level) leftmost) in
+    let packing : Packing = packing_with fields level marks entries in
+    let packed : ArePacked fields root leftmost marks entries packing =
+    packed_entries fields level root leftmost marks entries make in
+    let whole = are_whole fields packing.level marks entries packing.records packed.pushed in
     length-packed_page packing prev next index_id heads whole packed.fit

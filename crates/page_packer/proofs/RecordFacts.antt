@@ -50,14 +50,14 @@ whole_of fields level minimum k entry pushed is =
     let place = is.origin ∙ origin_is fields entry in
     record { least = omega arith; most = omega arith }
 
-pub are_whole : (fields : Fields) (level : ℕ) (lowest : Bool) (entries : List Entry) (records : List Pushed)
-    → ArePushed fields level lowest entries records → AreWhole records
-are_whole fields level lowest entries records are =
+pub are_whole : (fields : Fields) (level : ℕ) (marks : ℕ → Bool) (entries : List Entry) (records : List Pushed)
+    → ArePushed fields level marks entries records → AreWhole records
+are_whole fields level marks entries records are =
     let count = are.count in
     record {
       each = λ k below.
-          whole_of fields level (lowest && (k == 0)) k (entry_at entries k) (pushed_at records k)
-          (pushed_as fields level (lowest && (k == 0)) k (entry_at entries k) (pushed_at records k)
+          whole_of fields level (marks k) k (entry_at entries k) (pushed_at records k)
+          (pushed_as fields level (marks k) k (entry_at entries k) (pushed_at records k)
           (are.each k (omega arith)));
     }
 
@@ -207,18 +207,17 @@ pub record EntryStands (page : List ℕ) (fields : Fields) (entry : Entry) (orig
   pub leads : next_field page origin ≡ next
 
 pub entry_stands : (page : List ℕ) (packing : Packing) (index_id : ℕ) (heads : Option Heads) (fields : Fields)
-    (lowest : Bool) (entry : Entry) (k : ℕ)
+    (minimum : Bool) (entry : Entry) (k : ℕ)
     → HasPieces page packing index_id heads → AreLaid packing.records → k < length packing.records
     → AreFields fields → FitFields fields entry
-    → IsPushedAs fields packing.level (lowest && (k == 0)) k entry (pushed_at packing.records k)
+    → IsPushedAs fields packing.level minimum k entry (pushed_at packing.records k)
     → EntryStands page fields entry (origin_at packing.records k) (start_of packing.records k) (2 + k)
     (status_on packing.level) (owned_at (length packing.records) k) (next_of_record packing.records k)
-    (lowest && (k == 0))
-entry_stands page packing index_id heads fields lowest entry k has laid below are fit is =
+    minimum
+entry_stands page packing index_id heads fields minimum entry k has laid below are fit is =
     let records = packing.records in
     let r : Pushed = pushed_at records k in
     let kind : ℕ = status_on packing.level in
-    let minimum : Bool = lowest && (k == 0) in
     let owned : ℕ = owned_at (length records) k in
     let next : ℕ = next_of_record records k in
     let bytes : List ℕ = record_bytes fields entry (2 + k) kind minimum in

@@ -28,15 +28,21 @@ entries_size fields entries = sum_by (size_of_record fields) entries
 abbrev pub entries_fit : Fields → List Entry → Bool
 entries_fit fields entries = sizes_fit (length entries) (entries_size fields entries)
 
--- an entry as a record of its page; the first one of a lowest page has the minimum mark
-abbrev pub pushed_entry : Fields → ℕ → Bool → ℕ × Entry → Pushed
-pushed_entry fields level lowest_first entry =
-    pushed_record level entry.0 fields entry.1 (lowest_first && (entry.0 == 0))
+-- an entry as a record of its page, with the minimum mark or without it
+abbrev pub pushed_entry : Fields → ℕ → (ℕ → Bool) → ℕ × Entry → Pushed
+pushed_entry fields level marks entry = pushed_record level entry.0 fields entry.1 (marks entry.0)
 
--- all of them, pushed in order
-unfoldable pub packing_of : Fields → ℕ → Bool → List Entry → Packing
-packing_of fields level lowest_first entries =
-    record { level = level; records = map (pushed_entry fields level lowest_first) (enumerate_from 0 entries) }
+-- entries that were pushed in order; `marks k` says whether entry k was pushed with the minimum mark
+unfoldable pub packing_with : Fields → ℕ → (ℕ → Bool) → List Entry → Packing
+packing_with fields level marks entries =
+    record { level = level; records = map (pushed_entry fields level marks) (enumerate_from 0 entries) }
+
+-- on a page of a tree the first entry of a lowest page has it
+abbrev pub lowest_mark : Bool → ℕ → Bool
+lowest_mark lowest_first k = lowest_first && (k == 0)
+
+abbrev pub packing_of : Fields → ℕ → Bool → List Entry → Packing
+packing_of fields level lowest_first entries = packing_with fields level (lowest_mark lowest_first) entries
 
 -- their page, which may be the leftmost one of its level
 abbrev pub page_of_entries : Fields → ℕ → Bool → List Entry → ℕ → ℕ → ℕ → Option Heads → List ℕ
@@ -50,14 +56,18 @@ EntriesRise fields lowest_first entries =
     ⊎ IsBelow (key_kinds fields) (key_of_parts fields (entry_at entries k))
     (key_of_parts fields (entry_at entries (k + 1)))
 
--- these entries may make a page that stands so in its tree: they are of one field list, their keys rise, they fit, and
--- there is one, unless the page is the root of a tree without rows
-pub record MakePage (fields : Fields) (level : ℕ) (root leftmost : Bool) (entries : List Entry) : Type 0 where
+-- these entries suit a page that stands so in its tree: they are of one field list, their keys rise, and there is one,
+-- unless the page is the root of a tree without rows
+pub record SuitPage (fields : Fields) (level : ℕ) (root leftmost : Bool) (entries : List Entry) : Type 0 where
   pub are_fields : AreFields fields
   pub fit : All (FitFields fields) entries
   pub rise : EntriesRise fields (is_lowest_first (is_leaf level) leftmost) entries
-  pub room : entries_fit fields entries ≡ true
   pub some_entry : length entries ≡ 0 → (is_leaf level ≡ true) × (root ≡ true)
+
+-- so they may make that page, if they have room there
+pub record MakePage (fields : Fields) (level : ℕ) (root leftmost : Bool) (entries : List Entry) : Type 0 where
+  pub suit : SuitPage fields level root leftmost entries
+  pub room : entries_fit fields entries ≡ true
 
 -- the pointer to page n, whose first entry this is: the fields of its key, and the number
 unfoldable pub pointer_to : ℕ → Entry → ℕ → Entry

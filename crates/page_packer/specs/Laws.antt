@@ -1,31 +1,54 @@
 -- The page of entries of one field list whose keys rise is an index page with these entries.
-use Rattle.std.specs.Prelude.{◌≡◌, ℕ, ◌^◌, ◌<◌, ⊤, Bool, false, ◌&&◌, ◌==◌, List, [], ◌∷◌, ◌++◌, length, slice_index}
+use Rattle.std.specs.Prelude.{◌≡◌, ℕ, ◌^◌, ◌<◌, ⊤, Bool, true, false, List, [], ◌∷◌, ◌++◌, length, slice_index}
 use Rattle.std.specs.Prelude.{slice_range}
 use Rattle.std.specs.Prelude.{Option, Some, None}
 use Rattle.page_source.specs.Pages.{num}
 use Rattle.fil_frame.specs.Frame.{previous_page, next_page, Seals, sealed}
 use Rattle.column_values.specs.Types.{Fields, AreOfOneIndex}
-use Rattle.compact_record.specs.Header.{is_deleted}
+use Rattle.compact_record.specs.Header.{is_minimum, is_deleted}
 use Rattle.compact_record.specs.Writing.{FitFields, size_of_record, key_of_parts, child_of_parts}
 use Rattle.compact_record.specs.Laws.{AreReadAs}
 use Rattle.index_page.specs.Header.{record_count, records_of, level_of, index_id_of}
-use Rattle.index_page.specs.Page.{IsIndexPage, HasMinimumMark}
+use Rattle.index_page.specs.Page.{is_lowest_first, IsIndexPage, HasMinimumMark}
 use Rattle.page_packer.specs.declared.packer.Heads.{Heads}
-use Rattle.page_packer.specs.Packing.{is_leaf, none_packed, with_record, fits_more}
-use Rattle.page_packer.specs.Entries.{Entry, entry_at, entries_fit, packing_of, page_of_entries, MakePage, pointer_to}
+use Rattle.page_packer.specs.Packing.{Packing, is_leaf, none_packed, with_record, total_size, sizes_fit, fits_more}
+use Rattle.page_packer.specs.Packing.{packed_page}
+use Rattle.page_packer.specs.Entries.{Entry, entry_at, entries_fit, packing_with, lowest_mark, page_of_entries}
+use Rattle.page_packer.specs.Entries.{SuitPage, MakePage, pointer_to}
 
 -- the page has the links and the body of another one, whatever its frame
 pub record HasBodyOf (other page : List ℕ) : Type 0 where
   pub links : slice_range page 8 16 ≡ slice_range other 8 16
   pub body : slice_range page 38 16376 ≡ slice_range other 38 16376
 
--- the page is an index page whose records are these entries, and none of them is deleted
-pub record HoldsEntries (page : List ℕ) (fields : Fields) (leaf root leftmost : Bool) (entries : List Entry)
-    : Type 0 where
+-- the page is an index page whose records are these entries, each with the minimum mark if it has one, and none of
+-- them is deleted
+pub record HoldsRecords (page : List ℕ) (fields : Fields) (leaf root leftmost : Bool) (marks : ℕ → Bool)
+    (entries : List Entry) : Type 0 where
   pub is_page : IsIndexPage page fields leaf root leftmost (records_of page)
   pub count : record_count page ≡ length entries
   pub read : (k : ℕ) → k < length entries → AreReadAs page (slice_index (records_of page) k) fields (entry_at entries k)
   pub live : (k : ℕ) → k < length entries → is_deleted page (slice_index (records_of page) k) ≡ false
+  pub marked : (k : ℕ) → k < length entries → is_minimum page (slice_index (records_of page) k) ≡ marks k
+
+-- the page of a packing holds what was pushed: any entries that suit it, whichever of them have the minimum mark
+abbrev pub HoldsPushed : Packing → List ℕ → Type 0
+HoldsPushed packing page =
+    (fields : Fields) (root leftmost : Bool) (marks : ℕ → Bool) (entries : List Entry)
+    → packing ≡ packing_with fields packing.level marks entries → SuitPage fields packing.level root leftmost entries
+    → HoldsRecords page fields (is_leaf packing.level) root leftmost marks entries
+
+-- so it does, if what was pushed fits, also when it is sealed
+abbrev pub PacksPushed : Type 0
+PacksPushed =
+    (packing : Packing) (page : List ℕ) (prev next index_id : ℕ) (heads : Option Heads)
+    → sizes_fit (length packing.records) (total_size packing.records) ≡ true
+    → HasBodyOf (packed_page packing prev next index_id heads) page → HoldsPushed packing page
+
+-- the page holds these entries, and has the minimum mark where a page of a tree has it
+pub record HoldsEntries (page : List ℕ) (fields : Fields) (leaf root leftmost : Bool) (entries : List Entry)
+    : Type 0 where
+  pub held : HoldsRecords page fields leaf root leftmost (lowest_mark (is_lowest_first leaf leftmost)) entries
   pub mark : HasMinimumMark page leaf leftmost (records_of page)
 
 -- the entries of a page are held by it, also when it is sealed
@@ -45,20 +68,19 @@ PacksWholePage =
     → MakePage fields level root leftmost entries
     → length (page_of_entries fields level leftmost entries prev next index_id heads) ≡ 16384
 
--- to push entries one after another is to push them all
-pub record PushesInOrder (fields : Fields) (level : ℕ) (lowest_first : Bool) (entries : List Entry) (entry : Entry)
+-- to push entries one after another is to push them all, with whichever marks
+pub record PushesInOrder (fields : Fields) (level : ℕ) (marks : ℕ → Bool) (entries : List Entry) (entry : Entry)
     : Type 0 where
-  pub none : none_packed level ≡ packing_of fields level lowest_first []
-  pub more : with_record (packing_of fields level lowest_first entries) fields entry
-      (lowest_first && (length entries == 0))
-      ≡ packing_of fields level lowest_first (entries ++ entry ∷ [])
-  pub fits : fits_more (packing_of fields level lowest_first entries) (size_of_record fields entry)
+  pub none : none_packed level ≡ packing_with fields level marks []
+  pub more : with_record (packing_with fields level marks entries) fields entry (marks (length entries))
+      ≡ packing_with fields level marks (entries ++ entry ∷ [])
+  pub fits : fits_more (packing_with fields level marks entries) (size_of_record fields entry)
       ≡ entries_fit fields (entries ++ entry ∷ [])
 
 abbrev pub PushesEntries : Type 0
 PushesEntries =
-    (fields : Fields) (level : ℕ) (lowest_first : Bool) (entries : List Entry) (entry : Entry)
-    → PushesInOrder fields level lowest_first entries entry
+    (fields : Fields) (level : ℕ) (marks : ℕ → Bool) (entries : List Entry) (entry : Entry)
+    → PushesInOrder fields level marks entries entry
 
 -- what a pointer to page n says, whose first entry is known
 pub record IsPointer (lower upper : Fields) (first : Entry) (n : ℕ) : Type 0 where

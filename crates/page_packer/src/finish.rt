@@ -5,6 +5,7 @@ ghost use Rattle.page_source.specs.Pages.{with_bytes};
 ghost use Rattle.page_packer.specs.Packing.{slots_for, next_of_record, page_header, end_bytes, origin_at, slot_origin};
 ghost use Rattle.page_packer.specs.Packing.{start_of, pushed_at, linked_bytes, heap_bytes, directory_bytes};
 ghost use Rattle.page_packer.specs.Packing.{packed_page};
+ghost use Rattle.page_packer.specs.Laws.{HoldsPushed};
 
 use crate::packer::{Heads, Packer};
 use crate::parts::{
@@ -149,7 +150,7 @@ impl Packer {
     }
 
     /// Makes `page` the page of the pushed records, with these neighbours, this index id and these segment headers. Its
-    /// frame isn't made yet.
+    /// frame isn't made yet. It is an index page if the records are entries of one field list whose keys rise.
     pub fn finish(
         &mut self,
         prev: u32,
@@ -159,6 +160,7 @@ impl Packer {
         page: &mut Page,
     )
         ensures page { page.new ≡ packed_page self.old prev next index_id heads }
+        ensures holds { HoldsPushed self.old page.new }
         ensures same { self.new ≡ self.old }
     {
         prove!(self.top() <= PAGE_SIZE);

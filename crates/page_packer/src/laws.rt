@@ -1,15 +1,17 @@
 //! What a packed page holds, each the contract of a function that does nothing.
 
-ghost use Rattle.page_packer.specs.Laws.{PacksIndexPage, PacksWholePage, PushesEntries, PacksNumbers, PointersPoint};
-ghost use Rattle.page_packer.specs.Laws.{HasOwnBody, SealingKeepsBody, SealedHasBody};
+ghost use Rattle.page_packer.specs.Laws.{PacksPushed, PacksIndexPage, PacksWholePage, PushesEntries};
+ghost use Rattle.page_packer.specs.Laws.{PacksNumbers, PointersPoint, HasOwnBody, SealingKeepsBody, SealedHasBody};
 
 /// To push entries one after another is to push them all.
 pub fn entries_are_pushed_in_order()
     ensures { PushesEntries }
 {}
 
-/// Entries that may make a page are held by their page, in order, as the records of an index page.
+/// Entries that may make a page are held by their page, in order, as the records of an index page: whichever of them
+/// have the minimum mark, and so those of a page of a tree.
 pub fn a_page_holds_its_entries()
+    ensures pushed { PacksPushed }
     ensures entries { PacksIndexPage }
     ensures whole { PacksWholePage }
 {}

@@ -1,9 +1,10 @@
-use Rattle.std.proofs.Common.{◌≡◌, ◌+◌, ℕ, length, reverse, sym, ap, ◌∙◌, arith}
+use Rattle.std.proofs.Common.{◌≡◌, ◌+◌, ℕ, List, length, reverse, sym, ap, ◌∙◌, subst, arith}
 use Rattle.page_source.specs.Pages.{with_bytes}
 use Rattle.compact_record.specs.Reading.{null_bytes}
 use Rattle.compact_record.specs.Writing.{all_lengths, all_null_bytes, header_bytes, value_bytes}
 use Rattle.compact_record.proofs.ReadParts.{length-bytes_below}
-use Rattle.compact_record.proofs.Placed.{size_is, origin_is}
+use Rattle.compact_record.specs.Laws.{IsReadAgain}
+use Rattle.compact_record.proofs.Placed.{size_is, origin_is, reads_what_is_placed}
 use Rattle.compact_record.proofs.WriteSteps.{record_put}
 use Rattle.compact_record.proofs.writing.place_record.Goals as goal
 
@@ -80,3 +81,13 @@ returns-clause-end c =
     let origin = c.put_header-origin.ensures.end in
     let end = c.put_values-end.ensures.end in
     omega (arith, size_is fields parts, length-bytes_below fields parts)
+
+pub returns-clause-read : goal.returns-clause-read
+returns-clause-read c = λ are.
+    let fields = c.args.fields.now in
+    let parts = c.args.parts.now in
+    let long : length c.args.page.now ≡ 16384 = ap length (sym c.bytes.ensures.same) ∙ c.bytes.ensures.size in
+    subst (λ (page : List ℕ). IsReadAgain page c.args.at c.args.heap c.args.kind c.args.minimum fields parts)
+    (sym (returns-clause-page c))
+    (reads_what_is_placed c.args.page.now c.args.at c.args.heap c.args.kind c.args.minimum fields parts long are
+    c.requires)
