@@ -13,6 +13,7 @@ use Rattle.tree_layout.specs.Entries.{Entry, EntriesAscend}
 use Rattle.tree_layout.specs.Division.{pointers_to, FitsAlone, HasSmallPointers, divided, tree_levels, level_counts}
 use Rattle.tree_layout.specs.Division.{CanDivide}
 use Rattle.tree_layout.specs.DivisionLaws.{PointersAreSmall}
+use Rattle.tree_layout.specs.FullPages.{IsDivision}
 
 key_field : Field
 key_field = record { kind = kinds.Column (types.Int 4 true); nullable = false; may_leave = false }
@@ -40,6 +41,11 @@ two_levels : level_counts (tree_levels leaf node (λ l k. 0) rows) ≡ 2 ∷ 1 �
 unfolding leaf node key_field text_field row rows tree_levels divided pointers_to size_of_record origin_in bytes_below
     value_bytes
 two_levels = refl
+
+-- one row on each leaf is no division of them, since the first page has room for the second row
+one_each : ¬ (IsDivision leaf rows ((row 1 ∷ []) ∷ (row 2 ∷ []) ∷ (row 3 ∷ []) ∷ []))
+unfolding leaf key_field text_field row rows size_of_record origin_in bytes_below value_bytes
+one_each is = is.closed 0 (omega arith) refl
 
 row_fits : (k : ℕ) → FitFields leaf (row k)
 unfolding leaf key_field text_field row

@@ -15,5 +15,6 @@ pub mod Held
 pub mod Example
 pub mod Sorting
 pub mod Pushing
+pub mod FullPages
 pub mod Counting
 pub mod DividedRows

@@ -1,6 +1,6 @@
 -- How many pages the levels of a tree have, by the sizes of its records and pointers alone.
 use Rattle.std.specs.Prelude.{◌≡◌, ℕ, zero, suc, ◌+◌, ◌≤◌, ◌==◌, nat_le, if◌then◌else◌, List, [], ◌∷◌, ◌++◌, length}
-use Rattle.std.specs.Prelude.{map}
+use Rattle.std.specs.Prelude.{map, Bool, not, ◌||◌}
 use Rattle.column_values.specs.Types.{Fields}
 use Rattle.compact_record.specs.Writing.{size_of_record}
 use Rattle.page_packer.specs.Packing.{sizes_fit}
@@ -28,6 +28,10 @@ pub record IsSmallCut (count total : ℕ) : Type 0 where
 
 abbrev pub nothing_cut : Cutting
 nothing_cut = record { closed = []; count = 0; total = 0; first = 0 }
+
+-- a record of this size would be the first of a page
+abbrev pub begins_page : Cutting → ℕ → Bool
+begins_page cutting size = (cutting.count == 0) || not (sizes_fit (cutting.count + 1) (cutting.total + size))
 
 -- one more record: on the open page where there is room, and else on a new one
 unfoldable pub one_more : Cutting → Weight → Cutting

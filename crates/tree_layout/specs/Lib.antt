@@ -6,6 +6,7 @@ pub mod Divided
 pub mod Places
 pub mod Sorted
 pub mod Steps
+pub mod FullPages
 pub mod Counting
 pub mod TreeLaws
 pub mod DivisionLaws

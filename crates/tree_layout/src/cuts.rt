@@ -2,7 +2,7 @@
 
 ghost use Rattle.std.specs.Prelude.{◌≡◌, ◌≤◌, IfOk, OnOk, OnErr, length};
 ghost use Rattle.page_packer.specs.Packing.{sizes_fit};
-ghost use Rattle.tree_layout.specs.Counting.{nothing_cut, one_more, pages_of, level_above, counts_from};
+ghost use Rattle.tree_layout.specs.Counting.{nothing_cut, begins_page, one_more, pages_of, level_above, counts_from};
 
 use page_source::NoMemory;
 use std::alloc::Global;
@@ -57,6 +57,13 @@ impl Cut {
             total: 0,
             first: 0,
         }
+    }
+
+    /// Whether a record of this size would be the first of a page.
+    pub fn begins(&self, size: u16) -> bool
+        ensures { result ≡ begins_page self.now size }
+    {
+        self.count == 0 || !fits(self.count + 1, self.total + u32::from(size))
     }
 
     /// Adds a record: on the open page where there is room, and else on a new one.

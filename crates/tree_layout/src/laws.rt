@@ -10,6 +10,7 @@ ghost use Rattle.tree_layout.specs.Counting.{CountsAreCut};
 ghost use Rattle.tree_layout.specs.PlaceLaws.{NumbersAreDifferent, PagesFillPlaces};
 ghost use Rattle.tree_layout.specs.Sorted.{SortingRises};
 ghost use Rattle.tree_layout.specs.Steps.{DivisionGoesOn, LevelsStand};
+ghost use Rattle.tree_layout.specs.FullPages.{DividedIsDivision, HaveOneDivision, TreesAreDivided};
 
 use index_page::laws::checks_are_an_index_page;
 use tree_walk::laws::{checks_are_wholeness, levels_have_the_pages, rows_by_leaves};
@@ -111,6 +112,21 @@ pub fn division_goes_on()
 pub fn levels_stand()
     ensures { LevelsStand }
 {}
+
+/// The pages of a level are as full as they can be: each is closed only if the next entry doesn't fit. No other pages
+/// of these entries are so.
+pub fn pages_are_full()
+    ensures divides { DividedIsDivision }
+    ensures one { HaveOneDivision }
+{}
+
+/// The levels of a tree are divided so, each the pointers to the one below it, up to a root alone. No other levels are.
+pub fn trees_are_divided()
+    ensures { TreesAreDivided }
+{
+    levels_stand();
+    division_gives_levels();
+}
 
 /// The trees into which the entries of some indexes are divided are whole where a file holds them, no page of them
 /// comes twice, and they have these entries as their rows.
