@@ -19,7 +19,7 @@ mod ValidLaw
 mod Checks
 mod AuditDecisions
 mod AuditAnswer
-mod PageDecisions
+pub mod PageDecisions
 mod TreeAnswer
-mod ValueDecisions
+pub mod ValueDecisions
 mod ValueAnswer

@@ -33,7 +33,7 @@ passing p xs i d h e =
 held : (index : Index) (leaf : Leaf) (origin j : ℕ) → HasGiven index leaf origin (j + 1)
     → leaf.page ≡ page_in index leaf.number
 held index leaf origin j (inl h) = absurd (omega (arith, h.0))
-held index leaf origin j (inr h) = h.1.held
+held index leaf origin j (inr h) = h.1.on.held
 
 -- the row found has the mark that its record has
 mark : (index : Index) (j origin : ℕ) (leaf : Leaf) (b : Bool) → FindsRow index j (Ok (Some origin)) leaf

@@ -31,6 +31,7 @@ use Rattle.schema_text.specs.IndexFields.{leaf_fields}
 use Rattle.tree_walk.specs.declared.ends.TreeEnds.{TreeEnds}
 use Rattle.tree_walk.specs.Index.{Index, Row, page_in, rows_on, leaf_pages, leaf_rows, is_live_row}
 use Rattle.tree_walk.specs.Laws.{RowsCanBeRead}
+use Rattle.tree_walk.specs.Ends.{lies_whole}
 use Rattle.tree_walk.specs.Leaf.{IsWalked}
 use Rattle.tree_walk.specs.Records.{IsRecord}
 use Rattle.tree_walk.specs.Segments.{leaf_segment}
@@ -215,7 +216,7 @@ module _ (index : Index) (walked : IsWalked index) (can : RowsCanBeRead)
 
 -- so it is with a table
 module _ (file : List ℕ) (table : TableDef) (ends : TreeEnds) (fields : Fields) (can : RowsCanBeRead)
-    (clustered : IsClustered file table ends) (whole : ends.whole ≡ true) (list : fields ≡ leaf_fields table 0)
+    (clustered : IsClustered file table ends) (whole : lies_whole ends ≡ true) (list : fields ≡ leaf_fields table 0)
     (any : TakeAnyBytes fields) where
   any_here : TakeAnyBytes (clustered_tree file table).leaf
   unfolding index_in

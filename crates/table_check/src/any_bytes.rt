@@ -1,6 +1,7 @@
 //! Columns of which any bytes are values.
 
 ghost use Rattle.std.specs.Prelude.{◌≡◌, IsTrue, true};
+ghost use Rattle.tree_walk.specs.Ends.{lies_whole};
 ghost use Rattle.table_check.specs.AnyBytes.{takes_any_bytes, field_takes_any, TakeAnyBytes};
 
 use column_values::{ColumnType, FieldList, FieldType};
@@ -45,7 +46,7 @@ fn take_any_bytes(fields: &FieldList) -> bool
 /// Whether no value can be wrong of the rows of a tree with these ends: all lie whole on their leaves, in no more bytes
 /// than their types take, and any such bytes spell a value.
 pub(crate) fn need_no_look(ends: &TreeEnds, fields: &FieldList) -> bool
-    ensures { IsTrue result → (ends.now.whole ≡ true) × TakeAnyBytes fields.now }
+    ensures { IsTrue result → (lies_whole ends.now ≡ true) × TakeAnyBytes fields.now }
 {
-    ends.whole && take_any_bytes(fields)
+    ends.lies_whole() && take_any_bytes(fields)
 }

@@ -18,3 +18,4 @@ pub mod DescentLaw
 pub mod ChecksLaw
 pub mod Alongs
 pub mod LeafFacts
+pub mod HopFacts

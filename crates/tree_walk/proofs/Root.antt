@@ -21,6 +21,7 @@ use Rattle.tree_walk.specs.Segments.{leaf_segment, top_segment, named_segments}
 use Rattle.space_audit.specs.Marks.{is_set, Marked}
 use Rattle.tree_walk.specs.Facts.{LevelFacts}
 use Rattle.tree_walk.specs.Tree.{index_in}
+use Rattle.tree_walk.specs.Ends.{lies_whole}
 use Rattle.tree_walk.specs.Walk.{IsTop, IsAtLevel, IsLevel, IsTally, IsEndsOf, RowLiesWhole}
 use Rattle.tree_walk.proofs.States.{TreeState}
 use Rattle.tree_walk.proofs.Tallies.{tally_root}
@@ -200,7 +201,7 @@ module _ (index : Index) (top : Top) (depth : ℕ) (start names marks : List Boo
 
     pub tree_ends : (ends : TreeEnds) → ends.index_id ≡ top.index_id → ends.root_level ≡ top.level → ends.first_leaf
         ≡ row.first → ends.leaves ≡ row.pages → ends.leaf_segment ≡ top.leaf → ends.top_segment ≡ top.upper
-        → ends.live ≡ row.tally.live → ends.deleted ≡ row.tally.deleted → ends.whole ≡ row.tally.whole
+        → ends.live ≡ row.tally.live → ends.deleted ≡ row.tally.deleted → lies_whole ends ≡ row.tally.whole
         → IsEndsOf index ends
     tree_ends ends a b c d e f l m w =
         let y = t.tallied at_top in

@@ -41,6 +41,10 @@ pub record LinksEqualDescent (index : Index) : Type 0 where
 abbrev pub LinksAreDescent : Type 0
 LinksAreDescent = (index : Index) → IsWalked index → LinksEqualDescent index
 
+-- the pages of each level are those of the descent, in its order, whatever the file
+abbrev pub LevelsAreOfDescent : Type 0
+LevelsAreOfDescent = (index : Index) (depth : ℕ) → pages_at index depth ≡ below index depth index.root
+
 -- the rows by leaves are those of the descent, whatever the file
 abbrev pub RowsByLeaves : Type 0
 RowsByLeaves = (index : Index) → leaf_rows index ≡ tree_rows index

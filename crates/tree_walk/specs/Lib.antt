@@ -7,7 +7,9 @@ pub mod Place
 pub mod Segments
 pub mod TreeChecks
 pub mod Facts
+pub mod Ends
 pub mod Walk
 pub mod Leaf
+pub mod Hops
 pub mod Descent
 pub mod Laws

@@ -30,6 +30,7 @@ use Rattle.tree_walk.specs.Index.{leaf_pages}
 use Rattle.tree_walk.specs.Index.{Row, leaf_rows, is_deleted_row, is_live_row}
 use Rattle.tree_walk.specs.TreeChecks.{before, PlaceWith}
 use Rattle.tree_walk.specs.Segments.{leaf_segment, top_segment, segment_at}
+use Rattle.tree_walk.specs.Ends.{lies_whole}
 use Rattle.tree_walk.specs.Facts.{LevelFacts}
 
 -- a cursor at pointer j of a level: record k of the i-th page of the level
@@ -197,4 +198,4 @@ pub record IsEndsOf (index : Index) (ends : TreeEnds) : Type 0 where
   pub top : ends.top_segment ≡ top_segment index
   pub live : ends.live ≡ count_by (is_live_row index) (leaf_rows index)
   pub deleted : ends.deleted ≡ count_by (is_deleted_row index) (leaf_rows index)
-  pub whole : ends.whole ≡ true → All (RowLiesWhole index) (leaf_rows index)
+  pub whole : lies_whole ends ≡ true → All (RowLiesWhole index) (leaf_rows index)

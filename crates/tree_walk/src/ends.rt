@@ -1,9 +1,16 @@
 //! What is known of a tree that was walked.
 
 ghost use Rattle.std.specs.Prelude.{◌≡◌};
+ghost use Rattle.tree_walk.specs.Ends.{lies_whole};
 
 use crate::level::Level;
 use crate::tree::root::Top;
+
+/// What a walk found besides the numbers. It is private, so that no numbers are made elsewhere.
+#[derive(Clone, Copy, Debug, PartialEq, Eq)]
+struct Made {
+    whole: bool,
+}
 
 /// The numbers of a tree. Only the walk makes one.
 #[derive(Clone, Copy, Debug, PartialEq, Eq)]
@@ -24,10 +31,7 @@ pub struct TreeEnds {
     pub live: u64,
     /// How many leaf records have the delete mark.
     pub deleted: u64,
-    /// Whether the values of all leaf records are known to lie whole on their leaves, in no more bytes than their types
-    /// take. After false nothing is said.
-    pub whole: bool,
-    made: (),
+    made: Made,
 }
 
 impl TreeEnds {
@@ -41,7 +45,7 @@ impl TreeEnds {
         ensures upper { result.top_segment ≡ top.upper }
         ensures live { result.live ≡ row.tally.live }
         ensures deleted { result.deleted ≡ row.tally.deleted }
-        ensures whole { result.whole ≡ row.tally.whole }
+        ensures whole { lies_whole result ≡ row.tally.whole }
     {
         TreeEnds {
             index_id: top.index_id,
@@ -52,8 +56,17 @@ impl TreeEnds {
             top_segment: top.upper,
             live: row.tally.live,
             deleted: row.tally.deleted,
-            whole: row.tally.whole,
-            made: (),
+            made: Made {
+                whole: row.tally.whole,
+            },
         }
+    }
+
+    /// Whether the values of all leaf records are known to lie whole on their leaves, in no more bytes than their types
+    /// take. After false nothing is said.
+    pub fn lies_whole(&self) -> bool
+        ensures { result ≡ lies_whole self.now }
+    {
+        self.made.whole
     }
 }

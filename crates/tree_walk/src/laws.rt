@@ -2,6 +2,7 @@
 
 ghost use Rattle.tree_walk.specs.Laws.{LinksAreDescent, KeysRiseOverLeaves, LeavesAreSound, RowsCanBeRead};
 ghost use Rattle.tree_walk.specs.Laws.{ChecksGiveTree, ChecksAreWholeness, LevelsHaveThePages, RowsByLeaves};
+ghost use Rattle.tree_walk.specs.Laws.{LevelsAreOfDescent};
 
 use index_page::laws::{checks_are_an_index_page, page_has_one_chain};
 
@@ -9,6 +10,11 @@ use index_page::laws::{checks_are_an_index_page, page_has_one_chain};
 /// page comes twice in it.
 pub fn links_are_the_descent()
     ensures { LinksAreDescent }
+{}
+
+/// The pages of each level are those of the descent, in its order, whatever the file.
+pub fn levels_are_of_the_descent()
+    ensures { LevelsAreOfDescent }
 {}
 
 /// The rows by leaves are those of the descent, whatever the file.

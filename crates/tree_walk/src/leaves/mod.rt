@@ -1,18 +1,22 @@
 //! The rows of a tree that was walked, leaf by leaf by next fields.
 
-ghost use Rattle.std.specs.Prelude.{◌≡◌, ℕ, ◌+◌, ◌<◌, ◌≤◌, IfOk, IfSome, Ok, Err, None, false};
+ghost use Rattle.std.specs.Prelude.{◌≡◌, ℕ, ◌+◌, ◌<◌, ◌≤◌, IfOk, IfSome, Ok, Err, None, true, false};
 ghost use Rattle.page_source.specs.Calls.{OfFile, HaltsOver};
 ghost use Rattle.page_source.specs.declared.rule.Fault.{Fault};
 ghost use Rattle.column_values.specs.Types.{Fields};
+ghost use Rattle.index_page.specs.Header.{infimum};
 ghost use Rattle.tree_walk.specs.Index.{Index, index_of};
 ghost use Rattle.tree_walk.specs.Walk.{IsEndsOf};
 ghost use Rattle.tree_walk.specs.Leaf.{CursorView, IsAlong, IsWalked, HasGiven, CanGive, FindsRow, BreaksOff};
 ghost use Rattle.tree_walk.specs.Leaf.{HasMoved, IsSameOrNext, Ends};
+ghost use Rattle.tree_walk.specs.Leaf.{HasTaken, CanTake, FindsLeaf, EndsLeaves, LeadsAstray};
+ghost use Rattle.tree_walk.specs.Hops.{IsDue, Hops, GoesByNextFields};
 
 mod leaf;
 
 use crate::ends::TreeEnds;
-use leaf::{Leaf, seek};
+use crate::place::INFIMUM;
+use leaf::{Leaf, seek, take};
 use page_source::{Halt, NoMemory, Page, PageSource, Steps};
 use std::alloc::Global;
 use std::marker::Model;
@@ -31,7 +35,7 @@ impl Model for LeafCursor {
 
     ghost view = { λ c. record { leaf = c.leaf; last = c.last; ended = c.ended } };
 
-    ghost invariant = { λ c. (c.last < 16384) × (c.ended ≡ false → 125 ≤ c.last → IsAlong c.leaf.page c.last) };
+    ghost invariant = { λ c. (c.last < 16384) × (c.ended ≡ false → infimum ≤ c.last → IsAlong c.leaf.page c.last) };
 }
 
 impl LeafCursor {
@@ -43,6 +47,8 @@ impl LeafCursor {
         ensures ended { IfOk result (λ cursor. cursor.ended ≡ false) }
         ensures told { IfOk result (λ cursor. (index : Index) → IsEndsOf index ends.now
             → HasGiven index cursor.leaf cursor.last 0) }
+        ensures taken { IfOk result (λ cursor. (index : Index) → IsEndsOf index ends.now
+            → HasTaken index cursor.leaf cursor.last 0) }
     {
         let leaf = Leaf {
             page: Page::zeroed(alloc)?,
@@ -56,8 +62,8 @@ impl LeafCursor {
         })
     }
 
-    /// The origin of the next row on the page in hand, delete-marked or not; none behind the last, once all leaves
-    /// came. `Source` comes where the file's count of faults rose. `Broken` never comes over a source that tells its
+    /// The origin of the next row on the page in hand, delete-marked or not; none after the last, once all leaves
+    /// came. `Source` comes if the file's count of faults rose. `Broken` never comes over a source that tells its
     /// content; over another it names the leaf in hand, whose record chain isn't whole (rule 35), or whose next field
     /// doesn't fit the number of leaves (rule 31). After none or an error it has ended.
     pub fn next<S: PageSource, L: Ledger>(
@@ -76,11 +82,13 @@ impl LeafCursor {
         ensures all { result ≡ Ok None → self.new.leaf.may_fetch ≡ 0 }
         ensures origin { IfOk result (λ found. IfSome found (λ origin. (125 ≤ origin) × (origin < 16384))) }
         ensures broken { (fault : Fault) → result ≡ Err (Halt.Broken fault) → BreaksOff self.new.leaf fault }
-        ensures moves { IfOk result (λ found. 125 ≤ self.old.last → HasMoved self.old.leaf self.new.leaf) }
+        ensures moves { IfOk result (λ found. infimum ≤ self.old.last → HasMoved self.old.leaf self.new.leaf) }
         ensures near { OfFile S.PageSource source.old (λ file. (root : ℕ) (fields node : Fields) (j : ℕ)
             → IsWalked (index_of file root fields node)
             → HasGiven (index_of file root fields node) self.old.leaf self.old.last j
-            → IfOk result (λ found. IsSameOrNext self.old.leaf self.new.leaf)) }
+            → IsSameOrNext self.old.leaf self.new.leaf) }
+        ensures hops { (n : ℕ) → IsDue self.old.leaf self.old.last n
+            → GoesByNextFields n self.old.leaf self.new.leaf result }
         ensures keeps { HaltsOver S.PageSource source.old source.new steps.old steps.new result }
         ensures steps { steps.new + self.new.leaf.may_fetch ≡ steps.old + self.old.leaf.may_fetch }
     {
@@ -88,6 +96,38 @@ impl LeafCursor {
         let found = seek(&mut self.leaf, source, self.last, steps)?;
         if let Some(origin) = found {
             self.last = origin;
+            self.ended = false;
+        }
+        Ok(found)
+    }
+
+    /// Goes to the next leaf without a look at the records of the one in hand, and answers whether there is one. The
+    /// first call goes to the leftmost leaf. After it `next` gives the first row of the leaf. `Source` and `Broken`
+    /// come as at `next`, `Broken` for the next field alone.
+    pub fn next_leaf<S: PageSource, L: Ledger>(
+        &mut self,
+        source: &mut S,
+        steps: &mut Steps<L>,
+    ) -> Result<bool, Halt>
+        requires goes_on { self.old.ended ≡ false }
+        requires reads { OfFile S.PageSource source.old (λ file. CanTake file self.old.leaf self.old.last) }
+        ensures exact { OfFile S.PageSource source.old (λ file. (root : ℕ) (fields node : Fields) (i : ℕ)
+            → IsWalked (index_of file root fields node)
+            → HasTaken (index_of file root fields node) self.old.leaf self.old.last i
+            → FindsLeaf (index_of file root fields node) i result self.new.leaf) }
+        ensures last { result ≡ Ok true → self.new.last ≡ infimum }
+        ensures ended { EndsLeaves result self.new.ended }
+        ensures all { result ≡ Ok false → self.new.leaf.may_fetch ≡ 0 }
+        ensures fewer { result ≡ Ok true → self.new.leaf.may_fetch + 1 ≡ self.old.leaf.may_fetch }
+        ensures broken { (fault : Fault) → result ≡ Err (Halt.Broken fault) → LeadsAstray self.new.leaf fault }
+        ensures hops { (n : ℕ) → IsDue self.old.leaf self.old.last n → Hops n self.old.leaf self.new.leaf result }
+        ensures keeps { HaltsOver S.PageSource source.old source.new steps.old steps.new result }
+        ensures steps { steps.new + self.new.leaf.may_fetch ≡ steps.old + self.old.leaf.may_fetch }
+    {
+        self.ended = true;
+        let found = take(&mut self.leaf, source, self.last, steps)?;
+        if found {
+            self.last = INFIMUM;
             self.ended = false;
         }
         Ok(found)
