@@ -1,6 +1,7 @@
 -- Values among bytes, and the order of keys cell by cell.
 use Rattle.std.proofs.Common.{◌≡◌, ℕ, zero, suc, ◌+◌, ◌<◌, ◌≤◌, true, false, List, [], ◌∷◌, ◌++◌, length, get_or, map}
-use Rattle.std.proofs.Common.{drop, take, slice_range, cond}
+use Rattle.std.proofs.Common.{drop, take, slice_range, cond, ◌==◌}
+use Rattle.std.proofs.lemmas.Bool.Decides.{nat_tests}
 use Rattle.std.proofs.Common.{All, None, Some, refl, sym, ap, ◌∙◌, subst, inl, inr, arith, add-one, min, ◌^◌, ◌-◌, ◌*◌}
 use Rattle.std.specs.declared.cmp.Ordering.{Ordering}
 use Rattle.std.specs.declared.cmp.Ordering.TheVariants.{Equal}
@@ -27,7 +28,7 @@ use Rattle.std.proofs.lemmas.List.FromFn.{length-range_with_len, get_or-range_wi
 use Rattle.std.proofs.lemmas.List.FromFn.{get_or-map-range_with_len}
 use Rattle.std.proofs.lemmas.List.Sorted.{All-permutation}
 use Rattle.cross_index.specs.calls.Kept.{LiesIn, kept_key, kept_keys}
-use Rattle.cross_index.specs.calls.Order.{IsOrder}
+use Rattle.cross_index.specs.calls.Order.{Asking, AsksWhole, IsOrder, table_of}
 
 -- where a null value lies
 abbrev pub null_place : Place
@@ -94,6 +95,16 @@ kept_at cells width slots row i d number short below is =
     ap (λ (k : ℕ). get_or cells k None) is
     ∙ cell_saturated cells (row * width + get_or slots i d) short
     ∙ sym (get_or-map (λ slot. get_or cells (row * width + slot) None) slots i d None below)
+
+pub some_slots : (slots : List ℕ) → (length slots == 0) ≡ false → 0 < length slots
+some_slots slots some = grind (arith, nat_tests, some)
+
+-- a key without a field has no first value
+pub no_value : (cells : Key) (width : ℕ) (slots : List ℕ) (row : ℕ) → (length slots == 0) ≡ true
+    → None ≡ get_or (kept_key cells width slots row) 0 None
+no_value cells width slots row none =
+    let e : length slots ≡ 0 = grind (arith, nat_tests, none) in
+    sym (get_or_past (kept_key cells width slots row) 0 None (omega (arith, length-kept cells width slots row, e)))
 
 slice_range_append : (xs ys : List ℕ) (a b : ℕ) → a ≤ b → b ≤ length xs
     → slice_range (xs ++ ys) a b ≡ slice_range xs a b
@@ -180,7 +191,7 @@ module _ (cells : Key) (width : ℕ) (fields : Fields) (slots : List ℕ) (short
   rows_end x y i whole past left =
       cells_end (key_kinds fields) x y i whole (omega (arith, past, each, kinds_size fields few)) left
 
-  -- the same of a record and a row
+  -- the order of the keys of a record and a row, field by field
   pub record_decides : (page : List ℕ) (places : List Place) (b i e number : ℕ) (f : Field) (p : Place)
       (o answer whole : Ordering) → fields.keys ≤ length places → i < length slots → f ≡ field_at fields i
       → ((d : Place) → p ≡ get_or places i d) → number ≡ min (b * width + get_or slots i e) (2 ^ 64 - 1)
@@ -202,6 +213,12 @@ module _ (cells : Key) (width : ℕ) (fields : Fields) (slots : List ℕ) (short
       (ap (λ (g : Field). g.kind) is ∙ kind_of_field fields i few (omega (arith, below, each)))
       (compared ∙ ap (λ (v : Option (List ℕ)). cell_cmp f.kind v (get_or cells number None)) x
       ∙ ap (λ (v : Option (List ℕ)). cell_cmp f.kind (get_or (key_at page fields places) i None) v) y) says left
+
+-- a key that is asked for has a value of each kind
+pub whole_key : (keys : Asking) (row : ℕ) → AsksWhole keys.list keys.slots
+    → length ((table_of keys).key row) ≡ length (table_of keys).kinds
+whole_key keys row asks =
+    length-kept keys.cells keys.width keys.slots row ∙ asks.each ∙ sym (kinds_size keys.list asks.few)
 
 -- rows in the order that a sort of their numbers gives
 pub order_is : (kinds : List FieldType) (cells : Key) (width : ℕ) (slots order : List ℕ) (count : ℕ)

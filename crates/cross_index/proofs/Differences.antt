@@ -76,7 +76,7 @@ module _ (laws : HasLaws) (file : List ℕ) (table : TableDef) (is : IsTable tab
         absurd (one_side (entry_kinds table i) (row_keys file table i) (entry_keys file table i) q.place p.place q.least
         p.least)
 
-    -- and there is one
+    -- index i differs in some way, or not at all
     index_answer : (answer : Option Difference) × IndexDiffers file table i answer
     index_answer = by_answer (have_answer (entry_kinds table i) (row_keys file table i) (entry_keys file table i))
       where

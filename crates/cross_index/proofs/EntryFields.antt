@@ -69,7 +69,7 @@ module _ (table : TableDef) (i : ℕ) (is : IsTable table) (within : i < length 
       (All-map IsInside (field_of_column table) (entry_columns table i) columns_inside)
       (hidden_inside (length (clustered_positions table) == 0))
 
-  -- and is kept
+  -- each field of an entry is kept
   pub entry_kept : (j : ℕ) → j < length (entry_fields table i)
       → Contains (kept_fields table) (get_or (entry_fields table i) j 0)
   unfolding kept_fields all_entry_fields

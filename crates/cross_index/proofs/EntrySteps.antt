@@ -166,14 +166,14 @@ module _ (file : List ℕ) (table : TableDef) (i : ℕ) (leaf : Leaf) (j origin 
   unfolding entry_keys
   entry_within = omega (arith, hand.within, length-map (live_rows index) (row_key index))
 
-  -- its key
+  -- the key of the entry in hand
   pub entry_key : get_or (entry_keys file table i) j [] ≡ key_of leaf.page origin (leaf_fields table i)
   unfolding entry_keys row_key index_in
   entry_key =
       get_or-map (row_key index) (live_rows index) j no_row [] hand.within ∙ ap (row_key index) row_is
       ∙ ap (λ (page : List ℕ). key_of page origin (leaf_fields table i)) (sym hand.held)
 
-  -- it can be read
+  -- the entry in hand can be read
   pub entry_readable : RowsCanBeRead → IsWalked index → IsRecord leaf.page (leaf_fields table i) origin
   unfolding live_rows index_in
   entry_readable law walked =
@@ -292,7 +292,7 @@ module _ (file : List ℕ) (table : TableDef) (i : ℕ) (fields : Fields) (all :
     inside : next < length (entry_keys file table i)
     inside = entry_within file table i leaf next origin hand
 
-    -- it meets the next row
+    -- the entry meets the next row
     pub meets_on : (now : LiveView)
         → Meets (key_kinds fields) all order next (key_at page fields places) i number (Ok tt)
         → HasGivenLive (index_in file table i) now (next + 1)
@@ -306,7 +306,7 @@ module _ (file : List ℕ) (table : TableDef) (i : ℕ) (fields : Fields) (all :
           places)) list equal));
     }
 
-    -- or one of them is alone
+    -- the entry or the row is alone
     pub meets_so : (stop : CrossStop)
         → Meets (key_kinds fields) all order next (key_at page fields places) i number (Err stop)
         → Compares file table i (Err stop)

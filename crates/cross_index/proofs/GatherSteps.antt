@@ -36,7 +36,7 @@ use Rattle.cross_index.specs.calls.Gather.{cells_of}
 use Rattle.cross_index.specs.calls.Gather.{kept_fields, kept_cells, CanGatherAll, IsGathered}
 use Rattle.cross_index.proofs.KeptPages.{map_same, kept_below, place_is, field_follow, big, pages_within}
 
--- so many rows were kept, and no more pages were read than their values have
+-- the values of so many rows were kept, and no more pages were read than these have
 pub record Gathering (file : List ℕ) (table : TableDef) (rows : LiveView) (cells : Key) (most left n : ℕ)
     : Type 0 where
   pub gives : HasGivenLive (clustered_tree file table) rows n
@@ -120,7 +120,7 @@ module _ (one : HasOneChain) (goes : ChainGoesOn) (file : List ℕ) (table : Tab
       let part = length-flat_map-take (pages_of_row index) rows n no_row hand.within in
       omega (arith, part, ap (λ (r : Row). length (pages_of_row index r)) row_is)
 
-  -- its kept fields can be read
+  -- the kept fields of the row in hand can be read
   pub can_gather : (places : List Place) (kept : List ℕ) (view : LiveView) (cells : Key) (most left : ℕ)
       → places ≡ places_of page origin (leaf_fields table 0) → kept ≡ kept_fields table
       → length (all_chain_pages index) ≤ most → Gathering file table view cells most left n
@@ -134,7 +134,7 @@ module _ (one : HasOneChain) (goes : ChainGoesOn) (file : List ℕ) (table : Tab
     few = omega (arith, pages_within file page table origin are record', pages_are, pages_part, so.used, few);
   })
 
-  -- and are kept
+  -- the fields of the row in hand are kept
   values_are : cells_of file page (places_of page origin (leaf_fields table 0)) (kept_fields table)
       ≡ map (field_of_row index row) (kept_fields table)
   unfolding cells_of field_of_row index_in

@@ -104,7 +104,7 @@ few_on sound index walked k d below =
     length-map {B = Row} (records_of (page_in index n)) (λ origin. record { page = n; origin = origin }) in
     omega (arith, size, facts.is_chain.counted, facts.header.heap)
 
--- so an index has fewer than 2 ^ 47 entries
+-- an index has fewer than 2 ^ 47 entries
 few_entries : LeavesAreSound → (index : Index) (ends : TreeEnds) → IsWalked index → IsEndsOf index ends
     → ends.leaves < 2 ^ 32 → length (live_rows index) ≤ 2 ^ 47
 unfolding live_rows

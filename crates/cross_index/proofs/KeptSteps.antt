@@ -63,7 +63,7 @@ module _ (at columns others old now : List ℕ) (n d place : ℕ) (within : n < 
       so ∙ ap (λ (list : List ℕ). old ++ map field list)
       (sym (more true among ∙ append-nil (positions_without (take n columns) others)))
 
-  -- and else a column its field
+  -- a column that isn't among them adds its field
   pub column_added : (next : List ℕ) (f : ℕ) → list_any (λ j. j == place) others ≡ false → f ≡ get_or at place 0
       → next ≡ now ++ f ∷ [] → next ≡ old ++ map field (positions_without (take (n + 1) columns) others)
   column_added next f among at_place grown =

@@ -33,7 +33,7 @@ equal_field (kind ∷ kinds) (x ∷ xs) (y ∷ ys) (suc j) d e m n within =
     equal_field kinds xs ys j d (second_equal (cell_cmp kind x y) (key_cmp kinds xs ys) e) (omega (arith, m))
     (omega (arith, n)) (omega (arith, within))
 
--- and keys with equal fields are equal
+-- keys with equal fields are equal
 pub equal_by_fields : (kinds : List FieldType) (a b : Key) (d : FieldType) → length a ≡ length kinds
     → length b ≡ length kinds
     → ((j : ℕ) → j < length kinds → cell_cmp (get_or kinds j d) (get_or a j None) (get_or b j None) ≡ Equal)

@@ -7,8 +7,6 @@ pub mod Differences
 pub mod Merge
 pub mod CellSteps
 pub mod MarkSteps
-pub mod RankSteps
-pub mod FrontSteps
 pub mod EntrySteps
 pub mod ChainSteps
 pub mod RowSteps
@@ -19,3 +17,4 @@ pub mod KeptSteps
 pub mod EntryFields
 pub mod IndexSteps
 pub mod AllSteps
+pub mod Named

@@ -39,7 +39,7 @@ module _ (file page : List ℕ) (places : List Place) (kept : List ℕ) (n d : �
       ap (sum_by f) (take_more kept n 0 within) ∙ sum_by-append f (take n kept) (get_or kept n 0 ∷ [])
       ∙ omega (arith, ap (λ (q : Place). length (pages_of_place file page q)) field_place)
 
-  -- those of the first fields are among those of all
+  -- the pages of the first fields are among those of all
   pages_part : pages_of_fields file page places (take (n + 1) kept) ≤ pages_of_fields file page places kept
   unfolding pages_of_fields
   pages_part =

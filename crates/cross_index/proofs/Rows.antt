@@ -88,7 +88,7 @@ kind_at table k d inside =
     ∙ get_or-map kind_in front k child_field d inside
     ∙ ap kind_in (sym (get_or_append_left front (clustered_rest table) child_field k inside))
 
--- so it has the bytes of the row's key
+-- a field of the key of a row has the bytes of that key
 key_field : (file : List ℕ) (table : TableDef) (row : Row) (k : ℕ) → k < (leaf_fields table 0).keys
     → IsRecord (page_in (clustered_tree file table) row.page) (leaf_fields table 0) row.origin
     → field_of_row (clustered_tree file table) row k ≡ get_or (row_key (clustered_tree file table) row) k None
@@ -155,7 +155,7 @@ module _ (laws : HasLaws) (file : List ℕ) (table : TableDef) (i : ℕ) (is : I
   key_size row = length-map-range_with_len (λ i. cell_at (page_of file row.page) (place_of (page_of file row.page)
       row.origin (leaf_fields table 0) i)) 0 (leaf_fields table 0).keys
 
-  -- so the rows have equal keys
+  -- the rows have equal keys
   same_key : (a b : Row) → Contains rows a → Contains rows b
       → AreEqualKeys (entry_kinds table i) (projection file table i a) (projection file table i b)
       → AreEqualKeys (key_kinds (leaf_fields table 0)) (row_key index a) (row_key index b)

@@ -75,7 +75,7 @@ module _ (kinds : List FieldType) where
     abbrev here : Key
     here = get_or side j []
 
-    -- it is below what the other side has from there on
+    -- the key is below what the other side has from there on
     before : (i : ℕ) → j ≤ i → i < length other → IsBelow kinds here (get_or other i [])
     before i later inside = elim (cases_lt j i) [
       | inl less ↦
@@ -184,7 +184,7 @@ module _ (kinds : List FieldType) where
       (q.least (get_or side a []) (inl (lone_at side other a p)))
       (p.least (get_or side b []) (inl (lone_at side other b q))))
 
-  -- and only one side has one
+  -- only one side has such a key
   pub one_side : (side other : List Key) (a b : ℕ) → IsLeastLone kinds side other a → ¬ (IsLeastLone kinds other side
       b)
   one_side side other a b p q =

@@ -1,5 +1,5 @@
 -- What a comparison answers.
-use Rattle.std.specs.Prelude.{◌≡◌, ℕ, ◌-◌, ⊤, List, length, sum_by, Option, Some, None, Result, Ok, Err}
+use Rattle.std.specs.Prelude.{◌≡◌, ◌<◌, ◌≤◌, ℕ, ◌-◌, ⊤, List, length, sum_by, Option, Some, None, Result, Ok, Err}
 use Rattle.std.specs.List.{range_with_len}
 use Rattle.schema_text.specs.TableDef.{TableDef}
 use Rattle.table_check.specs.Trees.{index_count}
@@ -36,3 +36,17 @@ Crosses file table (Err (stops.Missing index row)) = Differs file table (Some (M
 Crosses file table (Err (stops.Extra index page)) = Differs file table (Some (Extra index page))
 Crosses file table (Err stops.Source) = ⊤
 Crosses file table (Err stops.Memory) = ⊤
+
+-- a secondary index of the table
+pub record IsSecondary (table : TableDef) (i : ℕ) : Type 0 where
+  pub after_clustered : 1 ≤ i
+  pub within : i < index_count table
+
+-- what is named over any file, told or not: a difference is of such an index, and rows count from 1
+abbrev pub Names : {A : Type 0} → (ℕ → Type 0) → Result A CrossStop → Type 0
+Names IsIndex (Ok a) = ⊤
+Names IsIndex (Err (stops.Broken fault)) = ⊤
+Names IsIndex (Err (stops.Missing index row)) = IsIndex index × (1 ≤ row)
+Names IsIndex (Err (stops.Extra index page)) = IsIndex index
+Names IsIndex (Err stops.Source) = ⊤
+Names IsIndex (Err stops.Memory) = ⊤

@@ -18,7 +18,7 @@ pub record LacksEntry (file : List ℕ) (table : TableDef) (i row : ℕ) : Type 
   pub row_is : row ≡ place + 1
   pub least : IsLeastLone (entry_kinds table i) (row_keys file table i) (entry_keys file table i) place
 
--- it is that of an entry on this page
+-- the least key that only the rows or only index i has is that of an entry on this page
 pub record HasExtra (file : List ℕ) (table : TableDef) (i page : ℕ) : Type 0 where
   pub place : ℕ
   pub page_is : page ≡ (row_at (entries_in file table i) place).page

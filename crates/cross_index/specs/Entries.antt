@@ -17,7 +17,7 @@ abbrev pub entry_columns : TableDef → ℕ → List ℕ
 entry_columns table i =
     (index_at table i).columns ++ positions_without (clustered_positions table) (index_at table i).columns
 
--- the hidden row id, the first field of a row, where there is no clustered key
+-- the hidden row id, the first field of a row, if there is no clustered key
 abbrev pub hidden_fields : TableDef → List ℕ
 hidden_fields table = if length (clustered_positions table) == 0 then 0 ∷ [] else []
 
@@ -25,13 +25,13 @@ hidden_fields table = if length (clustered_positions table) == 0 then 0 ∷ [] e
 unfoldable pub entry_fields : TableDef → ℕ → List ℕ
 entry_fields table i = map (field_of_column table) (entry_columns table i) ++ hidden_fields table
 
--- the bytes of a field by its place: none for null, and those of the whole value where it goes on elsewhere
+-- the bytes of a field by its place: none for null, and those of the whole value if it goes on elsewhere
 abbrev pub whole_cell : List ℕ → List ℕ → Place → Option (List ℕ)
 whole_cell file page place =
     if place.null then None
     else Some (if place.external then whole_bytes file (bytes_at page place) else bytes_at page place)
 
--- those of field k of a row
+-- the bytes of field k of a row
 unfoldable pub field_of_row : Index → Row → ℕ → Option (List ℕ)
 field_of_row index row k =
     whole_cell index.file (page_in index row.page) (place_of (page_in index row.page) row.origin index.leaf k)

@@ -29,8 +29,8 @@ OnlyReads (Err (stops.Extra index page)) = ⊥
 OnlyReads (Err stops.Source) = ⊤
 OnlyReads (Err stops.Memory) = ⊤
 
--- the file is as before, its count of faults never fell, it is blamed only where the count rose, and each page that it
--- was asked for was counted
+-- the file is as before, its count of faults never fell, it is blamed only if the count rose, and each page that it was
+-- asked for was counted
 pub record CrossesOver {S A : Type 0} (g : FileOf S) (old new : S) (steps steps_now : ℕ) (result : Result A CrossStop)
     : Type 0 where
   pub same : g.content new ≡ g.content old

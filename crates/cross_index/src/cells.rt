@@ -1,6 +1,7 @@
 //! Values that may be null, one after another in one run of bytes.
 
-ghost use Rattle.std.specs.Prelude.{◌≡◌, ◌<◌, ◌++◌, ◌∷◌, [], All, Some, None, OnOk, MatchOption, length, slice_index_or, true, false};
+ghost use Rattle.std.specs.Prelude.{◌≡◌, ◌<◌, ◌++◌, ◌∷◌, [], All, Some, None, OnOk, length, slice_index_or, true, false};
+ghost use Rattle.std.specs.Option.{option_copied};
 ghost use Rattle.column_values.specs.Order.{cell_cmp};
 ghost use Rattle.compact_record.specs.Reading.{cell_at};
 ghost use Rattle.compact_record.specs.declared.places.Place.{Place};
@@ -27,7 +28,8 @@ const NULL: Place = Place {
 pub(crate) struct Cells {
     /// The bytes of all.
     bytes: Vec<u8>,
-    /// Twice where those of each end, and 1 more where it is null. They begin where those before them end.
+    /// Twice where the bytes of each value end, and 1 more if it is null. They begin where those of the value before
+    /// end.
     marks: Numbers,
 }
 
@@ -91,7 +93,7 @@ fn compare_cells(kind: &FieldType, bytes: &[u8], a: Place, other: &[u8], b: Plac
 }
 
 impl Cells {
-    /// None yet.
+    /// No values yet.
     pub(crate) fn new(alloc: Global) -> Cells
         ensures { result ≡ [] }
     {
@@ -101,7 +103,7 @@ impl Cells {
         }
     }
 
-    /// One more, which is null.
+    /// One more value, which is null.
     pub(crate) fn push_null(&mut self) -> Result<(), NoMemory>
         ensures { OnOk result (self.new ≡ self.old ++ None ∷ []) }
     {
@@ -109,7 +111,7 @@ impl Cells {
         Ok(())
     }
 
-    /// One more, with these bytes.
+    /// One more value, with these bytes.
     pub(crate) fn push(&mut self, value: &[u8]) -> Result<(), NoMemory>
         ensures { OnOk result (self.new ≡ self.old ++ Some value.now ∷ []) }
     {
@@ -131,10 +133,9 @@ impl Cells {
         self.marks.len()
     }
 
-    /// The bytes of a value; none where it is null or past the last.
+    /// The bytes of a value; none if it is null or past the last.
     pub(crate) fn value(&self, i: usize) -> Option<&[u8]>
-        ensures { MatchOption result (slice_index_or self.now i None ≡ None)
-            (λ value. slice_index_or self.now i None ≡ Some value.now) }
+        ensures { option_copied result ≡ slice_index_or self.now i None }
     {
         let place = place_at(&self.marks, i, self.bytes.len());
         if place.null {
@@ -143,7 +144,7 @@ impl Cells {
         Some(&self.bytes[place.from..place.until])
     }
 
-    /// The order of two of them, which are of one kind; past the last there are nulls.
+    /// The order of two of the values, which are of one kind; past the last there are nulls.
     pub(crate) fn compare(&self, kind: &FieldType, a: usize, b: usize) -> Ordering
         ensures { result ≡ cell_cmp kind.now (slice_index_or self.now a None) (slice_index_or self.now b None) }
     {
@@ -153,7 +154,7 @@ impl Cells {
         compare_cells(kind, &self.bytes, here, &self.bytes, there)
     }
 
-    /// The order of a field on a page and one of them.
+    /// The order of a field on a page and one of the values.
     pub(crate) fn compare_field(
         &self,
         kind: &FieldType,

@@ -4,6 +4,7 @@ ghost use Rattle.std.specs.Prelude.{◌≡◌};
 ghost use Rattle.cross_index.specs.Stops.{cross_stop_of, cross_stop_of_checks};
 
 use page_source::{Fault, Halt, NoMemory, Stop};
+use thiserror::Error;
 
 /// How many secondary indexes there are, and how many entries they have.
 #[derive(Clone, Copy, Debug, PartialEq, Eq)]
@@ -13,17 +14,22 @@ pub struct Crossed {
 }
 
 /// Why a comparison has no such numbers.
-#[derive(Clone, Copy, Debug, PartialEq, Eq)]
+#[derive(Clone, Copy, Debug, PartialEq, Eq, Error)]
 pub enum CrossStop {
     /// The first broken rule.
+    #[error("rule {} is broken at page {}", .0.rule.name(), .0.page)]
     Broken(Fault),
     /// An index has no entry for a row, counted from 1.
+    #[error("index {index} has no entry for row {row}")]
     Missing { index: u32, row: u64 },
     /// A leaf page of an index has an entry that is of no row.
+    #[error("index {index} has an entry on page {page} that is of no row")]
     Extra { index: u32, page: u32 },
     /// The file can't be read.
+    #[error("the file can't be read")]
     Source,
     /// Memory ran out.
+    #[error("out of memory")]
     Memory,
 }
 

@@ -8,7 +8,7 @@ ghost use Rattle.schema_text.specs.IndexFields.{leaf_fields};
 ghost use Rattle.cross_index.specs.calls.Kept.{LiesIn, kept_keys};
 ghost use Rattle.cross_index.specs.calls.Order.{IsOrder};
 ghost use Rattle.cross_index.specs.Stops.{CrossesOver};
-ghost use Rattle.cross_index.specs.calls.Compare.{IsReadKey, Meets, EndsAt, CanCompare, Compares};
+ghost use Rattle.cross_index.specs.calls.Compare.{IsReadKey, Meets, EndsAt, CanCompare, Compares, NamesHere};
 
 use crate::crossed::CrossStop;
 use crate::order::{Keys, compare_record};
@@ -90,7 +90,7 @@ fn meet(
     }
 }
 
-/// Whether no row is left behind the last entry.
+/// Whether no row is left after the last entry.
 fn end(asked: &Asked, next: usize) -> Result<u64, CrossStop>
     requires below { All (λ k. k < length asked.now.order.now) asked.now.order.now }
     ensures { EndsAt asked.now.order.now next asked.now.index result }
@@ -104,7 +104,8 @@ fn end(asked: &Asked, next: usize) -> Result<u64, CrossStop>
     Ok(next as u64)
 }
 
-/// Compares the entries of an index with the rows, and answers how many there are.
+/// Compares the entries of an index with the rows, and answers how many there are. Over a file that changed `Broken`
+/// names the leaf in hand, if the walk breaks off there or an entry isn't spelled as it must be (rule 40).
 pub(crate) fn compare_entries<S: PageSource, L: Ledger>(
     source: &mut S,
     schema: &Schema,
@@ -126,6 +127,7 @@ pub(crate) fn compare_entries<S: PageSource, L: Ledger>(
         (kept_keys asked.now.keys.cells.now asked.now.keys.width asked.now.keys.slots.now
         (length asked.now.order.now))) }
     ensures exact { OfFile S.PageSource source.old (λ file. Compares file schema.now asked.now.index result) }
+    ensures named { NamesHere asked.now.index (length asked.now.order.now) entries.new result }
     ensures cost { steps.new ≤ steps.old + entries.old.leaf.may_fetch }
     ensures over { CrossesOver S.PageSource source.old source.new steps.old steps.new result }
 {

@@ -11,6 +11,7 @@ ghost use Rattle.table_check.specs.Trees.{clustered_tree};
 ghost use Rattle.table_check.specs.Values.{all_chain_pages};
 ghost use Rattle.cross_index.specs.Entries.{whole_cell};
 ghost use Rattle.cross_index.specs.Stops.{CrossesOver, OnlyReads};
+ghost use Rattle.cross_index.specs.calls.Broken.{BreaksAt, BreaksChain, BreaksRow};
 ghost use Rattle.cross_index.specs.calls.Gather.{CanFollowPlace, CanGather, CanGatherAll, IsGathered, pages_of_place};
 ghost use Rattle.cross_index.specs.calls.Gather.{pages_of_fields, cells_of, kept_fields};
 
@@ -44,6 +45,7 @@ fn gather_field<S: PageSource, L: Ledger>(
     ensures left { OnOk result (OfFile S.PageSource source.old (λ file.
         room.new.left + length (pages_of_place file page.now place) ≡ room.old.left)) }
     ensures exact { OfFile S.PageSource source.old (λ file. OnlyReads result) }
+    ensures broken { BreaksAt BreaksChain result }
     ensures cost { steps.new + room.new.left ≡ steps.old + room.old.left }
     ensures over { CrossesOver S.PageSource source.old source.new steps.old steps.new result }
 {
@@ -90,6 +92,7 @@ fn gather_row<S: PageSource, L: Ledger>(
     ensures left { OnOk result (OfFile S.PageSource source.old (λ file.
         room.new.left + pages_of_fields file page.now places.now kept.now ≡ room.old.left)) }
     ensures exact { OfFile S.PageSource source.old (λ file. OnlyReads result) }
+    ensures broken { BreaksAt BreaksChain result }
     ensures cost { steps.new + room.new.left ≡ steps.old + room.old.left }
     ensures over { CrossesOver S.PageSource source.old source.new steps.old steps.new result }
 {
@@ -112,7 +115,9 @@ fn read_row(located: &mut Located, page: &Page, origin: usize, fields: &FieldLis
     located.again(page, origin, fields) && located.end() <= PAGE_SIZE
 }
 
-/// Adds the values of the kept fields of all rows, and answers how many rows there are.
+/// Adds the values of the kept fields of all rows, and answers how many rows there are. Over a file that changed
+/// `Broken` names the leaf in hand, if the walk breaks off there or a record isn't spelled as it must be (rule 40),
+/// or a page of a chain (rule 49).
 pub(crate) fn gather_rows<S: PageSource, L: Ledger>(
     source: &mut S,
     schema: &Schema,
@@ -137,6 +142,7 @@ pub(crate) fn gather_rows<S: PageSource, L: Ledger>(
     ensures gathered { IfOk result (λ count. OfFile S.PageSource source.old (λ file.
         IsGathered file schema.now cells.new count)) }
     ensures exact { OfFile S.PageSource source.old (λ file. OnlyReads result) }
+    ensures broken { BreaksAt (BreaksRow rows.new) result }
     ensures cost { steps.new ≤ steps.old + rows.old.leaf.may_fetch + room.old.left }
     ensures over { CrossesOver S.PageSource source.old source.new steps.old steps.new result }
 {

@@ -3,6 +3,7 @@
 ghost use Rattle.std.specs.Prelude.{◌≡◌, ◌+◌, ◌≤◌, IfOk};
 ghost use Rattle.page_source.specs.Calls.{OfFile};
 ghost use Rattle.cross_index.specs.Stops.{CrossesOver, OnlyReads};
+ghost use Rattle.cross_index.specs.calls.Broken.{BreaksAt, BreaksReading};
 ghost use Rattle.cross_index.specs.calls.Gather.{IsGathered};
 ghost use Rattle.cross_index.specs.calls.Indexes.{CanRead, HasFields};
 
@@ -47,6 +48,7 @@ pub(crate) fn gather<S: PageSource, L: Ledger>(
     ensures gathered { IfOk result (λ found. OfFile S.PageSource source.old (λ file.
         IsGathered file schema.now found.cells found.count)) }
     ensures exact { OfFile S.PageSource source.old (λ file. OnlyReads result) }
+    ensures broken { BreaksAt BreaksReading result }
     ensures cost { steps.new ≤ steps.old + ends.now.leaves + chain_pages }
     ensures over { CrossesOver S.PageSource source.old source.new steps.old steps.new result }
 {

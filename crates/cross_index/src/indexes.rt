@@ -1,10 +1,13 @@
 //! The secondary indexes beside the kept values of the rows.
 
-ghost use Rattle.std.specs.Prelude.{◌≡◌, ◌+◌, ◌^◌, ◌<◌, ◌≤◌, IfOk, length, drop};
+ghost use Rattle.std.specs.Prelude.{◌≡◌, ◌+◌, ◌^◌, ◌<◌, ◌≤◌, IfOk, Err, length, drop};
+ghost use Rattle.page_source.specs.declared.rule.Fault.{Fault};
 ghost use Rattle.page_source.specs.Calls.{OfFile};
 ghost use Rattle.table_check.specs.Taken.{leaves_of};
 ghost use Rattle.table_check.specs.Trees.{index_count};
+ghost use Rattle.cross_index.specs.Cross.{IsSecondary, Names};
 ghost use Rattle.cross_index.specs.Stops.{CrossesOver};
+ghost use Rattle.cross_index.specs.calls.Broken.{BreaksReading};
 ghost use Rattle.cross_index.specs.calls.Compare.{Compares};
 ghost use Rattle.cross_index.specs.calls.Indexes.{CanCompareIndex, CanCompareAll, ComparesAll, HasFields};
 
@@ -46,6 +49,8 @@ fn compare_index<S: PageSource, L: Ledger>(
     requires told { OfFile S.PageSource source.old (λ file.
         CanCompareIndex file schema.now index ends.now found.now) }
     ensures exact { OfFile S.PageSource source.old (λ file. Compares file schema.now index result) }
+    ensures named { Names (λ i. i ≡ index) result }
+    ensures broken { (fault : Fault) → result ≡ Err (CrossStop.Broken fault) → BreaksReading fault }
     ensures few { OfFile S.PageSource source.old (λ file. IfOk result (λ count. count ≤ 2 ^ 47)) }
     ensures cost { steps.new ≤ steps.old + ends.now.leaves }
     ensures over { CrossesOver S.PageSource source.old source.new steps.old steps.new result }
@@ -90,6 +95,8 @@ pub(crate) fn compare_indexes<S: PageSource, L: Ledger>(
     requires fields { HasFields schema.now found.now }
     requires told { OfFile S.PageSource source.old (λ file. CanCompareAll file schema.now ends.now found.now) }
     ensures exact { OfFile S.PageSource source.old (λ file. ComparesAll file schema.now result) }
+    ensures named { Names (IsSecondary schema.now) result }
+    ensures broken { (fault : Fault) → result ≡ Err (CrossStop.Broken fault) → BreaksReading fault }
     ensures cost { steps.new ≤ steps.old + leaves_of (drop 1 ends.now) }
     ensures over { CrossesOver S.PageSource source.old source.new steps.old steps.new result }
 {

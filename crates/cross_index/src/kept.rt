@@ -52,7 +52,7 @@ fn columns_of(schema: &Schema, index: usize) -> &[u16]
     schema.indexes()[index].columns.items()
 }
 
-/// Adds the fields that an entry of an index has, where `at` has the field of each column.
+/// Adds the fields that an entry of an index has; `at` has the field of each column.
 fn push_entry_fields(
     list: &mut Vec<usize>,
     schema: &Schema,
@@ -90,7 +90,7 @@ pub(crate) fn entry_fields(
     Ok(list)
 }
 
-/// Those of all secondary indexes, one after another.
+/// The fields that the entries of all secondary indexes have, one index after another.
 fn all_fields(alloc: Global, schema: &Schema, at: &[usize]) -> Result<Vec<usize>, NoMemory>
     requires columns { at.now ≡ fields_of_columns schema.now }
     ensures { IfOk result (λ list. list.items ≡ all_entry_fields schema.now) }
@@ -109,7 +109,7 @@ fn is_taken(fields: &[usize], field: usize) -> bool
     fields.iter().any(|f| *f == field)
 }
 
-/// Each of them once, where a row has so many fields.
+/// The fields that some entry has, each once; a row has so many fields.
 pub(crate) fn kept_fields(
     alloc: Global,
     schema: &Schema,

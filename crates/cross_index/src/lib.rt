@@ -13,7 +13,6 @@ pub mod laws;
 mod long;
 mod numbers;
 mod order;
-mod ranks;
 
 pub use cross_check::cross;
 pub use crossed::{CrossStop, Crossed};

@@ -7,6 +7,7 @@ ghost use Rattle.offpage_chain.specs.Reference.{reference_of};
 ghost use Rattle.table_check.specs.Values.{front_of};
 ghost use Rattle.sql_dump.specs.Long.{CanFollowIn, chain_bytes, whole_bytes};
 ghost use Rattle.cross_index.specs.Stops.{CrossesOver, OnlyReads};
+ghost use Rattle.cross_index.specs.calls.Broken.{BreaksAt, BreaksChain};
 
 use crate::crossed::CrossStop;
 use offpage_chain::{ChainReader, Reference, read_reference};
@@ -16,7 +17,7 @@ use std::sync::ledger::Ledger;
 /// BTR_EXTERN_FIELD_REF_SIZE, the bytes of a reference.
 const REFERENCE: usize = 20;
 
-/// Where the bytes of a part begin, behind the page's header and the part's (btr0cur).
+/// Where the bytes of a part begin, after the header of the page and that of the part (btr0cur).
 const PART: usize = 46;
 
 /// A page for the parts of chains, how many may still be fetched, and the value that was read last.
@@ -48,6 +49,7 @@ fn read_chain<S: PageSource, L: Ledger>(
     ensures left { OnOk result (OfFile S.PageSource source.old (λ file.
         room.new.left + length (chain_pages file reference.now) ≡ room.old.left)) }
     ensures exact { OfFile S.PageSource source.old (λ file. OnlyReads result) }
+    ensures broken { BreaksAt BreaksChain result }
     ensures cost { steps.new + room.new.left ≡ steps.old + room.old.left }
     ensures over { CrossesOver S.PageSource source.old source.new steps.old steps.new result }
 {
@@ -82,6 +84,7 @@ pub(crate) fn read_long<S: PageSource, L: Ledger>(
     ensures left { OnOk result (OfFile S.PageSource source.old (λ file.
         room.new.left + length (chain_pages file (reference_of local.now)) ≡ room.old.left)) }
     ensures exact { OfFile S.PageSource source.old (λ file. OnlyReads result) }
+    ensures broken { BreaksAt BreaksChain result }
     ensures cost { steps.new + room.new.left ≡ steps.old + room.old.left }
     ensures over { CrossesOver S.PageSource source.old source.new steps.old steps.new result }
 {

@@ -12,24 +12,22 @@ const MOST: usize = 4_294_967_295;
 /// Numbers.
 #[derive(Debug, Drop)]
 pub(crate) struct Numbers {
-    /// Those before the first that doesn't fit four bytes.
+    /// The numbers before the first that doesn't fit four bytes.
     small: Vec<u32>,
-    /// That one and all behind it.
+    /// The first that doesn't fit four bytes, and all after it.
     large: Vec<usize>,
 }
 
 impl Model for Numbers {
-    ghost use Rattle.std.specs.Prelude.{ℕ, List, ◌+◌, ◌++◌, ◌<◌, ◌^◌, length};
+    ghost use Rattle.std.specs.Prelude.{ℕ, List, ◌++◌};
 
     ghost Value = { List ℕ };
 
     ghost view = { λ numbers. numbers.small.items ++ numbers.large.items };
-
-    ghost invariant = { λ numbers. length numbers.small.items + length numbers.large.items < 2 ^ 64 };
 }
 
 impl Numbers {
-    /// None yet.
+    /// No numbers yet.
     pub(crate) fn new(alloc: Global) -> Numbers
         ensures { result ≡ [] }
     {
@@ -46,7 +44,7 @@ impl Numbers {
         self.small.len() + self.large.len()
     }
 
-    /// One more.
+    /// One more number.
     pub(crate) fn push(&mut self, number: usize) -> Result<(), NoMemory>
         ensures ok { OnOk result (self.new ≡ self.old ++ number ∷ []) }
         ensures err { OnErr result (self.new ≡ self.old) }
@@ -54,9 +52,6 @@ impl Numbers {
         if number <= MOST && self.large.is_empty() {
             self.small.push(number as u32)?;
             return Ok(());
-        }
-        if self.small.len() + self.large.len() == usize::MAX {
-            return Err(NoMemory);
         }
         self.large.push(number)?;
         Ok(())

@@ -1,7 +1,6 @@
 //! The rows in the order of their keys in an index.
 
 ghost use Rattle.std.specs.Prelude.{◌≡◌, ◌+◌, ◌*◌, ◌-◌, ◌^◌, ◌≤◌, ◌<◌, All, IfOk, min, length, slice_index_or};
-ghost use Rattle.std.specs.List.{range_with_len};
 ghost use Rattle.column_values.specs.Types.{field_at};
 ghost use Rattle.column_values.specs.Order.{key_cmp};
 ghost use Rattle.compact_record.specs.Reading.{key_kinds};
@@ -11,12 +10,13 @@ ghost use Rattle.cross_index.specs.calls.Kept.{LiesIn, kept_key, kept_keys};
 ghost use Rattle.cross_index.specs.calls.Order.{IsOrder};
 
 use crate::cells::Cells;
-use crate::ranks::order_by_ranks;
-use column_values::{Field, FieldList};
+use column_values::{Field, FieldList, FieldType};
 use compact_record::Place;
+use key_ranks::{RowKeys, order_of_rows};
 use page_source::{NoMemory, Page};
 use std::alloc::Global;
 use std::cmp::Ordering;
+use std::marker::Model;
 
 /// The keys of the rows in an index, among the values that are kept of them.
 #[derive(Clone, Copy)]
@@ -101,15 +101,51 @@ pub(crate) fn compare_record(keys: &Keys, page: &Page, places: &[Place], row: us
     Ordering::Equal
 }
 
-/// So many numbers, from 0 on.
-fn numbers(alloc: Global, count: usize) -> Result<Vec<usize>, NoMemory>
-    ensures { IfOk result (λ list. list.items ≡ range_with_len 0 count) }
-{
-    let mut list = Vec::with_capacity(alloc, count)?;
-    for i in 0..count {
-        list.push(i)?;
+/// The keys of the rows in an index, each field of a key among their values.
+#[derive(Drop)]
+struct WholeKeys<'a> {
+    keys: &'a Keys<'a>,
+}
+
+impl<'a> Model for WholeKeys<'a> {
+    ghost use Rattle.cross_index.specs.calls.Order.{Asking, AsksWhole};
+
+    ghost Value = { Asking };
+
+    ghost view = { λ k. record {
+      list = k.keys.now.fields.now;
+      slots = k.keys.now.slots.now;
+      cells = k.keys.now.cells.now;
+      width = k.keys.now.width;
+    } };
+
+    ghost invariant = { λ k. AsksWhole k.keys.now.fields.now k.keys.now.slots.now };
+}
+
+impl RowKeys for WholeKeys<'_> {
+    ghost use Rattle.cross_index.specs.calls.Order.{table_of};
+
+    ghost table = { λ keys. table_of keys };
+
+    fn kind(&self) -> FieldType {
+        if self.keys.slots.is_empty() {
+            return FieldType::Child;
+        }
+        field_at(self.keys.fields, 0).kind
     }
-    Ok(list)
+
+    fn first(&self, row: usize) -> Option<&[u8]> {
+        if self.keys.slots.is_empty() {
+            return None;
+        }
+        let _count = self.keys.cells.len();
+        let number = cell_number(row, self.keys.width, self.keys.slots[0]);
+        self.keys.cells.value(number)
+    }
+
+    fn compare(&self, a: usize, b: usize) -> Ordering {
+        compare_rows(self.keys, a, b)
+    }
 }
 
 /// So many rows, in the order of their keys.
@@ -119,10 +155,7 @@ pub(crate) fn order_of(alloc: Global, keys: &Keys, count: usize) -> Result<Vec<u
     ensures { IfOk result (λ order. IsOrder (key_kinds keys.now.fields.now)
         (kept_keys keys.now.cells.now keys.now.width keys.now.slots.now count) order.items) }
 {
-    if let Some(found) = order_by_ranks(alloc, keys, count)? {
-        return Ok(found);
-    }
-    let mut order = numbers(alloc, count)?;
-    order.sort_by(|a, b| compare_rows(keys, *a, *b))?;
+    let whole = WholeKeys { keys };
+    let order = order_of_rows(alloc, &whole, count)?;
     Ok(order)
 }

@@ -108,7 +108,7 @@ module _ (law : KeysRiseThroughout) (page : List ℕ) (fields : Fields) (lowest_
 abbrev pub Fits : Bounded → Type 0
 Fits b = b.leftmost ≡ true → b.low ≡ None
 
--- so it is of the children of a page
+-- no leftmost child of a page has a low separator
 pub kids_fit : (index : Index) (leftmost : Bool) (ps : List Row) (high : Option Key)
     → All Fits (bounds index leftmost ps high)
 kids_fit index leftmost [] high = All-nil Fits
@@ -125,7 +125,7 @@ abbrev pub AreBetween : Index → ℕ → List Bounded → Type 0
 AreBetween index level bs =
     All (λ (b : Bounded). All (IsBetween index b.low b.high) (rows_below index level b.page)) bs
 
--- so it is of each member behind the first
+-- each member after the first is such
 abbrev pub AllBehind : {X : Type 0} → (X → Type 0) → List X → Type 0
 AllBehind P [] = Unit {0}
 AllBehind P (x ∷ xs) = All P xs
@@ -135,7 +135,7 @@ behind : {X : Type 0} (P : X → Type 0) (xs : List X) → ((k : ℕ) (d : X) �
 behind P [] h = tt
 behind P (x ∷ xs) h = λ k d m. h k d (omega arith)
 
--- and each member behind the first stands so to each later one
+-- each member after the first stands so to each later one
 abbrev pub PairsBehind : {X : Type 0} → (X → X → Type 0) → List X → Type 0
 PairsBehind R [] = Unit {0}
 PairsBehind R (x ∷ xs) = AllPairs R xs
@@ -157,7 +157,7 @@ from_first : (kinds : List FieldType) (leftmost : Bool) (low : Option Key) (k l 
 from_first kinds true low k l fit f g = rw (fit refl) tt
 from_first kinds false low k l fit f g = from_from kinds low k l f g
 
--- so the rows below all of them lie between these
+-- the rows below all of these pages lie between the separators
 pub kids_between : (index : Index) (level : ℕ) (leftmost : Bool) (ps : List Row) (low high : Option Key)
     → Spans index leftmost ps low high → AreBetween index level (bounds index leftmost ps high)
     → All (IsBetween index low high) (flat_map (rows_below index level) (children index ps))
@@ -305,7 +305,7 @@ module _ (law : KeysRiseThroughout) (index : Index) (one : HasOneKind index) whe
             (λ z. no_lowest b.leftmost z.1);
       })
 
-  -- so do the rows below each page
+  -- the rows below each page lie between its separators
   pub between : (level : ℕ) (root : Bool) (b : Bounded) → IsTree index level root b → Fits b
       → All (IsBetween index b.low b.high) (rows_below index level b.page)
   unfolding rows_below

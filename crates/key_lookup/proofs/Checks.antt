@@ -125,7 +125,7 @@ module _ (file : List ℕ) (flags segment leaf : ℕ) (sound : IsSoundSpace file
     c.1,
   )
 
-  -- so does a chain
+  -- the checks of a chain hold without the audit too
   chain_checks : (reference : Reference) (taken less : ℕ → Bool) (IsText : List ℕ → Type 0)
       → ((n : ℕ) → taken n ≡ false → less n ≡ false)
       → ChainChecks file segment leaf reference taken IsText None
@@ -160,7 +160,7 @@ module _ (file : List ℕ) (flags segment leaf : ℕ) (sound : IsSoundSpace file
   field_checks RollPointer page place taken less h c = tt
   field_checks Child page place taken less h c = tt
 
-  -- and a record
+  -- the checks of a record hold without the audit too
   pub record_checks : (page : List ℕ) (origin : ℕ) (fields : Fields) (taken : ℕ → Bool)
       → RecordChecks file segment leaf page origin fields taken None
       → FoundRecordChecks file leaf page origin fields (λ n. false) None

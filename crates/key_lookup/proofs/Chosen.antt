@@ -32,7 +32,7 @@ module _ (page : List ℕ) (node : Fields) (facts : PageFacts page node) (k at h
     order_is : o ≡ key_cmp (key_kinds node) (key_of page (get_or (records_of page) k 0) node) key
     order_is = is ∙ ap (λ (at : ℕ). key_cmp (key_kinds node) (key_of page at node) key) (stands ∙ here_is)
 
-    -- its key isn't greater: it is the last one so far
+    -- the key isn't greater: this record is the last one so far
     pub takes : not (ordering_index o == 2) ≡ true → IsLast page node key (record { k = k; origin = here }) (k + 1)
     takes e = record {
       within = omega arith;
@@ -45,7 +45,7 @@ module _ (page : List ℕ) (node : Fields) (facts : PageFacts page node) (k at h
         not_true true e = absurd (true≢false (sym e))
         not_true false e = refl
 
-    -- it is greater: the one before stays
+    -- the key is greater: the record before stays chosen
     pub keeps : not (ordering_index o == 2) ≡ false → IsLast page node key chosen (k + 1)
     keeps e = record {
       within = let w = last.within in omega arith;

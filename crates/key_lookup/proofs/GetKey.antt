@@ -17,28 +17,28 @@ use Rattle.key_lookup.specs.KeyOfText.{SpellsKey, IsNoKey, FindsSearchKey}
 use Rattle.key_lookup.specs.Laws.{SpellsOneKey}
 use Rattle.key_lookup.specs.Stops.{get_stop_of_row}
 
--- the answer for a key is that for its text
-pub gets_of : (file : List ℕ) (table : TableDef) (text : List ℕ) (key : Key) (result : Result (Unit {0}) GetStop)
-    (old new : Option (List ℕ)) → SpellsKey table text key → GetsByKey file table key result old new
-    → Gets file table text result old new
-gets_of file table text key (Ok done) old new spells x = (key, spells, x)
-gets_of file table text key (Err gets.Refused) old new spells x = absurd x
-gets_of file table text key (Err gets.Absent) old new spells x = (key, spells, x)
-gets_of file table text key (Err (gets.Broken fault)) old new spells x = (key, spells, x)
-gets_of file table text key (Err gets.Source) old new spells x = (key, spells, x)
-gets_of file table text key (Err gets.Sink) old new spells x = (key, spells, x)
-gets_of file table text key (Err gets.Memory) old new spells x = x
+module _ {O : Type 0} (o : SinkOf O) (file : List ℕ) (table : TableDef) (text : List ℕ) where
+  -- the answer for a key is that for its text
+  pub gets_of : (key : Key) (result : Result (Unit {0}) GetStop) (sink now : O) → SpellsKey table text key
+      → GetsByKey o file table key result sink now → Gets o file table text result sink now
+  gets_of key (Ok done) sink now spells x = (key, spells, x)
+  gets_of key (Err gets.Refused) sink now spells x = absurd x
+  gets_of key (Err gets.Absent) sink now spells x = (key, spells, x)
+  gets_of key (Err (gets.Broken fault)) sink now spells x = (key, spells, x)
+  gets_of key (Err gets.Source) sink now spells x = (key, spells, x)
+  gets_of key (Err gets.Sink) sink now spells x = (key, spells, x)
+  gets_of key (Err gets.Memory) sink now spells x = tt
+
+  -- where there is no key
+  pub gets_none : (error : RowError) (sink : O) → FindsSearchKey table text (Err error)
+      → Gets o file table text (Err (get_stop_of_row error)) sink sink
+  gets_none errors.Refused sink none = none
+  gets_none errors.Memory sink none = tt
 
 -- a text spells one key
 pub one_spelled : HasOneKey → SpellsOneKey
 one_spelled one table text a b is x y =
     x.key_is ∙ ap (key_of_values table) (one table x.key_values y.key_values text is x.text_is y.text_is) ∙ sym y.key_is
-
--- where there is no key
-pub gets_none : (file : List ℕ) (table : TableDef) (text : List ℕ) (error : RowError) (old : Option (List ℕ))
-    → FindsSearchKey table text (Err error) → Gets file table text (Err (get_stop_of_row error)) old old
-gets_none file table text errors.Refused old none = (none, refl)
-gets_none file table text errors.Memory old none = refl
 
 pub touches_nothing : {S O : Type 0} (old : S) (sink : O) (steps : ℕ) (error : RowError)
     → TouchesNothing old old sink sink steps steps (Err (get_stop_of_row error))

@@ -46,11 +46,11 @@ grew_by_none None line = refl
 grew_by_none (Some old) line = (0, omega arith, ap Some (sym (append-nil old)))
 
 -- where the checks break off, nothing was written
-pub stopped : (file : List ℕ) (table : TableDef) (key : Key) (stop : Stop) (old : Option (List ℕ))
-    → Stops stop (GetFirst file table key) → GetsByKey file table key (Err (get_stop_of stop)) old old
-stopped file table key (stops.Broken fault) old x = (x, refl)
-stopped file table key stops.Source old x = ((λ line found. grew_by_none old line), (λ none. refl))
-stopped file table key stops.Memory old x = refl
+pub stopped : {O : Type 0} (o : SinkOf O) (file : List ℕ) (table : TableDef) (key : Key) (stop : Stop) (sink : O)
+    → Stops stop (GetFirst file table key) → GetsByKey o file table key (Err (get_stop_of stop)) sink sink
+stopped o file table key (stops.Broken fault) sink x = (x, refl)
+stopped o file table key stops.Source sink x = ((λ line found. grew_by_none (o.written sink) line), (λ none. refl))
+stopped o file table key stops.Memory sink x = tt
 
 -- the stated size lies within the file
 pub sized : (file : List ℕ) (table : TableDef) (key : Key) → GetFirst file table key None → size_of file ≤ page_count file
@@ -87,7 +87,7 @@ module _ (file : List ℕ) (table : TableDef) (key : Key) (is : IsTable table) (
   readable = can_read file (sized file table key good) table is found.number page found.origin (λ n. false) checks
       found.pages (omega (arith, few))
 
-  -- its line is the one that is found
+  -- the line of the row is the one that is found
   found_row_is : (row_values : List Value) → AreFound file table page found.origin row_values
       → IsFoundRow file table row row_values
   unfolding index_in
@@ -109,7 +109,7 @@ module _ (file : List ℕ) (table : TableDef) (key : Key) (is : IsTable table) (
     is = refl;
   }
 
-  -- and it has no other
+  -- each line that is found has such values
   values_are : (line : List ℕ) → (found_line : IsLineFound file table key line)
       → AreFound file table page found.origin found_line.row_values
   unfolding index_in
@@ -130,23 +130,25 @@ module _ (file : List ℕ) (table : TableDef) (key : Key) (is : IsTable table) (
   some : (row_values : List Value) × AreFound file table page found.origin row_values
   some = some_found file (sized file table key good) table is found.number page found.origin (λ n. false) checks
 
-  -- the line was written
-  pub written : (old new : Option (List ℕ))
-      → ((row_values : List Value) → ReadsRow file (row_on table page found.origin) row_values
-      → GrowsBy old new (line_of table row_values)) → (done : Unit {0}) → GetsByKey file table key (Ok done) old new
-  written old new puts done = (line_of table some.0, line_found some.0 some.1, puts some.0 (reads some.0 some.1))
+  module _ {O : Type 0} (o : SinkOf O) (sink now : O) where
+    -- the line was written
+    pub written : ((row_values : List Value) → ReadsRow file (row_on table page found.origin) row_values
+        → GrowsBy (o.written sink) (o.written now) (line_of table row_values)) → (done : Unit {0})
+        → GetsByKey o file table key (Ok done) sink now
+    written puts done = (line_of table some.0, line_found some.0 some.1, puts some.0 (reads some.0 some.1))
 
-  -- or a part of it
-  pub cut_off : (old new : Option (List ℕ)) (end : WriteStop)
-      → ((row_values : List Value) → ReadsRow file (row_on table page found.origin) row_values
-      → Writes {A = Unit {0}} (Err end) old new (line_of table row_values))
-      → GetsByKey file table key (Err (get_stop_of_write end)) old new
-  cut_off old new (writes.Broken fault) puts = absurd (puts some.0 (reads some.0 some.1))
-  cut_off old new writes.Source puts = (
-    (λ line l. subst (GrowsByPart old new) (sym l.is) (puts l.row_values (reads l.row_values (values_are line l)))),
-    (λ none. absurd (none (line_of table some.0) (line_found some.0 some.1))),
-  )
-  cut_off old new writes.Sink puts = (line_of table some.0, line_found some.0 some.1, puts some.0 (reads some.0 some.1))
+    -- a part of the line was written
+    pub cut_off : (end : WriteStop)
+        → ((row_values : List Value) → ReadsRow file (row_on table page found.origin) row_values
+        → Writes {A = Unit {0}} (Err end) (o.written sink) (o.written now) (line_of table row_values))
+        → GetsByKey o file table key (Err (get_stop_of_write end)) sink now
+    cut_off (writes.Broken fault) puts = absurd (puts some.0 (reads some.0 some.1))
+    cut_off writes.Source puts = (
+      (λ line l. subst (GrowsByPart (o.written sink) (o.written now)) (sym l.is)
+          (puts l.row_values (reads l.row_values (values_are line l)))),
+      (λ none. absurd (none (line_of table some.0) (line_found some.0 some.1))),
+    )
+    cut_off writes.Sink puts = (line_of table some.0, line_found some.0 some.1, puts some.0 (reads some.0 some.1))
 
 -- fewer steps than a bound
 pub takes_fewer : {S : Type 0} {g : FileOf S} {source : S} {steps more spent : ℕ} → spent ≤ more

@@ -139,7 +139,7 @@ pub value_read : (row items : List Value) (i : ℕ) (v : Value) → items ≡ ro
 value_read row items i v same lt is =
     ap (λ (vs : List Value). slice_get vs i) (sym same) ∙ slice_get-get_or items i v lt ∙ ap Some (sym is)
 
--- so the key has one field more
+-- the key has one field more
 pub key_more : (columns : List Column) (row : List Value) (old new : Key) (i : ℕ) (c : Column) (v : Value)
     → old ≡ take i (cells columns row) → new ≡ old ++ column_cell (c, v) ∷ [] → slice_get columns i ≡ Some c
     → slice_get row i ≡ Some v → new ≡ take (i + 1) (cells columns row)

@@ -19,3 +19,4 @@ mod Values
 mod Sound
 mod KeyCells
 mod GetKey
+mod OneLine

@@ -103,7 +103,7 @@ module _ (file : List ℕ) (size : size_of file ≤ page_count file) (leaf : ℕ
       long = λ some e. whole (bytes_at page place) taken (long e) (away e some) value (has.external some e);
     }
 
-    -- and there is a value
+    -- there is a value
     pub some_value : (value : Value) × HasFoundValue file kind page place value
     some_value = by_tests place.null place.external refl refl
       where
@@ -181,7 +181,7 @@ module _ (file : List ℕ) (size : size_of file ≤ page_count file) (table : Ta
         (column_checks c within) (get_or row_values c Null) (are.each c within));
   }
 
-  -- and there are some
+  -- there are some values
   pub some_found : (row_values : List Value) × AreFound file table page origin row_values
   some_found =
       let found = values_up_to (λ c value. HasFoundValue file (column_at table c).kind page (place c) value)

@@ -73,7 +73,7 @@ module _ (law : KeysRiseThroughout) (index : Index) (one : HasOneKind index) (tr
         let found = filter_contains (has_key index key) (rows_on index (leaf_for index key)) row live.0 in
         (found.0, found.1, live.1)
 
-    -- it is a row of the table with the key
+    -- the row that is found is a row of the table with the key
     is_row_with : (row : Row) → Contains (filter (is_live_row index) (records_with index key (leaf_for index key))) row
         → IsRowWith index key row
     unfolding live_rows rows_below
@@ -86,7 +86,7 @@ module _ (law : KeysRiseThroughout) (index : Index) (one : HasOneKind index) (tr
           equal = is_equal (key_cmp (key_kinds index.leaf) (row_key index row) key) on.1;
         }
 
-    -- and back
+    -- a row of the table with the key is on the leaf
     stands_there : (row : Row) → IsRowWith index key row
         → Contains (filter (is_live_row index) (records_with index key (leaf_for index key))) row
     unfolding live_rows records_with rows_below
@@ -110,7 +110,7 @@ module _ (law : KeysRiseThroughout) (index : Index) (one : HasOneKind index) (tr
         one_row index (rows_on index b.page) other row (leaf_rises law index one (root_level index == 0) b at.0)
         (on_leaf other c).0 (on_leaf row (stands_there row r)).0 equal
 
-    -- so it is the row that is found
+    -- a row of the table with the key is the row that is found
     pub finds_row : (row : Row) → (found_row index key ≡ Some row) ↔ IsRowWith index key row
     unfolding row_on
     finds_row row = (

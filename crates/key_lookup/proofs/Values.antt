@@ -69,7 +69,7 @@ module _ (one : HasOneChain) (file : List ℕ) (size : size_of file ≤ 4194304)
       subst (λ (k : FieldType). IsSoundField file (leaf_segment index) k (page_in index row.page)
       (place_of (page_in index row.page) row.origin (leaf_fields table 0) i)) holds.kind (sound i holds.inside)
 
-  -- so the rows are the same
+  -- the rows are the same
   pub same_row : (table : TableDef) (row : Row) (row_values : List Value) → IsTable table
       → IsSoundRow (clustered_tree file table) row → IsFoundRow file table row row_values ↔ IsRow file table row row_values
   same_row table row row_values is sound =

@@ -65,12 +65,12 @@ module _ (index : Index) (key : Key) (depth : ℕ) (walk : Walk) (due : Due) (is
       let one = subst (λ (f : Fault). FramedChecks index.file f index_kind due.stand.page v) is.fault x in
       subst (λ (n : ℕ). FramedChecks index.file (way_fault index key depth) index_kind n v) page_is one
 
-  -- it lies beyond the file
+  -- the page that is due lies beyond the file
   pub due_beyond : size_of index.file ≤ due.stand.page → WayChecks index key depth (Some due.fault)
   unfolding WayChecks
   due_beyond beyond = inl (inl ((λ below. omega (arith, beyond, below, page_is)), is.fault))
 
-  -- its frame or its type breaks
+  -- the frame or the type of the page breaks
   pub due_halts : (halt : Halt) → due.stand.page < size_of index.file
       → HaltsAt halt (FramedChecks index.file due.fault index_kind due.stand.page)
       → HaltsAt halt (WayChecks index key depth)
@@ -78,7 +78,7 @@ module _ (index : Index) (key : Key) (depth : ℕ) (walk : Walk) (due : Due) (is
   due_halts (Broken fault) below x = inl (inr (omega (arith, below, page_is), framed (Some fault) x))
   due_halts Source below x = tt
 
-  -- its records or keys break
+  -- the records or keys of the page break
   pub due_breaks : (fault : Fault) (page : List ℕ) (fields : Fields) → due.stand.page < size_of index.file
       → FramedChecks index.file due.fault index_kind due.stand.page None
       → page ≡ page_in index due.stand.page → fields ≡ fields_on index due.stand.level
@@ -88,7 +88,7 @@ module _ (index : Index) (key : Key) (depth : ℕ) (walk : Walk) (due : Due) (is
   due_breaks fault page fields below f p e x =
       inr ((omega (arith, below, page_is), framed None f), in_hand (Some fault) page fields p e x)
 
-  -- or all of them hold
+  -- all checks of the page hold
   pub due_holds : (page : List ℕ) (fields : Fields) → due.stand.page < size_of index.file
       → FramedChecks index.file due.fault index_kind due.stand.page None
       → page ≡ page_in index due.stand.page → fields ≡ fields_on index due.stand.level

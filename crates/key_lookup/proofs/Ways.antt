@@ -24,7 +24,7 @@ use Rattle.key_lookup.proofs.Lists.{contains_flat_map, filter_none, last_or, las
 use Rattle.key_lookup.proofs.Between.{IsFrom, IsUnder, IsBetween, Fits, kids_fit, AreBetween, Spans, kids_between, PairsBehind, HasOneKind}
 use Rattle.key_lookup.proofs.Between.{spans, between, rises}
 
--- one of the pages is chosen, where there is one
+-- one of the pages is chosen, if there is one
 pub page_for_holds : (P : Bounded → Type 0) (index : Index) (key : Key) (none : Bounded) (bs : List Bounded)
     → 0 < length bs → All P bs → P (page_for index key none bs)
 page_for_holds P index key none [] some a = absurd (omega arith)
@@ -114,7 +114,7 @@ module _ (index : Index) (one : HasOneKind index) (key : Key) where
         ((agrees (key_kinds index.leaf)).after key (row_key index row) k
         (symmetric (key_kinds index.leaf) (row_key index row) key equal) b)
 
-    -- so it is below the page that is chosen
+    -- the row is below the page that is chosen
     finds : (none : Bounded) (leftmost : Bool) (ps : List Row) (low high : Option Key)
         → Spans index leftmost ps low high → AreBetween index level (bounds index leftmost ps high)
         → PairsBehind (λ p q. IsBelow (key_kinds index.leaf) (key_in index p) (key_in index q)) ps
@@ -219,7 +219,7 @@ module _ (law : KeysRiseThroughout) (index : Index) (one : HasOneKind index) (tr
         page_for_holds (λ (c : Bounded). Contains (children_at index b.page) c.page) index key b (kids index b)
         (some_pointer l (d == 0) b up.0.0) (kids_are index b.leftmost (rows_on index b.page) b.high)
 
-    -- it lies on its level
+    -- the page of the way lies on its level
     pub page_at : (d l : ℕ) → l + d ≡ root_level index → Contains (pages_at index d) (way index key d).page
     unfolding pages_at
     page_at zero l e = contains_here index.root []
@@ -228,7 +228,7 @@ module _ (law : KeysRiseThroughout) (index : Index) (one : HasOneKind index) (tr
         (contains_flat_map (children_at index) (pages_at index d) (way index key d).page (way index key (suc d)).page
         (page_at d (suc l) (omega arith)) (child_at d l (omega arith)))
 
-    -- its rows are rows of the tree
+    -- the rows of the leaf are rows of the tree
     pub rows_in : (row : Row) (d l : ℕ) → l + d ≡ root_level index
         → Contains (rows_below index l (way index key d).page) row → Contains (tree_rows index) row
     unfolding rows_below
@@ -238,7 +238,7 @@ module _ (law : KeysRiseThroughout) (index : Index) (one : HasOneKind index) (tr
         (contains_flat_map (rows_below index l) (children_at index (way index key d).page) (way index key (suc d)).page
         row (child_at d l (omega arith)) c)
 
-    -- and the rows of the tree with the key are among them
+    -- the rows of the tree with the key are among those of the leaf
     pub rows_on_way : (row : Row) → AreEqualKeys (key_kinds index.leaf) (row_key index row) key
         → Contains (tree_rows index) row → (d l : ℕ) → l + d ≡ root_level index
         → Contains (rows_below index l (way index key d).page) row

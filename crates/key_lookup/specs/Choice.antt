@@ -1,4 +1,4 @@
--- Which node pointer of a page the way goes on behind, by numbers.
+-- Through which node pointer of a page the way goes on, by numbers.
 use Rattle.std.specs.Prelude.{◌≡◌, ℕ, ◌<◌, ◌⊎◌, List, true, false, slice_index}
 use Rattle.std.specs.Ordering.{is_gt}
 use Rattle.column_values.specs.Types.{Fields}

@@ -1,5 +1,5 @@
 -- What a look-up answers, and what its sink then holds.
-use Rattle.std.specs.Prelude.{◌≡◌, ℕ, ◌+◌, ◌*◌, ◌≤◌, ◌⊎◌, List, length, Option, Some, None, Result, Ok, Err}
+use Rattle.std.specs.Prelude.{◌≡◌, ℕ, ⊤, ◌+◌, ◌*◌, ◌≤◌, ◌⊎◌, List, length, Option, Some, None, Result, Ok, Err}
 use Rattle.page_source.specs.declared.objects.PageSource.{Ghosts as FileOf}
 use Rattle.page_source.specs.declared.objects.ByteSink.{Ghosts as SinkOf}
 use Rattle.page_source.specs.Faults.{Rose}
@@ -17,7 +17,7 @@ use Rattle.key_lookup.specs.Record.{found_row, found_pages, IsFoundRow}
 use Rattle.key_lookup.specs.GetFirst.{GetFirst}
 use Rattle.key_lookup.specs.KeyOfText.{SpellsKey, IsNoKey}
 
--- the line of the row that is found, where all checks hold
+-- the line of the row that is found, if all checks hold
 pub record IsLineFound (file : List ℕ) (table : TableDef) (key : Key) (line : List ℕ) : Type 0 where
   pub good : GetFirst file table key None
   pub row : Row
@@ -38,23 +38,27 @@ GrewByLine file table key old new = (line : List ℕ) × IsLineFound file table 
 abbrev pub GrewByPart : List ℕ → TableDef → Key → Option (List ℕ) → Option (List ℕ) → Type 0
 GrewByPart file table key old new = (line : List ℕ) × IsLineFound file table key line × GrowsByPart old new line
 
--- the answer over a file that is told, of a key that the table may have
-abbrev pub GetsByKey : List ℕ → TableDef → Key → Result (Unit {0}) GetStop → Option (List ℕ) → Option (List ℕ) → Type 0
-GetsByKey file table key (Ok done) old new = GrewByLine file table key old new
-GetsByKey file table key (Err Refused) old new = ⊥
-GetsByKey file table key (Err Absent) old new = IsAbsent file table key × (new ≡ old)
-GetsByKey file table key (Err (Broken fault)) old new = GetFirst file table key (Some fault) × (new ≡ old)
-GetsByKey file table key (Err Source) old new =
-    ((line : List ℕ) → IsLineFound file table key line → GrowsByPart old new line)
-    × (((line : List ℕ) → ¬ (IsLineFound file table key line)) → new ≡ old)
-GetsByKey file table key (Err Sink) old new = GrewByPart file table key old new
-GetsByKey file table key (Err Memory) old new = new ≡ old
+-- the answer over a file that is told, of a key that the table may have: if no line is found, the sink itself is as
+-- before
+abbrev pub GetsByKey : {O : Type 0} → SinkOf O → List ℕ → TableDef → Key → Result (Unit {0}) GetStop → O → O → Type 0
+GetsByKey o file table key (Ok done) sink sink_now = GrewByLine file table key (o.written sink) (o.written sink_now)
+GetsByKey o file table key (Err Refused) sink sink_now = ⊥
+GetsByKey o file table key (Err Absent) sink sink_now = IsAbsent file table key
+GetsByKey o file table key (Err (Broken fault)) sink sink_now =
+    GetFirst file table key (Some fault) × (sink_now ≡ sink)
+GetsByKey o file table key (Err Source) sink sink_now =
+    ((line : List ℕ) → IsLineFound file table key line → GrowsByPart (o.written sink) (o.written sink_now) line)
+    × (((line : List ℕ) → ¬ (IsLineFound file table key line)) → sink_now ≡ sink)
+GetsByKey o file table key (Err Sink) sink sink_now =
+    GrewByPart file table key (o.written sink) (o.written sink_now)
+GetsByKey o file table key (Err Memory) sink sink_now = ⊤
 
 -- the answer over a file that is told, of the text of a key
-abbrev pub Gets : List ℕ → TableDef → List ℕ → Result (Unit {0}) GetStop → Option (List ℕ) → Option (List ℕ) → Type 0
-Gets file table text (Err Refused) old new = IsNoKey table text × (new ≡ old)
-Gets file table text (Err Memory) old new = new ≡ old
-Gets file table text result old new = (key : Key) × SpellsKey table text key × GetsByKey file table key result old new
+abbrev pub Gets : {O : Type 0} → SinkOf O → List ℕ → TableDef → List ℕ → Result (Unit {0}) GetStop → O → O → Type 0
+Gets o file table text (Err Refused) sink sink_now = IsNoKey table text
+Gets o file table text (Err Memory) sink sink_now = ⊤
+Gets o file table text result sink sink_now =
+    (key : Key) × SpellsKey table text key × GetsByKey o file table key result sink sink_now
 
 -- a text that is no key's is refused before any object is called
 pub record TouchesNothing {S O : Type 0} (old new : S) (sink sink_now : O) (steps steps_now : ℕ)
@@ -64,8 +68,9 @@ pub record TouchesNothing {S O : Type 0} (old new : S) (sink sink_now : O) (step
   pub out : sink_now ≡ sink
   pub steps_same : steps_now ≡ steps
 
--- what a look-up leaves of the two objects, told or not: the file is as before, a fault is answered only where the count
--- of that object rose, else nothing is written but the line, and each page that the file was asked for was counted
+-- what a look-up leaves of the two objects, told or not: the file is as before, a fault is answered only if the count
+-- of that object rose, nothing is written if there is no row or no memory, and each page that the file was asked for
+-- was counted
 pub record GetsOver {S O : Type 0} (g : FileOf S) (o : SinkOf O) (old new : S) (sink sink_now : O)
     (steps steps_now : ℕ) (result : Result (Unit {0}) GetStop) : Type 0 where
   pub same : g.content new ≡ g.content old

@@ -22,7 +22,7 @@ use Rattle.table_check.specs.Values.{RecordChecksBy}
 use Rattle.key_lookup.specs.Path.{way}
 use Rattle.key_lookup.specs.Record.{found_row}
 
--- what is broken where a page of the way can't be one: the root names itself, and the page above the others
+-- what is broken if a page of the way can't be one: the root names itself, and the page above the others
 abbrev pub way_fault : Index → Key → ℕ → Fault
 way_fault index key zero = record { rule = RootPlace; page = index.root }
 way_fault index key (suc depth) = record { rule = ChildPlace; page = (way index key depth).page }
@@ -46,13 +46,13 @@ AllWayChecks index key = Each (root_level index + 1) (WayChecks index key)
 abbrev pub FoundRecordChecks : List ℕ → ℕ → List ℕ → ℕ → Fields → (ℕ → Bool) → Option Fault → Type 0
 FoundRecordChecks file = RecordChecksBy file (UnauditedPlace file)
 
--- of the row, where there is one
+-- the checks of the values of the row, if there is one
 abbrev pub FoundRowChecks : Index → Option Row → Option Fault → Type 0
 FoundRowChecks index None = Clear
 FoundRowChecks index (Some row) =
     FoundRecordChecks index.file row.page (page_in index row.page) row.origin index.leaf (λ page. false)
 
--- the checks behind the head
+-- the checks after those of the head
 abbrev pub LookUpChecks : Index → Key → Option Fault → Type 0
 LookUpChecks index key = Then (AllWayChecks index key) (FoundRowChecks index (found_row index key))
 

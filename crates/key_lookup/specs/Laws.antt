@@ -1,4 +1,4 @@
--- In a sound file the look-up finds exactly the row with the key.
+-- In a sound file the look-up finds exactly the row with the key; a look-up has one answer, and one line.
 use Rattle.std.specs.Prelude.{◌≡◌, ◌↔◌, ℕ, List, Contains, Option, Some, None}
 use Rattle.page_source.specs.declared.rule.Fault.{Fault}
 use Rattle.column_values.specs.declared.value.Value.{Value}
@@ -16,6 +16,7 @@ use Rattle.table_check.specs.Valid.{IsValid}
 use Rattle.key_lookup.specs.Record.{found_row, IsFoundRow}
 use Rattle.key_lookup.specs.GetFirst.{GetFirst}
 use Rattle.key_lookup.specs.KeyOfText.{SpellsKey}
+use Rattle.key_lookup.specs.Get.{IsLineFound}
 
 -- a row without the delete mark, whose key is neither less nor greater
 pub record IsRowWith (index : Index) (key : Key) (row : Row) : Type 0 where
@@ -35,7 +36,7 @@ pub record FindsRow (file : List ℕ) (table : TableDef) (key : Key) : Type 0 wh
   pub same : (row : Row) (row_values : List Value) → found_row (clustered_tree file table) key ≡ Some row
       → IsFoundRow file table row row_values ↔ IsRow file table row row_values
 
--- so it is in each sound file, for each key
+-- in each sound file, for each key, the row is found
 abbrev pub FindsInValid : Type 0
 FindsInValid = (file : List ℕ) (table : TableDef) (key : Key) → IsTable table → IsValid file table
     → FindsRow file table key
@@ -51,3 +52,9 @@ abbrev pub GetFirstHasOneAnswer : Type 0
 GetFirstHasOneAnswer =
     (file : List ℕ) (table : TableDef) (key : Key) (a b : Option Fault) → GetFirst file table key a
     → GetFirst file table key b → a ≡ b
+
+-- a file, a table and a key have one line that is found at the most
+abbrev pub FindsOneLine : Type 0
+FindsOneLine =
+    (file : List ℕ) (table : TableDef) (key : Key) (a b : List ℕ) → IsTable table → IsLineFound file table key a
+    → IsLineFound file table key b → a ≡ b

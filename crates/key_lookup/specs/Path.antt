@@ -12,11 +12,11 @@ abbrev pub is_up_to : Index → Key → Option Key → Bool
 is_up_to index key None = true
 is_up_to index key (Some low) = not (is_gt (key_cmp (key_kinds index.node) low key))
 
--- those of these pages whose low separators aren't above the key
+-- which of these pages have a low separator that isn't above the key
 abbrev pub pages_up_to : Index → Key → List Bounded → List Bounded
 pages_up_to index key bs = filter (λ (b : Bounded). is_up_to index key b.low) bs
 
--- of these pages the last one whose low separator isn't above the key, or else the first one
+-- of these pages the last one whose low separator isn't above the key, otherwise the first one
 abbrev pub page_for : Index → Key → Bounded → List Bounded → Bounded
 page_for index key none [] = none
 page_for index key none (first ∷ rest) =
@@ -31,6 +31,6 @@ abbrev pub way : Index → Key → ℕ → Bounded
 way index key zero = bounded_root index
 way index key (suc depth) = next_down index key (way index key depth)
 
--- the leaf
+-- the leaf where the key belongs
 abbrev pub leaf_for : Index → Key → ℕ
 leaf_for index key = (way index key (root_level index)).page

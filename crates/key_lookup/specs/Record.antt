@@ -27,7 +27,7 @@ has_key index key row = is_eq (key_cmp (key_kinds index.leaf) (row_key index row
 unfoldable pub records_with : Index → Key → ℕ → List Row
 records_with index key n = filter (has_key index key) (rows_on index n)
 
--- the one on a page that has the key and no delete mark, where there is one
+-- the record on a page that has the key and no delete mark, if there is one
 unfoldable pub row_on : Index → Key → ℕ → Option Row
 row_on index key n = slice_get (filter (is_live_row index) (records_with index key n)) 0
 
@@ -35,7 +35,7 @@ row_on index key n = slice_get (filter (is_live_row index) (records_with index k
 abbrev pub found_row : Index → Key → Option Row
 found_row index key = row_on index key (leaf_for index key)
 
--- the pages that the values of the row go on in, where there is one
+-- the pages that the values of the row go on in, if there is one
 abbrev pub found_pages : Index → Option Row → List ℕ
 found_pages index None = []
 found_pages index (Some row) = pages_of_row index row

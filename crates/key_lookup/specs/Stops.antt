@@ -19,7 +19,7 @@ get_stop_of_write (writes.Broken fault) = Broken fault
 get_stop_of_write writes.Source = Source
 get_stop_of_write writes.Sink = Sink
 
--- and what an unread key is to it
+-- what an unread key is to a look-up
 abbrev pub get_stop_of_row : RowError → GetStop
 get_stop_of_row errors.Refused = Refused
 get_stop_of_row errors.Memory = Memory

@@ -12,11 +12,11 @@ use Rattle.key_lookup.specs.declared.tree.Tree.{Tree}
 abbrev pub index_in : List ℕ → Tree → Index
 index_in file tree = index_of file tree.root tree.leaf.now tree.node.now
 
--- what is said of that index, where the file tells its bytes
+-- what is said of that index, if the file tells its bytes
 abbrev pub OfIndex : {S : Type 0} → FileOf S → S → Tree → (Index → Type 0) → Type 0
 OfIndex g source tree Fact = OfFile g source (λ file. Fact (index_in file tree))
 
--- it can be looked into: the header is that of the file, and there is room for its records
+-- the index can be looked into: the header is that of the file, and there is room for its records
 pub record IsReady {S : Type 0} (g : FileOf S) (source : S) (tree : Tree) (walk : Walk) : Type 0 where
   pub header : OfFile g source (λ file. HasHeader file tree.header.now)
   pub bounds : HasBounds tree.header.now

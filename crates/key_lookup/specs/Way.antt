@@ -22,7 +22,7 @@ use Rattle.key_lookup.specs.GetFirst.{way_fault, WayChecks}
 abbrev pub spot_due : Walk → Fields → Due → Spot
 spot_due walk node due = spot_beside walk node due.stand due.low due.next
 
--- it is the page at this depth of the way
+-- the page that is due is the one at this depth of the way
 pub record IsDue (index : Index) (key : Key) (depth : ℕ) (walk : Walk) (due : Due) : Type 0 where
   pub spot : spot_due walk index.node due ≡ spot_on due.stand.level (depth == 0) (way index key depth)
   pub fault : due.fault ≡ way_fault index key depth
@@ -50,7 +50,7 @@ pub record IsOnWay (index : Index) (key : Key) (walk : Walk) (due : Due) : Type 
 abbrev pub high_held : Walk → Fields → Next → Option Key
 high_held walk node next = held_key (page_after next walk.parent walk.after) node (origin_after next)
 
--- the high separator of a child: the key of the node pointer behind its own, or that of the page itself
+-- the high separator of a child: the key of the node pointer after its own, or that of the page itself
 abbrev pub high_behind : List ℕ → Fields → ℕ → Option Key → Option Key
 high_behind page node k high =
     if nat_lt (k + 1) (record_count page) then Some (record_key page node (k + 1)) else high

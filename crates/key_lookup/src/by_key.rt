@@ -1,6 +1,7 @@
 //! The line of the row with a key.
 
 ghost use Rattle.std.specs.Prelude.{◌≡◌, ◌≢◌, ◌+◌, ◌≤◌, List, length, None, OnOk, Ok, Err};
+ghost use Rattle.page_source.specs.declared.rule.Fault.{Fault};
 ghost use Rattle.page_source.specs.Calls.{OfFile};
 ghost use Rattle.column_values.specs.declared.value.Value.{Value};
 ghost use Rattle.column_values.specs.Order.{Key};
@@ -9,8 +10,9 @@ ghost use Rattle.row_text.specs.Line.{line_of};
 ghost use Rattle.tree_walk.specs.Records.{IsRecord};
 ghost use Rattle.table_check.specs.First.{TakesSteps, AsksAtMost};
 ghost use Rattle.sql_dump.specs.Stops.{Writes, WritesOver};
-ghost use Rattle.sql_dump.specs.Cells.{ReadsRow, CanReadRow, row_on};
+ghost use Rattle.sql_dump.specs.Cells.{ReadsRow, CanReadRow, BreaksRow, row_on};
 ghost use Rattle.key_lookup.specs.KeyOfText.{SpellsKey, IsNoKey};
+ghost use Rattle.key_lookup.specs.LookUp.{row_found};
 ghost use Rattle.key_lookup.specs.Get.{GetsByKey, Gets, TouchesNothing, GetsOver, get_steps, steps_for};
 
 use crate::find::find;
@@ -26,7 +28,8 @@ use sql_dump::{ChainRoom, RowReader, WriteStop, put_row};
 use std::alloc::Global;
 use std::sync::ledger::Ledger;
 
-/// Writes the line of the row that was found on its leaf.
+/// Writes the line of the row that was found on its leaf. Over a file that changed `Broken` names this leaf, or a page
+/// of a chain.
 fn write_row<S: PageSource, O: ByteSink, L: Ledger>(
     source: &mut S,
     sink: &mut O,
@@ -42,6 +45,8 @@ fn write_row<S: PageSource, O: ByteSink, L: Ledger>(
     ensures puts { OfFile S.PageSource source.old (λ file. (row_values : List Value)
         → ReadsRow file (row_on reader.old.table leaf.now found.origin) row_values
         → Writes result (O.written sink.old) (O.written sink.new) (line_of reader.old.table row_values)) }
+    ensures broken { (fault : Fault) → result ≡ Err (WriteStop.Broken fault)
+        → BreaksRow (row_found reader.old.table leaf.now found) fault }
     ensures cost { steps.new + room.new.left ≡ steps.old + room.old.left }
     ensures over { WritesOver S.PageSource O.ByteSink source.old source.new sink.old sink.new
         steps.old steps.new result }
@@ -62,7 +67,7 @@ pub(crate) fn get_by_key<S: PageSource, O: ByteSink, L: Ledger>(
 ) -> Result<(), GetStop>
     requires same { length key.now ≡ (leaf_fields schema.now 0).keys }
     ensures told { OfFile S.PageSource source.old (λ file.
-        GetsByKey file schema.now key.now result (O.written sink.old) (O.written sink.new)) }
+        GetsByKey O.ByteSink file schema.now key.now result sink.old sink.new) }
     ensures knows { result ≢ Err GetStop.Refused }
     ensures over { GetsOver S.PageSource O.ByteSink source.old source.new sink.old sink.new
         steps.old steps.new result }
@@ -106,8 +111,8 @@ pub(crate) fn get_by_key<S: PageSource, O: ByteSink, L: Ledger>(
 
 /// Finds the row whose key the text spells, and writes its line. Before the file is touched, a text that is no key's is
 /// `Refused`. `Broken` names the first broken check of the head, of the way to the row or of its values, with the page
-/// that it is about; nothing was written then. `Absent` is no row, or one with the delete mark. Pages beside the way are
-/// neither fetched nor checked (btr0cur). Chains are fetched twice, since they are checked before the line begins.
+/// that it is about; nothing was written then. `Absent` is no row, or one with the delete mark. Pages beside the way
+/// are neither fetched nor checked (btr0cur). Chains are fetched twice, since they are checked before the line begins.
 pub fn get<S: PageSource, O: ByteSink, L: Ledger>(
     alloc: Global,
     source: &mut S,
@@ -117,7 +122,7 @@ pub fn get<S: PageSource, O: ByteSink, L: Ledger>(
     steps: &mut Steps<L>,
 ) -> Result<(), GetStop>
     ensures told { OfFile S.PageSource source.old (λ file.
-        Gets file schema.now key.now result (O.written sink.old) (O.written sink.new)) }
+        Gets O.ByteSink file schema.now key.now result sink.old sink.new) }
     ensures refused { result ≡ Err GetStop.Refused → IsNoKey schema.now key.now }
     ensures first { IsNoKey schema.now key.now
         → TouchesNothing source.old source.new sink.old sink.new steps.old steps.new result }

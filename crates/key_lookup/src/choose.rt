@@ -1,4 +1,4 @@
-//! The node pointer of a page that the way goes on behind.
+//! The node pointer of a page through which the way goes on.
 
 ghost use Rattle.std.specs.Prelude.{◌≡◌, ◌<◌, ◌≤◌, length};
 ghost use Rattle.index_page.specs.Header.{record_count};

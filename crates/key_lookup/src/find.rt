@@ -36,7 +36,7 @@ fn root_of(schema: &Schema) -> u32
 }
 
 /// Finds the row of a table with a key that has no delete mark, by the checks of the head, of the way to it and of its
-/// values. Its leaf is the page in hand then.
+/// values. The leaf of the row is the page in hand then.
 pub(crate) fn find<S: PageSource, L: Ledger>(
     alloc: Global,
     source: &mut S,

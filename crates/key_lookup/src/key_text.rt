@@ -1,7 +1,7 @@
 //! The key that a text spells, as it is sought.
 
-ghost use Rattle.std.specs.Prelude.{◌≡◌, ℕ, ◌<◌, ◌^◌, ◌++◌, ◌∷◌, [], false, List, length, map, zip, slice_get, Some, IfOk};
-ghost use Rattle.std.specs.Prelude.{OnOk, All};
+ghost use Rattle.std.specs.Prelude.{◌≡◌, ℕ, ◌<◌, ◌^◌, ◌++◌, ◌∷◌, [], false, List, length, map, zip, slice_get};
+ghost use Rattle.std.specs.Prelude.{Some, IfOk, OnOk, All};
 ghost use Rattle.std.specs.List.{AllZip};
 ghost use Rattle.page_source.specs.Pages.{be_bytes};
 ghost use Rattle.column_values.specs.Types.{IsColumnType};
@@ -14,7 +14,7 @@ ghost use Rattle.key_lookup.specs.KeyOfText.{FindsSearchKey};
 
 use crate::key::SearchKey;
 use byteorder::{BigEndian, ByteOrder};
-use column_values::{ColumnType, Value, encode};
+use column_values::{ColumnType, Value, ValueError, encode};
 use page_source::{ByteList, NoMemory};
 use row_text::{Row, RowError, read_key};
 use schema_text::{Column, Schema};
@@ -41,7 +41,8 @@ fn spelled(alloc: Global, kind: &ColumnType, value: &Value) -> Result<ByteList, 
 {
     match encode(alloc, kind, value) {
         Ok(bytes) => Ok(bytes),
-        Err(_) => Err(NoMemory),
+        Err(ValueError::Memory) => Err(NoMemory),
+        Err(ValueError::BadValue) => unreachable!(),
     }
 }
 
@@ -60,7 +61,7 @@ fn push_column(
     key.push(bytes.bytes())
 }
 
-/// The places of the columns of the clustered key; none where rows have a hidden id.
+/// The places of the columns of the clustered key; none if rows have a hidden id.
 fn key_places(schema: &Schema) -> &[u16]
     ensures same { result.now ≡ clustered_positions schema.now }
     ensures within { All (λ place. place < length schema.now.columns) result.now }

@@ -1,8 +1,9 @@
 //! Laws of the definitions, each the contract of a function that does nothing.
 
 ghost use Rattle.schema_text.specs.Grammar.{IsTable};
-ghost use Rattle.key_lookup.specs.Laws.{FindsRowIn, FindsInValid, GetFirstHasOneAnswer, SpellsOneKey};
+ghost use Rattle.key_lookup.specs.Laws.{FindsRowIn, FindsInValid, GetFirstHasOneAnswer, SpellsOneKey, FindsOneLine};
 
+use column_values::laws::spellings_are_unique;
 use index_page::laws::{checks_are_an_index_page, keys_rise_throughout};
 use offpage_chain::laws::has_one_chain;
 use row_text::laws::key_texts_are_unique;
@@ -46,3 +47,10 @@ pub fn text_spells_one_key()
 pub fn look_up_has_one_answer()
     ensures { GetFirstHasOneAnswer }
 {}
+
+/// A key has one line at the most: that of the one row that is found, whose bytes spell one value each.
+pub fn finds_one_line()
+    ensures { FindsOneLine }
+{
+    spellings_are_unique();
+}

@@ -23,7 +23,7 @@ fn is_sought(key: &SearchKey, page: &Page, fields: &FieldList, located: &Located
     key.compare_record(page, fields, located) == Ordering::Equal && !deleted(page, at)
 }
 
-/// The record of a leaf that has the key and no delete mark, where there is one.
+/// The record of a leaf that has the key and no delete mark, if there is one.
 pub(crate) fn find_row(
     located: &mut Located,
     page: &Page,

@@ -33,8 +33,8 @@ pub(crate) struct Found {
     pub pages: u32,
 }
 
-/// Finds the row with the key that has no delete mark, by the checks of the way to it and of its values. Its leaf is
-/// the page in hand then.
+/// Finds the row with the key that has no delete mark, by the checks of the way to it and of its values. The leaf of
+/// the row is the page in hand then.
 pub(crate) fn look_up<S: PageSource, L: Ledger>(
     walk: &mut Walk,
     source: &mut S,

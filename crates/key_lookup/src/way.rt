@@ -1,6 +1,7 @@
 //! The way from the root to the leaf where a key belongs.
 
-ghost use Rattle.std.specs.Prelude.{◌≡◌, ◌==◌, ◌+◌, ◌<◌, ◌≤◌, ℕ, if◌then◌else◌, IfOk, OnOk, IfSome, List, length, false};
+ghost use Rattle.std.specs.Prelude.{◌≡◌, ◌==◌, ◌+◌, ◌<◌, ◌≤◌, ℕ, if◌then◌else◌, IfOk, OnOk, IfSome, List, length};
+ghost use Rattle.std.specs.Prelude.{false};
 ghost use Rattle.std.specs.Prelude.{None, Some, ◌&&◌, slice_index};
 ghost use Rattle.page_source.specs.Checks.{Halts, Finds};
 ghost use Rattle.page_source.specs.Calls.{HaltsOver};
@@ -41,14 +42,13 @@ const INDEX_ID: usize = 66;
 /// The least origin of a record of the heap.
 const FIRST_ORIGIN: usize = 125;
 
-/// A page of the way that is due: where it stands, between which node pointers, and what is broken where it can't be
-/// one.
+/// A page of the way that is due: where it stands, between which node pointers, and what is broken if it can't be one.
 #[derive(Clone, Copy, Debug, PartialEq, Eq)]
 pub(crate) struct Due {
     pub stand: Stand,
     /// The node pointer that leads to it, whose key is its low separator; a leftmost page has none.
     pub low: Option<usize>,
-    /// The node pointer whose key is its high separator, where there is one.
+    /// The node pointer whose key is its high separator, if there is one.
     pub next: Next,
     pub fault: Fault,
 }
@@ -169,7 +169,7 @@ fn check_next<S: PageSource, L: Ledger>(
     Ok(())
 }
 
-/// Keeps the page with the high separator, where the page in hand takes the place of its parent.
+/// Keeps the page with the high separator, while the page in hand takes the place of its parent.
 fn keep_high(walk: &mut Walk, next: Next) -> Next
     ensures high { (node : Fields) (parent : List ℕ)
         → held_key (page_after result parent walk.new.after) node (origin_after result)

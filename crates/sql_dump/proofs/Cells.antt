@@ -33,7 +33,7 @@ pub length_fields : (table : TableDef) (at : List ℕ) → at ≡ fields_of_colu
 length_fields table at are = ap length are ∙ length-map-range_with_len (field_of_column table) 0 (length
     table.columns)
 
--- it is one of those that were read
+-- the field of a column is among those that were read
 pub field_within : (table : TableDef) (at : List ℕ) (places : List Place) (c d : ℕ) → IsTable table
     → AreCells table at places → c < length table.columns → get_or at c d < length places
 field_within table at places c d is cells within =
@@ -88,7 +88,7 @@ pub cell_pages : (file : List ℕ) (row : RowView) (c : ℕ) (cell : CellView) �
     → length (pages_of_cell file cell) ≡ length (pages_of_cell file (cell_of_column row c))
 cell_pages file row c cell is = ap (λ (x : CellView). length (pages_of_cell file x)) is
 
--- it is near where all fields are
+-- a column is near if all fields are
 pub cell_near : (row : RowView) (c : ℕ) (cell : CellView) → IsTable row.table → HavePlaces row.table row.places
     → cell ≡ cell_of_column row c → c < length row.table.columns → All IsNear row.places → IsNear cell.place
 unfolding place_in

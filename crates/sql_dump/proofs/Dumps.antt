@@ -5,6 +5,7 @@ use Rattle.std.specs.List.{range_with_len}
 use Rattle.std.proofs.lemmas.Bool.{and_parts}
 use Rattle.std.proofs.lemmas.List.{append-nil}
 use Rattle.std.proofs.lemmas.List.FromFn.{get_or-map-range_with_len}
+use Rattle.page_source.specs.declared.objects.ByteSink.{Ghosts as SinkOf}
 use Rattle.page_source.specs.declared.checks.Stop.{Stop}
 use Rattle.page_source.specs.declared.checks.Stop.TheVariants as stops
 use Rattle.page_source.specs.Checks.{Stops}
@@ -98,7 +99,7 @@ sound_table file table is laws first =
       found = table_values file table (is_in (all_tree_pages file table)) is chains laws.readable walked first.1.1.0;
     }
 
--- its dump
+-- the dump of a sound table
 dump_of : (file : List ℕ) (table : TableDef) (found : TableValues file table)
     → IsDumpOf file table (text_of table found.all)
 dump_of file table found = record { rows = found.all; are = found.are; is = refl }
@@ -107,52 +108,50 @@ no_part : (o : Option (List ℕ)) (text : List ℕ) → GrowsByPart o o text
 no_part None text = refl
 no_part (Some old) text = (0, omega arith, ap Some (sym (append-nil old)))
 
--- the checks ended it
-pub checks_end : (file : List ℕ) (table : TableDef) (stop : Stop) (o : Option (List ℕ)) → IsTable table
-    → CheckedCanBeRead
-    → Stops stop (First file table) → Dumps file table (Err (dump_stop_of_checks stop)) o o
-checks_end file table (stops.Broken fault) o is laws first = (first, refl)
-checks_end file table stops.Source o is laws first = (
-  λ sound.
+module _ {O : Type 0} (o : SinkOf O) (file : List ℕ) (table : TableDef) where
+  -- the checks ended it
+  pub checks_end : (stop : Stop) (sink : O) → IsTable table → CheckedCanBeRead → Stops stop (First file table)
+      → Dumps o file table (Err (dump_stop_of_checks stop)) sink sink
+  checks_end (stops.Broken fault) sink is laws first = (first, refl)
+  checks_end stops.Source sink is laws first = (
+    λ sound.
+        let found = (sound_table file table is laws sound).found in
+        (text_of table found.all, dump_of file table found, no_part (o.written sink) (text_of table found.all)),
+    λ _. refl,
+  )
+  checks_end stops.Memory sink is laws first = tt
+
+  -- the writing ended it
+  pub writing_ends : (e : WriteStop) (a b : O) → IsTable table → CheckedCanBeRead → First file table None
+      → ((all : List (List Value)) → ReadsRows file table all
+      → Writes {A = Unit {0}} (Err e) (o.written a) (o.written b) (text_of table all))
+      → Dumps o file table (Err (dump_stop_of e)) a b
+  writing_ends (ends.Broken fault) a b is laws sound writes =
       let found = (sound_table file table is laws sound).found in
-      (text_of table found.all, dump_of file table found, no_part o (text_of table found.all)),
-  λ _. refl,
-)
-checks_end file table stops.Memory o is laws first = refl
+      absurd (writes found.all found.reads)
+  writing_ends ends.Source a b is laws sound writes =
+      let found = (sound_table file table is laws sound).found in (
+        λ _. (text_of table found.all, dump_of file table found, writes found.all found.reads),
+        λ broken. absurd (broken sound),
+      )
+  writing_ends ends.Sink a b is laws sound writes =
+      let found = (sound_table file table is laws sound).found in
+      (sound, (text_of table found.all, dump_of file table found, writes found.all found.reads))
 
--- the writing ended it
-pub writing_ends : (file : List ℕ) (table : TableDef) (e : WriteStop) (a b : Option (List ℕ)) → IsTable table
-    → CheckedCanBeRead
-    → First file table None → ((all : List (List Value)) → ReadsRows file table all
-    → Writes {A = Unit {0}} (Err e) a b (text_of table all))
-    → Dumps file table (Err (dump_stop_of e)) a b
-writing_ends file table (ends.Broken fault) a b is laws sound writes =
-    let found = (sound_table file table is laws sound).found in
-    absurd (writes found.all found.reads)
-writing_ends file table ends.Source a b is laws sound writes =
-    let found = (sound_table file table is laws sound).found in (
-      λ _. (text_of table found.all, dump_of file table found, writes found.all found.reads),
-      λ broken. absurd (broken
-          sound),
-    )
-writing_ends file table ends.Sink a b is laws sound writes =
-    let found = (sound_table file table is laws sound).found in
-    (sound, (text_of table found.all, dump_of file table found, writes found.all found.reads))
-
--- all was written
-pub all_written : (file : List ℕ) (table : TableDef) (checked : Checked) (a b : Option (List ℕ)) → IsTable table
-    → CheckedCanBeRead → ChecksAreValidity
-    → First file table None → IsChecked file table checked
-    → ((all : List (List Value)) → ReadsRows file table all → GrowsBy a b (text_of table all))
-    → Dumps file table (Ok checked) a b
-all_written file table checked a b is laws validity sound numbers writes =
-    let found = (sound_table file table is laws sound).found in
-    record {
-      sound = sound;
-      valid = (validity file table).0 sound;
-      numbers = numbers;
-      written = (text_of table found.all, dump_of file table found, writes found.all found.reads);
-    }
+  -- all was written
+  pub all_written : (checked : Checked) (a b : O) → IsTable table → CheckedCanBeRead → ChecksAreValidity
+      → First file table None → IsChecked file table checked
+      → ((all : List (List Value)) → ReadsRows file table all
+      → GrowsBy (o.written a) (o.written b) (text_of table all))
+      → Dumps o file table (Ok checked) a b
+  all_written checked a b is laws validity sound numbers writes =
+      let found = (sound_table file table is laws sound).found in
+      record {
+        sound = sound;
+        valid = (validity file table).0 sound;
+        numbers = numbers;
+        written = (text_of table found.all, dump_of file table found, writes found.all found.reads);
+      }
 
 -- the rows can be written
 pub can_write : (file : List ℕ) (table : TableDef) (checked : Table) (rows : LiveView) → IsTable table

@@ -37,7 +37,7 @@ same_list (x ∷ xs) (y ∷ ys) size same =
     ap₂ (λ (z : Value) (zs : List Value). z ∷ zs) (same 0 (omega arith))
     (same_list xs ys (omega (arith, size)) (λ c below. same (suc c) (omega (arith, below))))
 
--- so are lists beside one list, where each member has one beside it at the most
+-- lists beside one list are equal, if each member has one beside it at the most
 same_beside : {A B : Type 0} (P : A → B → Type 0) → ((x : A) (y z : B) → P x y → P x z → y ≡ z) → (xs : List A)
     (ys zs : List B) → AllZip P xs ys → AllZip P xs zs → ys ≡ zs
 same_beside P one [] [] [] first second = refl
@@ -73,7 +73,7 @@ module _ (chain : HasOneChain) (spelled : HasOneValue) (file : List ℕ) (most :
           let same = same_bytes segment (bytes_at page place) a.0 b.0 a.1 b.1 in
           spelled kind v w b.0 known (subst (Spell kind v) same a.2) b.2
 
-  -- so has a row one list of values
+  -- a row has one list of values
   same_row : (table : TableDef) → IsTable table → (row : Row) (a b : List Value) → IsRow file table row a
       → IsRow file table row b → a ≡ b
   same_row table is row a b x y =

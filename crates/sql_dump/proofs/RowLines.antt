@@ -75,7 +75,7 @@ range_more f c =
     ap (flat_map f) (range_at c 0) ∙ flat_map-append f (range_with_len 0 c) (c ∷ [])
     ∙ ap (λ t. flat_map f (range_with_len 0 c) ++ t) (append-nil (f c))
 
--- and with those behind it
+-- a list in three parts: what comes before place c, what comes there, and what comes after it
 pub range_split_at : {A : Type 0} (f : ℕ → List A) (c n : ℕ) → c < n
     → flat_map f (range_with_len 0 n)
     ≡ flat_map f (range_with_len 0 c) ++ (f c ++ flat_map f (range_with_len (c + 1) (n - (c + 1))))

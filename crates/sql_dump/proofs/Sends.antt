@@ -81,7 +81,7 @@ moves_end o p q text held now line rest e before ends =
     by_stop Source ends = grows_part o p q before.sent (held ++ line) rest before.grown ends
     by_stop Sink ends = grows_part o p q before.sent (held ++ line) rest before.grown ends
 
--- it ended with the rest held
+-- the writing ended with the rest held
 pub sent_part : (o p : Option (List ℕ)) (text held rest : List ℕ) → IsSent o p text held
     → GrowsByPart o p (text ++ rest)
 sent_part o p text held rest is =

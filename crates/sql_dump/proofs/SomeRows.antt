@@ -60,7 +60,7 @@ row_goes_on table a b d c came kind so within came_is kind_is next =
           ∙ ap (λ (t : List ℕ). line_open table ++ t) (sym more)) whole;
     }
 
--- it broke off, or was closed
+-- the line broke off, or was closed
 pub row_breaks : (table : TableDef) (a b : Option (List ℕ)) (c : ℕ) → SomeValues table a b c → Grows a b
 row_breaks table a b c so =
     record { text = line_open table ++ joined_values (take c table.columns) so.row; grown = so.grown }

@@ -98,7 +98,7 @@ row_here file table rows j origin all is reads =
     (zip_at (ReadsRecord file table) (live_rows (clustered_tree file table)) all j no_row [] reads is.within) in
     rw is.held (record { readable = here.readable; reads = here.reads })
 
--- its pages
+-- the columns of a row go on in no more pages than the row
 tree_pages_of : (file : List ℕ) (table : TableDef) (page origin : ℕ) → IsTable table
     → length (pages_of_all file (row_on table (page_in (clustered_tree file table) page) origin))
     ≤ length (pages_of_row (clustered_tree file table) (record { page = page; origin = origin }))
@@ -231,7 +231,7 @@ row_given {table = table} {page = page} {places = places} origin is table_is pag
     is ∙ ap (λ (t : TableDef). row_with t page places) table_is ∙ ap (row_with table page) places_are
     ∙ ap (λ (p : List ℕ). row_on table p origin) page_is
 
--- it can be read in the fetches that are left
+-- the row in hand can be read in the fetches that are left
 pub can_read_row : {file : List ℕ} {table : TableDef} {rows : LiveView} {left : ℕ} {old now : Option (List ℕ)}
     {held : List ℕ} (new : LiveView) (origin : ℕ) (all : List (List Value)) → IsTable table → ReadsRows file table all
     → (so : RowsSoFar file table rows left old now held)

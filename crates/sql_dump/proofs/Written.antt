@@ -20,14 +20,14 @@ grown_part (Some old) b xs rest first = (
       (take-append_seam xs rest)),
 )
 
--- it ended where a text was put: what follows is still to come
+-- the writing ended when a text was put: what follows is still to come
 pub ends_here : (a b : Option (List ℕ)) (xs rest : List ℕ) (e : WriteStop) → GrowsBy a b xs
     → ((f : Fault) → e ≡ Broken f → ⊥) → Writes {A = Unit {0}} (Err e) a b (xs ++ rest)
 ends_here a b xs rest (Broken f) grown never = never f refl
 ends_here a b xs rest Source grown never = grown_part a b xs rest grown
 ends_here a b xs rest Sink grown never = grown_part a b xs rest grown
 
--- it ended in a piece behind it
+-- the writing ended in a later piece
 pub ends_in_piece : (a b c : Option (List ℕ)) (xs piece rest : List ℕ) (e : WriteStop) → GrowsBy a b xs
     → Writes {A = Unit {0}} (Err e) b c piece → Writes {A = Unit {0}} (Err e) a c (xs ++ (piece ++ rest))
 ends_in_piece a b c xs piece rest (Broken f) grown ends = absurd ends

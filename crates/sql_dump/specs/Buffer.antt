@@ -9,13 +9,13 @@ pub record Held : Type 0 where
   pub bytes : List ℕ
   pub refused : ℕ
 
--- of a text and what is put behind it this much went to the sink, and the rest is held
+-- of a text and what is put after it this much went to the sink, and the rest is held
 pub record IsSent (old new : Option (List ℕ)) (text held : List ℕ) : Type 0 where
   pub sent : List ℕ
   pub grown : GrowsBy old new sent
   pub split : text ≡ sent ++ held
 
--- a text was put behind what the buffer held, or the sink got a prefix of both; no rule is found broken
+-- a text was put after what the buffer held, or the sink got a prefix of both; no rule is found broken
 abbrev pub Moves : {A : Type 0} → Result A WriteStop → Option (List ℕ) → Option (List ℕ) → List ℕ → List ℕ → List ℕ →
     Type 0
 Moves (Ok a) old new held now text = IsSent old new (held ++ text) now
@@ -31,7 +31,7 @@ Keeps (Err (Broken fault)) held now line = ⊥
 Keeps (Err Source) held now line = ⊤
 Keeps (Err Sink) held now line = ⊥
 
--- so many fetches are left where its pages were read or not
+-- how many fetches are left after the pages of a line were read, or weren't
 abbrev pub LeavesOf : Bool → ℕ → ℕ → ℕ → Type 0
 LeavesOf true left now pages = now + pages ≡ left
 LeavesOf false left now pages = now ≡ left

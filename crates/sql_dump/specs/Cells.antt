@@ -25,7 +25,7 @@ pub record RowView : Type 0 where
   pub page : List ℕ
   pub places : List Place
 
--- the same with the number of the leaf
+-- a row with the number of its leaf
 pub record RowOnLeaf : Type 0 where
   pub row : RowView
   pub leaf : ℕ
@@ -66,11 +66,11 @@ pub record IsCell (cell : CellView) : Type 0 where
   pub known : IsColumnType cell.kind
   pub lies : LiesBelow 16384 cell.place
 
--- all its bytes stand on the leaf
+-- all bytes of a column stand on the leaf
 abbrev pub IsNear : Place → Type 0
 IsNear place = place.external ≡ false
 
--- its bytes on the leaf
+-- the bytes of a column on the leaf
 abbrev pub local_bytes : CellView → List ℕ
 local_bytes cell = bytes_at cell.page cell.place
 
@@ -85,8 +85,8 @@ pub record HasUnsound (row : RowView) : Type 0 where
   pub within : column < length row.table.columns
   pub unsound : ¬ (IsSound (cell_of_column row column))
 
--- what is named where a row isn't written: its leaf, where a column may not be written; or a page of a chain that a
--- column of it goes on in
+-- what is named if a row isn't written: its leaf, if a column may not be written; or a page of a chain that a column
+-- of it goes on in
 abbrev pub BreaksRow : RowOnLeaf → Fault → Type 0
 BreaksRow on fault =
     ((fault ≡ record { rule = rules.Value; page = on.leaf }) × HasUnsound on.row)
@@ -106,11 +106,11 @@ pub record ReadsValue (file : List ℕ) (cell : CellView) (value : Value) : Type
   pub long : cell.place.null ≡ false → cell.place.external ≡ true
       → IsWholeLong file cell.kind (local_bytes cell) value
 
--- the pages that it goes on in
+-- the pages that a column goes on in
 abbrev pub pages_of_cell : List ℕ → CellView → List ℕ
 pages_of_cell file cell = pages_of_field file (Column cell.kind) cell.page cell.place
 
--- it can be read in so many fetches
+-- a column can be read in so many fetches
 pub record CanReadCell (file : List ℕ) (cell : CellView) (left : ℕ) : Type 0 where
   pub value : Value
   pub reads : ReadsValue file cell value
@@ -129,7 +129,7 @@ pub record ReadsRow (file : List ℕ) (row : RowView) (row_values : List Value) 
   pub each : (c : ℕ) → c < length row.table.columns
       → ReadsValue file (cell_of_column row c) (slice_index_or row_values c Null)
 
--- it can be read in so many fetches
+-- a row can be read in so many fetches
 pub record CanReadRow (file : List ℕ) (row : RowView) (left : ℕ) : Type 0 where
   pub row_values : List Value
   pub reads : ReadsRow file row row_values

@@ -1,5 +1,5 @@
 -- The text of a table's rows, and what a dump did.
-use Rattle.std.specs.Prelude.{◌≡◌, ◌≤◌, ◌+◌, ℕ, List, length, Option, Some, None, Result, Ok, Err}
+use Rattle.std.specs.Prelude.{◌≡◌, ◌≤◌, ◌+◌, ℕ, ⊤, List, length, Option, Some, None, Result, Ok, Err}
 use Rattle.page_source.specs.declared.objects.PageSource.{Ghosts as FileOf}
 use Rattle.page_source.specs.declared.objects.ByteSink.{Ghosts as SinkOf}
 use Rattle.page_source.specs.Faults.{Rose}
@@ -43,17 +43,20 @@ pub record IsDumped (file : List ℕ) (table : TableDef) (checked : Checked) (ol
   pub numbers : IsChecked file table checked
   pub written : GrewByDump file table old new
 
--- what a dump answered over a file that is told, and what its sink then holds
-abbrev pub Dumps : List ℕ → TableDef → Result Checked DumpStop → Option (List ℕ) → Option (List ℕ) → Type 0
-Dumps file table (Ok checked) old new = IsDumped file table checked old new
-Dumps file table (Err (Broken fault)) old new = First file table (Some fault) × (new ≡ old)
-Dumps file table (Err Source) old new =
-    (First file table None → GrewByPart file table old new) × (¬ (First file table None) → new ≡ old)
-Dumps file table (Err Sink) old new = First file table None × GrewByPart file table old new
-Dumps file table (Err Memory) old new = new ≡ old
+-- what a dump answered over a file that is told, and what its sink then holds: if a rule is broken, the sink itself is
+-- as before
+abbrev pub Dumps : {O : Type 0} → SinkOf O → List ℕ → TableDef → Result Checked DumpStop → O → O → Type 0
+Dumps o file table (Ok checked) sink sink_now = IsDumped file table checked (o.written sink) (o.written sink_now)
+Dumps o file table (Err (Broken fault)) sink sink_now = First file table (Some fault) × (sink_now ≡ sink)
+Dumps o file table (Err Source) sink sink_now =
+    (First file table None → GrewByPart file table (o.written sink) (o.written sink_now))
+    × (¬ (First file table None) → sink_now ≡ sink)
+Dumps o file table (Err Sink) sink sink_now =
+    First file table None × GrewByPart file table (o.written sink) (o.written sink_now)
+Dumps o file table (Err Memory) sink sink_now = ⊤
 
--- what a dump leaves of the two objects, told or not: the file is as before, a fault is answered only where the count
--- of that object rose, for want of memory nothing is written, and each page that the file was asked for was counted
+-- what a dump leaves of the two objects, told or not: the file is as before, a fault is answered only if the count of
+-- that object rose, for want of memory nothing is written, and each page that the file was asked for was counted
 pub record DumpsOver {S O : Type 0} (g : FileOf S) (o : SinkOf O) (old new : S) (sink sink_now : O)
     (steps steps_now : ℕ) (result : Result Checked DumpStop) : Type 0 where
   pub same : g.content new ≡ g.content old

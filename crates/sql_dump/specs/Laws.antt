@@ -22,6 +22,6 @@ pub record HasOneDump (file : List ℕ) (table : TableDef) : Type 0 where
   pub is_dump : IsDumpOf file table text
   pub only : (other : List ℕ) → IsDumpOf file table other → other ≡ text
 
--- so it is in a sound file
+-- each sound file has one dump
 abbrev pub SoundFilesHaveOneDump : Type 0
 SoundFilesHaveOneDump = (file : List ℕ) (table : TableDef) → IsTable table → IsValid file table → HasOneDump file table

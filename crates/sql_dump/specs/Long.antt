@@ -12,11 +12,11 @@ use Rattle.table_check.specs.Values.{front_of, FitsKind}
 unfoldable pub chain_bytes : List ℕ → Reference → List ℕ
 chain_bytes file reference = bytes_on file (chain_pages file reference)
 
--- its chain can be read
+-- the chain of a reference can be read
 pub record CanFollow (file : List ℕ) (reference : Reference) : Type 0 where
   pub goes_on : GoesOn file reference.page reference.length (chain_pages file reference)
 
--- and in so many fetches
+-- the chain can be read in so many fetches
 pub record CanFollowIn (file : List ℕ) (reference : Reference) (left : ℕ) : Type 0 where
   pub follow : CanFollow file reference
   pub few : length (chain_pages file reference) ≤ left

@@ -6,12 +6,12 @@ use Rattle.schema_text.specs.TableDef.{TableDef}
 use Rattle.schema_text.specs.IndexFields.{leaf_fields}
 use Rattle.schema_text.specs.IndexFields.{fields_of_columns}
 
--- its table, and where the fields of the record lie that was read last
+-- what a reader knows: its table, and where the fields of the record lie that was read last
 pub record ReaderView : Type 0 where
   pub table : TableDef
   pub places : List Place
 
--- it knows the fields of a leaf record and those of the columns, and has room for all their places
+-- a reader knows the fields of a leaf record and those of the columns, and has room for all their places
 pub record IsReader (table : TableDef) (at : List ℕ) (fields : Fields) (members : ℕ) : Type 0 where
   pub columns : at ≡ fields_of_columns table
   pub leaf : fields ≡ leaf_fields table 0

@@ -19,8 +19,8 @@ pub record Grows (old new : Option (List ℕ)) : Type 0 where
   pub text : List ℕ
   pub grown : GrowsBy old new text
 
--- it grew by so many bytes of a long value, by a value of this type, or by the line of a row; by some text where the
--- writing was ended
+-- the text grew by so many bytes of a long value, by a value of this type, or by the line of a row; by some text if
+-- the writing was ended
 abbrev pub PutsSomeBytes : {A : Type 0} → ColumnType → ℕ → Result A WriteStop → Option (List ℕ) → Option (List ℕ) →
     Type 0
 PutsSomeBytes kind size (Ok a) old new =
@@ -42,7 +42,7 @@ KeepsSomeRow table (Ok true) held now = (row : List Value) × IsFull table row �
 KeepsSomeRow table (Ok false) held now = now ≡ held
 KeepsSomeRow table (Err stop) held now = ⊤
 
--- it was put behind what the buffer held
+-- the line of a row was put after what the buffer held
 pub record MovesSomeRow (table : TableDef) (old new : Option (List ℕ)) (held now : List ℕ) : Type 0 where
   pub row : List Value
   pub full : IsFull table row

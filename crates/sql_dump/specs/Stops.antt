@@ -29,14 +29,14 @@ dump_stop_of_checks (stops.Broken fault) = dumps.Broken fault
 dump_stop_of_checks stops.Source = dumps.Source
 dump_stop_of_checks stops.Memory = dumps.Memory
 
--- a text was put, or a prefix of it where an object failed; no rule is found broken
+-- a text was put, or a prefix of it if an object failed; no rule is found broken
 abbrev pub Writes : {A : Type 0} → Result A WriteStop → Option (List ℕ) → Option (List ℕ) → List ℕ → Type 0
 Writes (Ok a) old new text = GrowsBy old new text
 Writes (Err (Broken fault)) old new text = ⊥
 Writes (Err Source) old new text = GrowsByPart old new text
 Writes (Err Sink) old new text = GrowsByPart old new text
 
--- the file is as before, no count of faults fell, an object is blamed only where its own rose, and each page that the
+-- the file is as before, no count of faults fell, an object is blamed only if its own rose, and each page that the
 -- file was asked for was counted
 pub record WritesOver {S O A : Type 0} (g : FileOf S) (o : SinkOf O) (old new : S) (sink sink_now : O)
     (steps steps_now : ℕ) (result : Result A WriteStop) : Type 0 where

@@ -13,10 +13,10 @@ use std::marker::Model;
 const ROOM: usize = 65_536;
 
 /// A text that waits for more, so that the sink is asked for few writes. It takes all its memory before the first
-/// line, and is full once it refused a piece.
+/// line, and is full once it has refused a piece.
 #[derive(Debug, Drop)]
 pub struct Buffer {
-    /// The text, and behind it bytes of no meaning.
+    /// The text, and after it bytes of no meaning.
     room: Vec<u8>,
     used: usize,
     refused: u64,
@@ -42,7 +42,7 @@ fn paste(room: &mut [u8], at: usize, piece: &[u8])
 }
 
 impl Buffer {
-    /// An empty one.
+    /// An empty buffer.
     pub fn new(alloc: Global) -> Result<Buffer, NoMemory>
         ensures { IfOk result (λ buffer. buffer ≡ record { bytes = []; refused = 0 }) }
     {
@@ -61,7 +61,7 @@ impl Buffer {
         self.used
     }
 
-    /// Those bytes.
+    /// The bytes that it holds.
     pub fn bytes(&self) -> &[u8]
         ensures { result.now ≡ self.now.bytes }
     {

@@ -40,7 +40,7 @@ impl<'a> Model for Cell<'a> {
 }
 
 impl Cell<'_> {
-    /// Its bytes on the leaf. Where it goes on elsewhere they end with a reference.
+    /// The bytes of the column on the leaf. If it goes on elsewhere, they end with a reference.
     pub fn local(&self) -> &[u8]
         ensures bytes { result.now ≡ local_bytes self.now }
         ensures short { length result.now ≤ 16384 }

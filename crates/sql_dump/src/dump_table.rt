@@ -22,8 +22,8 @@ use table_check::{Checked, LiveRows, check_table};
 
 /// Checks a tablespace by the rules 1 to 51, and then writes one line for each row of its table that has no delete
 /// mark, in the order of the clustered index: at `Ok` as many lines as rows were counted, over a file that changes too.
-/// `Broken` names the first broken rule and its page, `Source` and `Sink` come where an object's count of faults rose,
-/// `Memory` where memory ran out, before the first line.
+/// `Broken` names the first broken rule and its page. `Source` and `Sink` come only if the count of faults of that
+/// object rose, `Memory` if memory ran out, before the first line.
 pub fn dump<S: PageSource, O: ByteSink, L: Ledger>(
     alloc: Global,
     source: &mut S,
@@ -32,7 +32,7 @@ pub fn dump<S: PageSource, O: ByteSink, L: Ledger>(
     steps: &mut Steps<L>,
 ) -> Result<Checked, DumpStop>
     ensures told { OfFile S.PageSource source.old (λ file.
-        Dumps file schema.now result (O.written sink.old) (O.written sink.new)) }
+        Dumps O.ByteSink file schema.now result sink.old sink.new) }
     ensures lines { IfOk result (λ checked.
         GrowsByRows schema.now (O.written sink.old) (O.written sink.new) checked.rows) }
     ensures over { DumpsOver S.PageSource O.ByteSink source.old source.new sink.old sink.new

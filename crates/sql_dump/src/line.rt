@@ -22,7 +22,7 @@ use std::sync::ledger::Ledger;
 /// A buffer with more bytes is put before the next line.
 const ENOUGH: usize = 32_768;
 
-/// Puts what the buffer holds, where that is enough.
+/// Puts what the buffer holds, if that is enough.
 fn make_room<O: ByteSink>(buffer: &mut Buffer, sink: &mut O) -> Result<(), Failed>
     ensures sent { OnOk result (IsSent (O.written sink.old) (O.written sink.new) buffer.old.bytes buffer.new.bytes) }
     ensures cut { OnErr result (GrowsByPart (O.written sink.old) (O.written sink.new) buffer.old.bytes) }
@@ -34,8 +34,8 @@ fn make_room<O: ByteSink>(buffer: &mut Buffer, sink: &mut O) -> Result<(), Faile
     Ok(())
 }
 
-/// Keeps the line of a row in the buffer, where no value goes on elsewhere and there is room for it. Else it is
-/// false, and the buffer is as before.
+/// Keeps the line of a row in the buffer, if no value goes on elsewhere and there is room for it. Otherwise the answer
+/// is false, and the buffer is as before.
 fn keep_line<S: PageSource, L: Ledger>(
     source: &mut S,
     buffer: &mut Buffer,
@@ -74,7 +74,7 @@ fn keep_line<S: PageSource, L: Ledger>(
     }
 }
 
-/// Keeps the line of a row in the buffer, or puts it behind what the buffer holds. A line with values that go on
+/// Keeps the line of a row in the buffer, or puts it after what the buffer holds. A line with values that go on
 /// elsewhere, or without room in the buffer, isn't kept.
 pub fn put_line<S: PageSource, O: ByteSink, L: Ledger>(
     source: &mut S,

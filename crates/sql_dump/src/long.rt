@@ -22,7 +22,7 @@ use std::sync::ledger::Ledger;
 /// BTR_EXTERN_FIELD_REF_SIZE, the bytes of a reference.
 const REFERENCE: usize = 20;
 
-/// Where the bytes of a part begin, behind the page's header and the part's (btr0cur).
+/// Where the bytes of a part begin, after the header of the page and that of the part (btr0cur).
 const PART: usize = 46;
 
 /// A page for the parts of chains, how many may still be fetched, and room for the text of one part.
@@ -36,9 +36,9 @@ pub struct ChainRoom {
 /// The local bytes of a value that goes on elsewhere.
 #[derive(Clone, Copy)]
 struct LocalBytes<'a> {
-    /// Those that begin the value.
+    /// The bytes that begin the value.
     front: &'a [u8],
-    /// The reference behind them.
+    /// The reference after them.
     reference: Reference,
     /// How many bytes the whole value has.
     stated: u64,

@@ -38,7 +38,7 @@ impl<'a> Model for RowReader<'a> {
         IsReader reader.schema.now reader.at.items reader.fields reader.located.members };
 }
 
-/// Reads the record at an origin of leaf `number`, where it is spelled as it must be and ends on its page.
+/// Reads the record at an origin of leaf `number`, if it is spelled as it must be and ends on its page.
 fn read_record(
     located: &mut Located,
     page: &Page,
@@ -79,7 +79,7 @@ impl<'a> RowReader<'a> {
         })
     }
 
-    /// Reads the record at an origin of leaf `number`, where it is spelled as it must be and ends on its page.
+    /// Reads the record at an origin of leaf `number`, if it is spelled as it must be and ends on its page.
     pub fn read(&mut self, page: &Page, number: u32, origin: usize) -> Result<(), WriteStop>
         requires { IsHeapOrigin origin }
         ensures read { OnOk result (self.new.places ≡ places_of page.now origin (leaf_fields self.old.table 0)) }

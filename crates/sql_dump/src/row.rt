@@ -66,8 +66,8 @@ impl<'a> Row<'a> {
     }
 }
 
-/// Puts the line of a row. `Broken` names the leaf where a column may not be written (rule 47), and else the page of a
-/// chain that has no part that fits, or is one too many (rule 49); over a file that tells its bytes, and was checked,
+/// Puts the line of a row. `Broken` names the leaf if a column may not be written (rule 47), otherwise the page of a
+/// chain that has no part that fits, or is one too many (rule 49). Over a file that tells its bytes, and was checked,
 /// neither comes.
 pub fn put_row<S: PageSource, O: ByteSink, L: Ledger>(
     source: &mut S,

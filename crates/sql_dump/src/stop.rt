@@ -9,8 +9,8 @@ use thiserror::Error;
 /// What ends a dump before it is done.
 #[derive(Clone, Copy, Debug, PartialEq, Eq, Error)]
 pub enum DumpStop {
-    /// A rule is broken. Over a file that tells its bytes nothing was written; one that changes between the checks
-    /// and the reading of the rows may be found out after lines were written.
+    /// A rule is broken. Over a file that tells its bytes nothing was written. A file that changes between the
+    /// checks and the reading of the rows may be found out after lines were written.
     #[error("rule {} is broken at page {}", .0.rule.name(), .0.page)]
     Broken(Fault),
     /// The file can't be read.

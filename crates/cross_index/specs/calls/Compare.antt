@@ -17,6 +17,7 @@ use Rattle.cross_index.specs.Sides.{Rise, AreApart}
 use Rattle.cross_index.specs.Differ.{Missing, Extra, IndexDiffers}
 use Rattle.cross_index.specs.calls.Order.{in_order}
 use Rattle.cross_index.specs.calls.Kept.{LiesIn}
+use Rattle.cross_index.specs.calls.Broken.{BreaksLeaf}
 
 -- the key of the record at an origin was read
 pub record IsReadKey (page : List ℕ) (origin : ℕ) (fields : Fields) (reading : Reading) : Type 0 where
@@ -24,7 +25,7 @@ pub record IsReadKey (page : List ℕ) (origin : ℕ) (fields : Fields) (reading
   pub long : fields.keys ≤ length reading.places
   pub key : key_at page fields reading.places ≡ key_of page origin fields
 
--- the key of an entry on a page is that of the row that comes next in the order; else it or the row is alone
+-- the key of an entry on a page is that of the row that comes next in the order; otherwise it or the row is alone
 abbrev pub Meets : List FieldType → List Key → List ℕ → ℕ → Key → ℕ → ℕ → Result ⊤ CrossStop → Type 0
 Meets kinds keys order next key index page (Ok done) =
     (next < length order) × AreEqualKeys kinds (slice_index_or (in_order keys order) next []) key
@@ -38,7 +39,7 @@ Meets kinds keys order next key index page (Err (stops.Broken fault)) = ⊥
 Meets kinds keys order next key index page (Err stops.Source) = ⊥
 Meets kinds keys order next key index page (Err stops.Memory) = ⊥
 
--- where the entries have ended, there is no row any more; else the next one is alone
+-- after the last entry there is no row any more; otherwise the next one is alone
 abbrev pub EndsAt : List ℕ → ℕ → ℕ → Result ℕ CrossStop → Type 0
 EndsAt order next index (Ok count) = (count ≡ next) × (length order ≤ next)
 EndsAt order next index (Err (stops.Missing i row)) =
@@ -57,7 +58,7 @@ pub record CanCompare (file : List ℕ) (table : TableDef) (i : ℕ) (entries : 
   pub apart : AreApart (entry_kinds table i) (row_keys file table i)
   pub rise : Rise (entry_kinds table i) (entry_keys file table i)
 
--- how index i differs, and how many entries it has where it doesn't
+-- how index i differs, and how many entries it has if it doesn't
 abbrev pub Compares : List ℕ → TableDef → ℕ → Result ℕ CrossStop → Type 0
 Compares file table i (Ok count) = IndexDiffers file table i None × (count ≡ length (entries_in file table i))
 Compares file table i (Err (stops.Missing index row)) = IndexDiffers file table i (Some (Missing index row))
@@ -65,3 +66,12 @@ Compares file table i (Err (stops.Extra index page)) = IndexDiffers file table i
 Compares file table i (Err (stops.Broken fault)) = ⊥
 Compares file table i (Err stops.Source) = ⊤
 Compares file table i (Err stops.Memory) = ⊤
+
+-- what is named over any file, told or not: index i, one of so many rows, and the leaf in hand
+abbrev pub NamesHere : ℕ → ℕ → LiveView → Result ℕ CrossStop → Type 0
+NamesHere i rows entries (Ok count) = ⊤
+NamesHere i rows entries (Err (stops.Missing index row)) = (index ≡ i) × (1 ≤ row) × (row ≤ rows)
+NamesHere i rows entries (Err (stops.Extra index page)) = (index ≡ i) × (page ≡ entries.leaf.number)
+NamesHere i rows entries (Err (stops.Broken fault)) = BreaksLeaf entries fault
+NamesHere i rows entries (Err stops.Source) = ⊤
+NamesHere i rows entries (Err stops.Memory) = ⊥

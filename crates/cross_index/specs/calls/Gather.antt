@@ -22,7 +22,7 @@ use Rattle.cross_index.specs.Entries.{entry_fields, field_of_row, whole_cell}
 abbrev pub pages_of_place : List ℕ → List ℕ → Place → List ℕ
 pages_of_place file page place = pages_of_value file (bytes_at page place) (not place.null && place.external)
 
--- they can be read
+-- the pages that a field goes on in can be read
 abbrev pub CanFollowPlace : List ℕ → List ℕ → Place → Type 0
 CanFollowPlace file page place =
     place.null ≡ false → place.external ≡ true → CanFollow file (reference_of (bytes_at page place))

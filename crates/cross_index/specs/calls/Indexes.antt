@@ -33,13 +33,13 @@ pub record CanCompareIndex (file : List ℕ) (table : TableDef) (i : ℕ) (ends 
   pub has_ends : IsEndsOf (index_in file table i) ends
   pub gathered : IsGathered file table found.cells found.count
 
--- the same, with the ends of all indexes
+-- the file is sound, the values of its rows are kept, and these are the ends of all indexes
 pub record CanCompareAll (file : List ℕ) (table : TableDef) (ends : List TreeEnds) (found : Gathered) : Type 0 where
   pub valid : IsValid file table
   pub has_ends : AreEnds file table (index_count table) ends
   pub gathered : IsGathered file table found.cells found.count
 
--- how the indexes differ, and how many entries they have where none does
+-- how the indexes differ, and how many entries they have if none does
 abbrev pub ComparesAll : List ℕ → TableDef → Result ℕ CrossStop → Type 0
 ComparesAll file table (Ok count) = Differ file table None × (count ≡ entry_count file table)
 ComparesAll file table (Err (stops.Missing index row)) = Differ file table (Some (Missing index row))

@@ -1,5 +1,6 @@
 -- The values that are kept of the rows, one after another, so many for each row.
-use Rattle.std.specs.Prelude.{◌≡◌, ℕ, zero, suc, ◌+◌, ◌*◌, ◌/◌, ◌%◌, ◌==◌, ◌≤◌, List, [], ◌∷◌, map, slice_index_or, None, false}
+use Rattle.std.specs.Prelude.{◌≡◌, ℕ, zero, suc, ◌+◌, ◌*◌, ◌/◌, ◌%◌, ◌==◌, ◌≤◌, List, [], ◌∷◌, map, slice_index_or}
+use Rattle.std.specs.Prelude.{None, false}
 use Rattle.std.specs.List.{range_with_len}
 use Rattle.column_values.specs.Order.{Key}
 use Rattle.compact_record.specs.declared.places.Place.{Place}
@@ -9,7 +10,7 @@ pub record LiesIn (most : ℕ) (place : Place) : Type 0 where
   pub rising : place.from ≤ place.until
   pub inside : place.until ≤ most
 
--- the places of values by their marks, twice where each ends, and 1 more where it is null: it begins where the one
+-- the places of values by their marks, twice where each ends, and 1 more if it is null: it begins where the one
 -- before it ends, the first from here on
 abbrev pub places_of_marks : ℕ → List ℕ → List Place
 places_of_marks from [] = []
@@ -30,6 +31,6 @@ LieTo from (mark ∷ marks) most = (from ≤ mark / 2) × LieTo (mark / 2) marks
 unfoldable pub kept_key : Key → ℕ → List ℕ → ℕ → Key
 kept_key cells width slots row = map (λ slot. slice_index_or cells (row * width + slot) None) slots
 
--- those of so many rows
+-- the keys at these slots of so many rows' values
 unfoldable pub kept_keys : Key → ℕ → List ℕ → ℕ → List Key
 kept_keys cells width slots count = map (kept_key cells width slots) (range_with_len 0 count)

@@ -1,6 +1,11 @@
-use Rattle.std.proofs.Common.{arith}
+use Rattle.std.proofs.Common.{ℕ, arith}
+use Rattle.std.proofs.lemmas.Result.{err_from_is_err_and}
 use Rattle.page_source.proofs.Told.{told1}
 use Rattle.cross_index.proofs.AllSteps.{asks_at_most, all_cost, takes_steps}
+use Rattle.cross_index.specs.declared.crossed.Crossed.{Crossed}
+use Rattle.cross_index.specs.declared.gathered.Gathered.{Gathered}
+use Rattle.cross_index.specs.Cross.{IsSecondary}
+use Rattle.cross_index.proofs.Named.{checks_name, pass_names, names_again}
 use Rattle.cross_index.proofs.cross_check.cross.Goals as goal
 
 pub returns-in_err-entries-clause-steps : goal.returns-in_err-entries-clause-steps
@@ -53,3 +58,21 @@ returns-clause-fetches g c =
       c.in_ok-found.ensures.over.asked,
       c.in_ok-entries.ensures.over.asked,
     ))
+
+pub returns-in_err-whole-clause-named : goal.returns-in_err-whole-clause-named
+returns-in_err-whole-clause-named g c =
+    let r = err_from_is_err_and c.from_residual.result c.from_residual.ensures.1 in
+    rw (r.1, r.2) (checks_name (IsSecondary c.args.schema.now) Crossed c.in_err-whole.field-0.0)
+
+pub returns-in_err-found-clause-named : goal.returns-in_err-found-clause-named
+returns-in_err-found-clause-named g c =
+    let r = err_from_is_err_and c.from_residual-in_err-found.result c.from_residual-in_err-found.ensures.1 in
+    rw (r.1, r.2)
+    (pass_names (IsSecondary c.args.schema.now) Gathered Crossed c.in_err-found.field-0.0
+    c.in_err-found.ensures.broken)
+
+pub returns-in_err-entries-clause-named : goal.returns-in_err-entries-clause-named
+returns-in_err-entries-clause-named g c =
+    let r = err_from_is_err_and c.from_residual-in_err-entries.result c.from_residual-in_err-entries.ensures.1 in
+    rw (r.1, r.2)
+    (names_again (IsSecondary c.args.schema.now) ℕ Crossed c.in_err-entries.field-0.0 c.in_err-entries.ensures.named)

@@ -10,6 +10,7 @@ use Rattle.tree_walk.specs.Records.{IsRecord}
 use Rattle.cross_index.proofs.EntrySteps.{can_give, finds, halts_so, ends_so, meets_on, meets_so, kept_size}
 use Rattle.cross_index.proofs.EntrySteps.{order_below}
 use Rattle.cross_index.proofs.EntrySteps.{entry_readable}
+use Rattle.cross_index.proofs.Named.{halt_names, meet_names, end_names}
 use Rattle.cross_index.proofs.entries.compare_entries.Goals as goal
 
 pub next-requires-clause-reads : goal.next-requires-clause-reads
@@ -121,3 +122,28 @@ returns-clause-exact g c =
     (finds file c.args.schema.now c.args.asked.now.index c.loop-origin.entries c.next.new.self c.args.entries.now _ _
     c.loop-origin.next (Ok None) exact can has))
     c.requires.told i.told found
+
+pub returns-in_err-origin-clause-named : goal.returns-in_err-origin-clause-named
+returns-in_err-origin-clause-named g c =
+    let r = err_from_is_err_and c.from_residual.result c.from_residual.ensures.1 in
+    rw (r.1, r.2)
+    (halt_names c.args.asked.now.index (length c.args.asked.now.order.now) c.next.new.self c.in_err-origin.field-0.0
+    (λ fault is. c.in_err-origin.ensures.broken fault (cc)))
+
+pub returns-in_err-meet-clause-named : goal.returns-in_err-meet-clause-named
+returns-in_err-meet-clause-named g c =
+    let order = c.args.asked.now.order.now in
+    let r = err_from_is_err_and c.from_residual-in_err-meet.result c.from_residual-in_err-meet.ensures.1 in
+    rw (r.1, r.2)
+    (meet_names c.args.asked.now.index (length order) c.next.new.self order c.loop-origin.next
+    (order_below (key_kinds c.args.asked.now.keys.fields.now) c.args.asked.now.keys.cells.now
+    c.args.asked.now.keys.width c.args.asked.now.keys.slots.now order c.requires.order c.loop-origin.next 0)
+    _ _ _ c.number-number.result c.in_err-meet.field-0.0 c.number-number.ensures c.in_err-meet.ensures)
+
+pub returns-clause-named : goal.returns-clause-named
+returns-clause-named g c =
+    let order = c.args.asked.now.order.now in
+    end_names c.args.asked.now.index (length order) c.next.new.self order c.loop-origin.next
+    (order_below (key_kinds c.args.asked.now.keys.fields.now) c.args.asked.now.keys.cells.now
+    c.args.asked.now.keys.width c.args.asked.now.keys.slots.now order c.requires.order c.loop-origin.next 0)
+    c.end.result c.end.ensures

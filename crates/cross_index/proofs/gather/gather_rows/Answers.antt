@@ -1,5 +1,6 @@
-use Rattle.std.proofs.Common.{List, Ok, Err, Some, None, ◌≡◌, ◌∙◌, ap, sym, refl, subst, length}
+use Rattle.std.proofs.Common.{List, ℕ, Ok, Err, Some, None, ◌≡◌, ◌∙◌, ap, sym, refl, subst, length}
 use Rattle.std.proofs.Common.{arith}
+use Rattle.std.specs.Prelude.{⊤}
 use Rattle.std.proofs.lemmas.Result.{err_from_is_err_and}
 use Rattle.std.proofs.lemmas.Bool.{true≢false}
 use Rattle.page_source.proofs.Told.{told1, told2, told3, told4, told5}
@@ -12,6 +13,7 @@ use Rattle.cross_index.proofs.EntrySteps.{count_of_places}
 use Rattle.cross_index.proofs.GatherSteps.{gather_start, can_give, finds, halts_so, row_readable, can_gather}
 use Rattle.cross_index.proofs.GatherSteps.{gather_more, gather_all}
 use Rattle.cross_index.proofs.KeptPages.{kept_below}
+use Rattle.cross_index.proofs.Named.{rows_name, row_names}
 use Rattle.cross_index.proofs.gather.gather_rows.Goals as goal
 
 pub loop-origin-init : goal.loop-origin-init
@@ -152,3 +154,14 @@ returns-clause-gathered g c =
     gather_all file c.args.schema.now c.loop-origin.rows c.loop-origin.cells c.args.room.now.left
     c.loop-origin.room.left c.loop-origin.count so past)
     c.requires.told i.told found
+
+pub returns-in_err-origin-clause-broken : goal.returns-in_err-origin-clause-broken
+returns-in_err-origin-clause-broken g c =
+    let r = err_from_is_err_and c.from_residual.result c.from_residual.ensures.1 in
+    rw (r.1, r.2)
+    (rows_name ℕ c.next.new.self c.in_err-origin.field-0.0 (λ fault is. c.in_err-origin.ensures.broken fault (cc)))
+
+pub returns-in_err-gather_row-clause-broken : goal.returns-in_err-gather_row-clause-broken
+returns-in_err-gather_row-clause-broken g c =
+    let r = err_from_is_err_and c.from_residual-in_err-gather_row.result c.from_residual-in_err-gather_row.ensures.1 in
+    rw (r.1, r.2) (row_names ⊤ ℕ c.next.new.self c.in_err-gather_row.field-0.0 c.in_err-gather_row.ensures.broken)

@@ -6,6 +6,7 @@ use Rattle.cross_index.specs.Entries.{entry_fields}
 use Rattle.cross_index.specs.calls.Gather.{kept_fields}
 use Rattle.cross_index.proofs.EntryFields.{keys_size}
 use Rattle.cross_index.proofs.IndexSteps.{order_of_all, slots_stand, can_compare, few_counted}
+use Rattle.cross_index.proofs.Named.{index_names, index_rules}
 use Rattle.cross_index.proofs.indexes.compare_index.Goals as goal
 
 pub order_of-requires-clause-each : goal.order_of-requires-clause-each
@@ -60,3 +61,11 @@ returns-clause-few g c =
     c.args.index c.args.ends.now
     c.args.found.now c.compare_entries.result c.requires.index c.has_32_bits.ensures can compares)
     c.requires.told c.compare_entries.ensures.exact
+
+pub returns-clause-named : goal.returns-clause-named
+returns-clause-named g c =
+    index_names c.args.index _ c.compare_entries.new.entries c.compare_entries.result c.compare_entries.ensures.named
+
+pub returns-clause-broken : goal.returns-clause-broken
+returns-clause-broken g c =
+    index_rules c.args.index _ c.compare_entries.new.entries c.compare_entries.result c.compare_entries.ensures.named

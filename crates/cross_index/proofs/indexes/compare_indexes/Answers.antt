@@ -1,8 +1,9 @@
-use Rattle.std.proofs.Common.{◌≡◌, ◌<◌, length, ap, ◌∙◌, arith}
+use Rattle.std.proofs.Common.{◌≡◌, ℕ, ◌<◌, length, ap, ◌∙◌, arith}
 use Rattle.std.proofs.lemmas.Result.{err_from_is_err_and}
 use Rattle.page_source.proofs.Told.{told1, told2, told3}
 use Rattle.table_check.specs.Trees.{index_count}
 use Rattle.cross_index.proofs.AllSteps.{cost_more, matched_more, ends_here, all_matched}
+use Rattle.cross_index.proofs.Named.{secondary_named}
 use Rattle.cross_index.proofs.indexes.compare_indexes.Goals as goal
 
 pub returns-in_err-here-clause-exact : goal.returns-in_err-here-clause-exact
@@ -55,3 +56,12 @@ returns-clause-exact g c =
     told1 (g.S.PageSource.content c.args.source.now)
     (λ file so. all_matched file c.args.schema.now c.loop-index.index c.loop-index.entries all so)
     c.loop-index.invariant.told
+
+pub returns-in_err-here-clause-named : goal.returns-in_err-here-clause-named
+returns-in_err-here-clause-named g c =
+    let inside : c.loop-index.index < index_count c.args.schema.now =
+    omega (arith, c.loop-index-test.true, ap length c.indexes-index-end.ensures.same) in
+    let r = err_from_is_err_and c.from_residual.result c.from_residual.ensures.1 in
+    rw (r.1, r.2)
+    (secondary_named ℕ ℕ c.args.schema.now c.loop-index.index c.in_err-here.field-0.0 c.loop-index.invariant.some inside
+    c.in_err-here.ensures.named)

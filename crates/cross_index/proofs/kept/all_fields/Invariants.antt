@@ -3,7 +3,7 @@ use Rattle.std.specs.List.{range_with_len}
 use Rattle.cross_index.specs.Entries.{entry_fields}
 use Rattle.cross_index.proofs.kept.all_fields.Given as goal
 
--- those of the indexes so far
+-- the fields of the indexes so far
 abbrev pub invariant-loop-index : goal.invariant-loop-index
 invariant-loop-index l = record {
   some : 1 ≤ l.index;

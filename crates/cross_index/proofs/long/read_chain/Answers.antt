@@ -1,7 +1,10 @@
 use Rattle.std.proofs.Common.{◌+◌, ap, ◌∙◌, arith, refl, slice_range, List, ℕ, ◌++◌}
+use Rattle.std.specs.Prelude.{⊤}
 use Rattle.std.proofs.lemmas.Result.{err_from_is_err_and}
 use Rattle.page_source.proofs.Told.{told1, told2, told3}
 use Rattle.cross_index.proofs.ChainSteps.{chain_start, chain_reads, chain_ends, chain_more}
+use Rattle.page_source.specs.declared.rule.Fault.{Fault}
+use Rattle.cross_index.proofs.Named.{chain_names}
 use Rattle.cross_index.proofs.long.read_chain.Goals as goal
 
 pub loop-length-init : goal.loop-length-init
@@ -57,3 +60,10 @@ returns-clause-value g c =
     c.args.room.now.value.items c.loop-length.room.value.items c.args.room.now.left c.loop-length.room.left
     c.part.new.page so next).0)
     i.told next
+
+pub returns-in_err-length-clause-broken : goal.returns-in_err-length-clause-broken
+returns-in_err-length-clause-broken g c =
+    let r = err_from_is_err_and c.from_residual.result c.from_residual.ensures.1 in
+    rw (r.1, r.2)
+    (chain_names ⊤ c.in_err-length.field-0.0
+    (λ fault is. ap (λ (f : Fault). f.rule) (c.in_err-length.ensures.lacks fault (cc)).fault_is))

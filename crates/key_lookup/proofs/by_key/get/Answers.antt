@@ -11,8 +11,8 @@ pub returns-in_err-sought-clause-told : goal.returns-in_err-sought-clause-told
 returns-in_err-sought-clause-told g c =
     let r = err_from_is_err_and c.from_residual.result c.from_residual.ensures.1 in
     rw (r.1, r.2) (told0 (g.S.PageSource.content c.args.source.now)
-    (λ file. gets_none file c.args.schema.now c.args.key.now c.in_err-sought.field-0.0
-    (g.O.ByteSink.written c.args.sink.now) c.in_err-sought.ensures.found))
+    (λ file. gets_none g.O.ByteSink file c.args.schema.now c.args.key.now c.in_err-sought.field-0.0 c.args.sink.now
+    c.in_err-sought.ensures.found))
 
 pub returns-in_err-sought-clause-first : goal.returns-in_err-sought-clause-first
 returns-in_err-sought-clause-first g c =
@@ -39,9 +39,8 @@ returns-in_err-sought-clause-fetches g c =
 pub returns-clause-told : goal.returns-clause-told
 returns-clause-told g c =
     told1 (g.S.PageSource.content c.args.source.now)
-    (λ file x. gets_of file c.args.schema.now c.args.key.now c.in_ok-sought.sought c.get_by_key.result
-    (g.O.ByteSink.written c.args.sink.now) (g.O.ByteSink.written c.get_by_key.new.sink)
-    c.in_ok-sought.ensures.found x) c.get_by_key.ensures.told
+    (λ file x. gets_of g.O.ByteSink file c.args.schema.now c.args.key.now c.in_ok-sought.sought c.get_by_key.result
+    c.args.sink.now c.get_by_key.new.sink c.in_ok-sought.ensures.found x) c.get_by_key.ensures.told
 
 pub returns-in_err-sought-clause-refused : goal.returns-in_err-sought-clause-refused
 returns-in_err-sought-clause-refused g c =

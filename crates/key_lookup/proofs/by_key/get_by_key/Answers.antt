@@ -22,8 +22,8 @@ pub returns-in_err-found-clause-told : goal.returns-in_err-found-clause-told
 returns-in_err-found-clause-told g c =
     let r = err_from_is_err_and c.from_residual-in_err-found.result c.from_residual-in_err-found.ensures.1 in
     rw (r.1, r.2) (told1 (g.S.PageSource.content c.args.source.now)
-    (λ file x. stopped file c.args.schema.now c.args.key.now c.in_err-found.field-0.0
-    (g.O.ByteSink.written c.args.sink.now) x) c.in_err-found.ensures.exact)
+    (λ file x. stopped g.O.ByteSink file c.args.schema.now c.args.key.now c.in_err-found.field-0.0 c.args.sink.now x)
+    c.in_err-found.ensures.exact)
 
 pub returns-in_err-found-clause-over : goal.returns-in_err-found-clause-over
 returns-in_err-found-clause-over g c =
@@ -47,7 +47,7 @@ pub returns-in_default-clause-told : goal.returns-in_default-clause-told
 returns-in_default-clause-told g c =
     let found = rw c.in_default.is at c.in_ok-found.ensures.found in
     told2 (g.S.PageSource.content c.args.source.now)
-    (λ file good none. (record { good = good; none = none }, refl)) c.in_ok-found.ensures.exact found
+    (λ file good none. record { good = good; none = none }) c.in_ok-found.ensures.exact found
 
 pub returns-in_default-clause-over : goal.returns-in_default-clause-over
 returns-in_default-clause-over g c =
@@ -83,8 +83,8 @@ returns-in_err-write_row-clause-told g c =
     let puts = rw c.in_ok-found.ensures.over.same at c.in_err-write_row.ensures.puts in
     rw (r.1, r.2) (told3 (g.S.PageSource.content c.args.source.now)
     (λ file good at puts. cut_off file c.args.schema.now c.args.key.now c.in_ok-leaf.ensures.table good
-    c.find.new.walk.child c.in-Some.found at (g.O.ByteSink.written c.args.sink.now)
-    (g.O.ByteSink.written c.write_row.new.sink) c.in_err-write_row.field-0.0
+    c.find.new.walk.child c.in-Some.found at g.O.ByteSink c.args.sink.now c.write_row.new.sink
+    c.in_err-write_row.field-0.0
     (subst (λ (t : TableDef). (row_values : List Value)
     → ReadsRow file (row_on t c.find.new.walk.child c.in-Some.found.origin) row_values
     → Writes {A = Unit {0}} (Err c.in_err-write_row.field-0.0) (g.O.ByteSink.written c.args.sink.now)
@@ -122,8 +122,7 @@ returns-clause-told g c =
     let puts = rw c.in_ok-found.ensures.over.same at c.in_ok-write_row.ensures.puts in
     told3 (g.S.PageSource.content c.args.source.now)
     (λ file good at puts. written file c.args.schema.now c.args.key.now c.in_ok-leaf.ensures.table good
-    c.find.new.walk.child c.in-Some.found at (g.O.ByteSink.written c.args.sink.now)
-    (g.O.ByteSink.written c.write_row.new.sink)
+    c.find.new.walk.child c.in-Some.found at g.O.ByteSink c.args.sink.now c.write_row.new.sink
     (subst (λ (t : TableDef). (row_values : List Value)
     → ReadsRow file (row_on t c.find.new.walk.child c.in-Some.found.origin) row_values
     → GrowsBy (g.O.ByteSink.written c.args.sink.now)

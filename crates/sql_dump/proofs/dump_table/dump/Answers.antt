@@ -8,7 +8,7 @@ returns-in_err-table-clause-told g c =
     let r = err_from_is_err_and c.from_residual.result c.from_residual.ensures.1 in
     rw (r.1, r.2)
     (told1 (g.S.PageSource.content c.args.source.now)
-    (λ file first. checks_end file c.args.schema.now c.in_err-table.field-0.0 (g.O.ByteSink.written c.args.sink.now)
+    (λ file first. checks_end g.O.ByteSink file c.args.schema.now c.in_err-table.field-0.0 c.args.sink.now
     c.schema_is_table.ensures c.checked_can_be_read.ensures first)
     c.in_err-table.ensures.exact)
 
@@ -27,8 +27,8 @@ returns-in_err-put_rows-clause-told g c =
     let r = err_from_is_err_and c.from_residual-in_err-put_rows.result c.from_residual-in_err-put_rows.ensures.1 in
     rw (r.1, r.2)
     (told2 (g.S.PageSource.content c.args.source.now)
-    (λ file first puts. writing_ends file c.args.schema.now c.in_err-put_rows.field-0.0
-    (g.O.ByteSink.written c.args.sink.now) (g.O.ByteSink.written c.put_rows.new.sink) c.schema_is_table.ensures
+    (λ file first puts. writing_ends g.O.ByteSink file c.args.schema.now c.in_err-put_rows.field-0.0
+    c.args.sink.now c.put_rows.new.sink c.schema_is_table.ensures
     c.checked_can_be_read.ensures
     first puts)
     c.in_ok-table.ensures.exact puts)
@@ -37,8 +37,8 @@ pub returns-clause-told : goal.returns-clause-told
 returns-clause-told g c =
     let puts = rw (c.in_ok-table.ensures.over.same, c.in_ok-reader.ensures) at c.in_ok-put_rows.ensures.puts in
     told3 (g.S.PageSource.content c.args.source.now)
-    (λ file first numbers puts. all_written file c.args.schema.now c.in_ok-table.table.checked
-    (g.O.ByteSink.written c.args.sink.now) (g.O.ByteSink.written c.put_rows.new.sink) c.schema_is_table.ensures
+    (λ file first numbers puts. all_written g.O.ByteSink file c.args.schema.now c.in_ok-table.table.checked
+    c.args.sink.now c.put_rows.new.sink c.schema_is_table.ensures
     c.checked_can_be_read.ensures c.checks_are_validity.ensures
     first numbers.is_checked puts)
     c.in_ok-table.ensures.exact c.in_ok-table.ensures.table puts
