@@ -22,14 +22,14 @@ pub record IsShort (leaf node : Fields) (entry : Entry) : Type 0 where
   pub alone : FitsAlone leaf entry
   pub pointers : HasSmallPointers node entry
 
--- so it is with the records of rows, whatever the numbers of pages are
+-- the records of rows are short, whatever the numbers of pages are
 abbrev pub RowsAreShort : Type 0
 RowsAreShort =
     (table : TableDef) (rows : List (List Value)) (stored : List (List Stored)) (number : ℕ → ℕ → ℕ → ℕ)
     → IsTable table → AreFitted table rows stored
     → All (IsShort (leaf_fields table 0) (node_fields table 0)) (clustered_entries table.format number stored)
 
--- and with the entries of the other indexes
+-- the entries of the other indexes are short
 abbrev pub EntriesAreShort : Type 0
 EntriesAreShort =
     (table : TableDef) (j : ℕ) (rows : List (List Value)) → IsTable table → 0 < j → j < length table.indexes
@@ -43,14 +43,14 @@ EntriesHaveKeys =
     → key_of_entry (leaf_fields table 0).keys (slice_index_or (clustered_entries table.format number stored) r [])
     ≡ key_of_row table r (slice_index_or rows r [])
 
--- where the rows rise, the clustered records do
+-- the clustered records rise if the rows do
 abbrev pub RowEntriesRise : Type 0
 RowEntriesRise =
     (table : TableDef) (rows : List (List Value)) (stored : List (List Stored)) (number : ℕ → ℕ → ℕ → ℕ)
     → IsTable table → AreFitted table rows stored → length rows < 281474976710656 → RowsRise table rows
     → EntriesAscend (leaf_fields table 0) (clustered_entries table.format number stored)
 
--- and the entries of every other index have keys of their own
+-- the entries of every other index have keys of their own
 abbrev pub EntriesDiffer : Type 0
 EntriesDiffer =
     (table : TableDef) (j : ℕ) (rows : List (List Value)) → IsTable table → 0 < j → j < length table.indexes
@@ -63,7 +63,7 @@ EntriesAreAlike =
     (table : TableDef) (rows : List (List Value)) (stored : List (List Stored)) (n m : ℕ → ℕ → ℕ → ℕ) (j : ℕ)
     → AllZip AreAlike (leaf_entries table rows stored n j) (leaf_entries table rows stored m j)
 
--- those of each index can be divided into the levels of a tree
+-- the entries of each index can be divided into the levels of a tree
 abbrev pub EntriesCanDivide : Type 0
 EntriesCanDivide =
     (table : TableDef) (rows : List (List Value)) (stored : List (List Stored)) (number : ℕ → ℕ → ℕ → ℕ) (j : ℕ)

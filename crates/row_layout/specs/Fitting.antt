@@ -46,7 +46,7 @@ pub record IsFieldOf (format : Format) (field : Field) (old now : Stored) : Type
   pub bytes : now.bytes ≡ old.bytes
   pub went : now.off ≡ true → WentOff format field now
 
--- and of all fields of a row
+-- what became of all fields of a row
 pub record AreFieldsOf (table : TableDef) (old now : List Stored) : Type 0 where
   pub count : length now ≡ length old
   pub each : (i : ℕ) → i < length old

@@ -1,7 +1,9 @@
 -- Laws of the definitions, each the contract of a function in the module of laws.
-use Rattle.std.specs.Prelude.{◌≡◌, ℕ, false, List}
-use Rattle.std.specs.Prelude.{Some}
+use Rattle.std.specs.Prelude.{◌≡◌, ℕ, ◌≤◌, false, List, length, Some}
+use Rattle.column_values.specs.declared.kind.ColumnType.{ColumnType}
 use Rattle.column_values.specs.declared.value.Value.{Value}
+use Rattle.column_values.specs.Types.{IsColumnType, greatest_length}
+use Rattle.column_values.specs.Spell.{Spell}
 use Rattle.schema_text.specs.TableDef.{TableDef}
 use Rattle.table_check.specs.Rows.{AreRows}
 use Rattle.table_check.specs.Valid.{HasValues, HasOnlyLeftOvers}
@@ -14,11 +16,11 @@ abbrev pub RowsAreFitted : Type 0
 RowsAreFitted =
     (table : TableDef) (i : ℕ) (row : List Value) → Fits table (stored_row table i row) (fitted_row table i row)
 
--- and in one way
+-- a row that is too long is fitted in one way
 abbrev pub RowsFitOnce : Type 0
 RowsFitOnce = (table : TableDef) (row : List Stored) → HasOneFit table row
 
--- its fields have the values that they had, and it is short enough
+-- the fields of a row that was fitted have the values that they had, and it is short enough
 pub record IsFitted (table : TableDef) (i : ℕ) (row : List Value) (found : List Stored) : Type 0 where
   pub fields : AreFieldsOf table (stored_row table i row) found
   pub short : is_too_long table found ≡ false
@@ -28,20 +30,26 @@ FittedRowsAreRows =
     (table : TableDef) (i : ℕ) (row : List Value) (found : List Stored) → fitted_row table i row ≡ Some found
     → IsFitted table i row found
 
+-- a value of a type has at most so many bytes as its type may
+abbrev pub ValuesFit : Type 0
+ValuesFit =
+    (kind : ColumnType) (value : Value) (bytes : List ℕ) → IsColumnType kind → Spell kind value bytes
+    → length bytes ≤ greatest_length kind
+
 -- a file that holds the rows of a table has these rows
 abbrev pub HeldRowsAreRows : Type 0
 HeldRowsAreRows =
     (file : List ℕ) (table : TableDef) (rows : List (List Value)) (stored : List (List Stored))
     (number : ℕ → ℕ → ℕ → ℕ) → HoldsRows file table rows stored number → AreRows file table rows
 
--- its values are sound, where their pages are their own
+-- the values of a file that holds the rows are sound if their pages are their own
 abbrev pub HeldValuesAreSound : Type 0
 HeldValuesAreSound =
     (file : List ℕ) (table : TableDef) (rows : List (List Value)) (stored : List (List Stored))
     (number : ℕ → ℕ → ℕ → ℕ) → HoldsRows file table rows stored number → HaveOwnPages file table stored number
     → HasValues file table
 
--- and nothing is left over, where no other page is used
+-- nothing is left over in a file that holds the rows if no other page is used
 abbrev pub NothingIsLeftOver : Type 0
 NothingIsLeftOver =
     (file : List ℕ) (table : TableDef) (rows : List (List Value)) (stored : List (List Stored))

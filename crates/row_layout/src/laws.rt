@@ -1,7 +1,7 @@
 //! What the definitions of the rows of a built tablespace say together, each the contract of a function that does
 //! nothing.
 
-ghost use Rattle.row_layout.specs.Laws.{RowsAreFitted, RowsFitOnce, FittedRowsAreRows};
+ghost use Rattle.row_layout.specs.Laws.{RowsAreFitted, RowsFitOnce, FittedRowsAreRows, ValuesFit};
 ghost use Rattle.row_layout.specs.Laws.{HeldRowsAreRows, HeldValuesAreSound, NothingIsLeftOver};
 ghost use Rattle.row_layout.specs.EntryLaws.{RowsAreShort, EntriesAreShort, EntriesHaveKeys, RowEntriesRise};
 ghost use Rattle.row_layout.specs.EntryLaws.{EntriesDiffer, EntriesAreAlike, EntriesCanDivide};
@@ -19,7 +19,7 @@ pub fn rows_are_fitted()
     ensures { RowsAreFitted }
 {}
 
-/// And in one way.
+/// A row that is too long is fitted in one way.
 pub fn rows_fit_once()
     ensures { RowsFitOnce }
 {}
@@ -27,6 +27,11 @@ pub fn rows_fit_once()
 /// The fields of a row have the values that they had before, and its record isn't too long.
 pub fn fitted_rows_are_rows()
     ensures { FittedRowsAreRows }
+{}
+
+/// A value of a type has at most so many bytes as its type may.
+pub fn values_fit()
+    ensures { ValuesFit }
 {}
 
 /// A file that holds the rows of a table has these rows.
@@ -37,7 +42,7 @@ pub fn held_rows_are_rows()
     spellings_are_unique();
 }
 
-/// Its values are sound, where their pages are their own.
+/// The values of a file that holds the rows are sound if their pages are their own.
 pub fn held_values_are_sound()
     ensures { HeldValuesAreSound }
 {
@@ -45,7 +50,7 @@ pub fn held_values_are_sound()
     spellings_are_unique();
 }
 
-/// And nothing is left over, where no other page is used.
+/// Nothing is left over in a file that holds the rows if no other page is used.
 pub fn nothing_is_left_over()
     ensures { NothingIsLeftOver }
 {
@@ -64,7 +69,7 @@ pub fn rows_are_short()
     lists_are_of_one_index();
 }
 
-/// So are the entries of the other indexes.
+/// The entries of the other indexes are short enough, whatever the numbers of pages are.
 pub fn entries_are_short()
     ensures { EntriesAreShort }
 {
@@ -81,14 +86,14 @@ pub fn entries_have_keys()
     spellings_are_unique();
 }
 
-/// They rise where the rows do.
+/// The records of rows rise if the rows do.
 pub fn row_entries_rise()
     ensures { RowEntriesRise }
 {
     spellings_are_unique();
 }
 
-/// And the entries of the other indexes have keys of their own.
+/// The entries of the other indexes have keys of their own.
 pub fn entries_differ()
     ensures { EntriesDiffer }
 {

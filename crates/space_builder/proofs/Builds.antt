@@ -1,5 +1,5 @@
 -- What a build answers at each of its ends.
-use Rattle.std.proofs.Common.{◌≡◌, ℕ, ◌≤◌, List, [], length, None, Ok, Err, refl}
+use Rattle.std.proofs.Common.{◌≡◌, ℕ, ◌≤◌, List, [], length, None, Result, Ok, Err, refl, inl, inr}
 use Rattle.std.proofs.Common.{ap, ◌∙◌, unwrap_or, slice_index_or}
 use Rattle.std.specs.FinMap.{get, get-empty}
 use Rattle.std.specs.Option.{is_some}
@@ -21,7 +21,8 @@ use Rattle.space_builder.specs.declared.plan.PlanStop.{PlanStop}
 use Rattle.space_builder.specs.declared.space.Space.{Space}
 use Rattle.space_builder.specs.declared.plan.PlanStop.TheVariants as plans
 use Rattle.space_builder.specs.build.BadLine.{RootOrderChecks}
-use Rattle.space_builder.specs.build.Build.{AreRowsRead, Builds, BuildsWithCause, LacksHead}
+use Rattle.space_builder.specs.build.Build.{AreRowsRead, Builds, ReadsText, BuildsWithCause, LacksHead}
+use Rattle.space_builder.specs.build.Build.{IsUncalledOrSized}
 use Rattle.space_builder.specs.calls.Plan.{AreOrders, FindsPlan}
 use Rattle.space_builder.specs.build.ReadRows.{AreReadRows, FindsRows}
 use Rattle.space_builder.specs.calls.Space.{IsSpaceOf, PutsSpace, LeavesSpace}
@@ -29,6 +30,10 @@ use Rattle.space_builder.specs.calls.StoredRows.{AreStoredRows}
 use Rattle.space_builder.specs.calls.Stops.{stop_of_put, stop_of_plan}
 use Rattle.space_builder.specs.layout.Laws.{CanBuild}
 use Rattle.space_builder.specs.layout.Layout.{Rows, FitsSpace, layout_size, stored_rows}
+
+-- a build ends so
+abbrev IsEnd : Result Built BuildStop → BuildStop → Type 0
+IsEnd result stop = result ≡ Err stop
 
 -- a fresh store lacks page 0
 pub fresh_lacks : (store : Store) → IsFresh store → LacksHead store
@@ -40,11 +45,21 @@ module _ {R : Type 0} (g : TextOf R) (table : TableDef) (old new : R) where
   pub read_failed : (stop : BuildStop) (store : Store) → RootOrderChecks table None → IsFresh store
       → FindsRows g table old new (Err stop) → Builds table (g.left old) (Err stop) store store
   read_failed (stops.RootPlace line) store roots fresh finds = absurd finds
-  read_failed (stops.RowsRefused line why) store roots fresh finds = (roots, finds, refl)
+  read_failed (stops.RowsRefused line why) store roots fresh finds =
+      (roots, told1 (g.left old) (λ text found. found.0) finds, refl)
   read_failed stops.Full store roots fresh finds = absurd finds
   read_failed stops.Source store roots fresh finds = (roots, refl)
   read_failed stops.Store store roots fresh finds = absurd finds
   read_failed stops.Memory store roots fresh finds = fresh_lacks store fresh
+
+  -- and no more was read
+  pub read_short : (stop : BuildStop) → FindsRows g table old new (Err stop) → ReadsText g.left old new (Err stop)
+  read_short (stops.RootPlace line) finds = absurd finds
+  read_short (stops.RowsRefused line why) finds = told1 (g.left old) (λ text found. found.1) finds
+  read_short stops.Full finds = tt
+  read_short stops.Source finds = tt
+  read_short stops.Store finds = tt
+  read_short stops.Memory finds = tt
 
   -- rows were read
   module _ (stored : List (List Stored)) (is_table : IsTable table) (roots : RootOrderChecks table None)
@@ -84,6 +99,16 @@ module _ {R : Type 0} (g : TextOf R) (table : TableDef) (old new : R) where
         → built.rows ≡ length read.rows → Builds table (g.left old) (Ok built) before now
     all_put built before now fits holds pages count =
         (roots, (read.rows, rows_read, (fits, holds, pages, count)))
+
+    -- memory ran out while pages were put, or before
+    pub put_short : {T : Type 0} (h : StoreOf T) (before now : T) (stop : PutStop) → FitsSpace table read.rows
+        → PutsSpace {A = Unit {0}} h table read.rows before now (Err stop)
+        → IsEnd (Err (stop_of_put stop)) stops.Memory → IsUncalledOrSized h.told table (g.left old) before now
+    put_short h before now puts.Store fits ends same = absurd (cc)
+    put_short h before now puts.Memory fits ends same = elim (ends.memory refl) [
+      | inl uncalled ↦ inl uncalled
+      | inr sized ↦ inr (roots, (read.rows, rows_read, (fits, sized)))
+    ]
 
 -- rows that were read, with their orders and the plan, are a space
 module _ {R : Type 0} (g : TextOf R) (space : Space) (old new : R) (is_table : IsTable space.schema.now)

@@ -12,7 +12,7 @@ use Rattle.column_values.specs.Types.{Fields}
 use Rattle.compact_record.specs.Writing.{size_of_record}
 use Rattle.index_page.specs.Page.{is_lowest_first}
 use Rattle.page_packer.specs.Packing.{Packing, is_leaf, none_packed, with_record, fits_more}
-use Rattle.page_packer.specs.Entries.{Entry, packing_of}
+use Rattle.page_packer.specs.Entries.{Entry, lowest_mark, packing_of}
 use Rattle.space_layout.specs.NumberedPages.{Numbered}
 use Rattle.tree_layout.specs.Division.{Level, has_room_for, divided, FitsAlone}
 use Rattle.tree_layout.specs.Steps.{StandsOpen, GoesOn}
@@ -169,7 +169,7 @@ module _ (laws : PutLaws) (plan : TreePlan) (l : ℕ) (entries : List Entry) (ca
   room_is : (lowest : Bool) (last : List Entry) (entry : Entry)
       → fits_more (packing_of fields l lowest last) (size_of_record fields entry) ≡ has_room_for fields last entry
   room_is lowest last entry =
-      (laws.pushes fields l lowest last entry).fits
+      (laws.pushes fields l (lowest_mark lowest) last entry).fits
       ∙ rw (length_push last entry, sum_by_push (size_of_record fields) last entry) refl
 
   packing_more : (packing : Packing) (lowest mark : Bool) (last : List Entry) (entry : Entry)
@@ -178,7 +178,7 @@ module _ (laws : PutLaws) (plan : TreePlan) (l : ℕ) (entries : List Entry) (ca
   packing_more packing lowest mark last entry packed marked =
       ap (λ (p : Packing). with_record p fields entry mark) packed
       ∙ ap (with_record (packing_of fields l lowest last) fields entry) marked
-      ∙ (laws.pushes fields l lowest last entry).more
+      ∙ (laws.pushes fields l (lowest_mark lowest) last entry).more
 
   module _ {T : Type 0} (g : StoreOf T) (old : T) where
     pub stands_start : Stands g plan l old old (none_packed l) entries (0 ∷ []) 0
@@ -186,7 +186,7 @@ module _ (laws : PutLaws) (plan : TreePlan) (l : ℕ) (entries : List Entry) (ca
       closed = [];
       last = [];
       divides = (laws.goes fields).start;
-      packed = (laws.pushes fields l (is_lowest_first (is_leaf l) true) [] []).none;
+      packed = (laws.pushes fields l (lowest_mark (is_lowest_first (is_leaf l) true)) [] []).none;
       put = subst (ArePut g old old) (sym (none_laid plan l)) (none_put g old);
       begins = record { count = refl; each = λ k inside some. absurd (no_entry k some) };
       fresh = λ is. (refl, refl, refl);
@@ -355,7 +355,8 @@ module _ (laws : PutLaws) (plan : TreePlan) (l : ℕ) (entries : List Entry) (ca
               closed = closed ++ last ∷ [];
               last = entry ∷ [];
               divides = subst IsNext none next_divides;
-              packed = packing_more (none_packed l) lowest mark [] entry (laws.pushes fields l lowest [] []).none
+              packed = packing_more (none_packed l) lowest mark [] entry
+                  (laws.pushes fields l (lowest_mark lowest) [] []).none
                   (marked ∙ no_mark_here later (omega arith));
               put = page_put new put;
               begins = begins_turn entries (closed ++ last ∷ []) starts k stands.begins below;

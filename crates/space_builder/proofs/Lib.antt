@@ -17,5 +17,6 @@ pub mod TreeSpaces
 pub mod HeadPuts
 pub mod Builds
 pub mod Outcomes
+mod SomeOutcome
 pub mod SpaceSteps
 pub mod SpaceEnds

@@ -23,7 +23,7 @@ use Rattle.space_layout.specs.Numbers.{IsShape, space_pages}
 use Rattle.space_layout.specs.HeadPages.{header_page, bitmap_page, inode_page}
 use Rattle.space_layout.specs.NumberedPages.{Numbered, IsNumbered, numbered_pages, numbered_map}
 use Rattle.space_builder.specs.layout.Layout.{Rows, segment_sizes, segment_pages, system_pages, layout_size, layout_map}
-use Rattle.space_builder.specs.build.Build.{HoldsLayout, HoldsPart, LacksHead}
+use Rattle.space_builder.specs.build.Build.{HoldsLayout, HoldsPart, LacksHead, IsSizedFor}
 use Rattle.space_builder.specs.build.Puts.{numbers_of, IsHeld, HaveOnePage}
 use Rattle.space_builder.specs.calls.Room.{TakesPages}
 use Rattle.space_builder.specs.calls.Space.{pages_behind_head}
@@ -315,6 +315,16 @@ module _ (laws : LowerLaws) (table : TableDef) (rows : Rows) (can : CanBuild tab
     part_behind new kept = record {
       asked = told_asked new kept.sizes;
       held = told1 (g.told new).held (λ held none. inl none) (lacks_behind new kept);
+    }
+
+    pub sized_behind : (new : T) → IsTold (g.told old).size (g.told sized).size pages
+        → KeepsAllBut (numbers_of behind) (g.told sized) (g.told new)
+        → IsSizedFor table rows (g.told old) (g.told new)
+    sized_behind new told kept = record {
+      asked = told_asked new kept.sizes;
+      size = told_over (g.told old).size (g.told sized).size (g.told new).size pages (layout_size table rows) told
+          kept.sizes.size size;
+      head = lacks_behind new kept;
     }
 
     -- page 0 couldn't be put behind all others

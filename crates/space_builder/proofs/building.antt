@@ -19,3 +19,4 @@ pub mod PickedEntries
 pub mod Weights
 pub mod PlanSteps
 pub mod EntryFields
+pub mod LineRows

@@ -1,10 +1,10 @@
 //! Builds a tablespace from a rows text.
 
-ghost use Rattle.std.specs.Prelude.{◌≡◌};
+ghost use Rattle.std.specs.Prelude.{◌≡◌, Err};
 ghost use Rattle.page_source.specs.Objects.{IsFresh};
 ghost use Rattle.schema_text.specs.Grammar.{IsTable};
 ghost use Rattle.space_builder.specs.build.BadLine.{RootOrderChecks};
-ghost use Rattle.space_builder.specs.build.Build.{Builds, BuildsWithCause, ReadsText};
+ghost use Rattle.space_builder.specs.build.Build.{Builds, BuildsWithCause, ReadsText, IsUncalledOrSized};
 ghost use Rattle.space_builder.specs.build.Outcome.{LeavesStore};
 
 use crate::built::{BuildStop, Built};
@@ -48,8 +48,11 @@ pub fn build<R: ByteSource, T: PageStore, L: Ledger>(
     ensures cause { BuildsWithCause (R.faults rows.old) (R.faults rows.new) (T.faults store.old) (T.faults store.new)
         result }
 
-    // Before the last line is read and the layout fits, the store isn't called.
+    // The store isn't called before the last line is read and the layout fits. At `Memory` it wasn't called, or it was
+    // sized.
     ensures untouched { LeavesStore result → store.new ≡ store.old }
+    ensures memory { result ≡ Err BuildStop.Memory
+        → IsUncalledOrSized T.told schema.now (R.left rows.old) store.old store.new }
 
     // No page is fetched.
     ensures steps { steps.new ≡ steps.old }

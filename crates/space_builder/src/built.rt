@@ -12,7 +12,7 @@ use thiserror::Error;
 /// A tablespace that was built.
 #[derive(Clone, Copy, Debug, PartialEq, Eq)]
 pub struct Built {
-    /// Its size in pages.
+    /// The size in pages.
     pub pages: u32,
     /// How many rows it has.
     pub rows: u64,
@@ -21,15 +21,15 @@ pub struct Built {
 /// Why a line of rows is refused; the first of these that holds.
 #[derive(Clone, Copy, Debug, PartialEq, Eq)]
 pub enum RowsWhy {
-    /// It has more than 16,777,216 bytes, its LF counted.
+    /// The line has more than 16,777,216 bytes, its LF counted.
     Long,
-    /// It holds byte 4,294,967,297 of the text.
+    /// The line holds byte 4,294,967,297 of the text.
     Input,
-    /// It is no line of a row of the table, or it is the last one and has no LF.
+    /// The line is that of no row of the table, or it is the last one and has no LF.
     Line,
-    /// Its clustered key isn't greater than that of the line before.
+    /// The clustered key of the line isn't greater than that of the line before.
     Order,
-    /// Its record is too long, and no column may go off the page.
+    /// The record of the line is too long, and no column may go off the page.
     Big,
 }
 
@@ -111,7 +111,7 @@ impl From<ReadStop> for BuildStop {
 /// What ends the adding of a row.
 #[derive(Clone, Copy, Debug, PartialEq, Eq, Error)]
 pub(crate) enum RowStop {
-    /// Its line is refused.
+    /// The line of the row is refused.
     #[error("the line is refused")]
     Refused(RowsWhy),
     /// Memory ran out.

@@ -108,7 +108,7 @@ impl ClusteredEntries<'_> {
         parts.push(local.bytes(), true)
     }
 
-    /// So many fields of a row.
+    /// The first fields of a row, so many.
     fn first_fields(&self, alloc: Global, r: usize, count: usize) -> Result<Parts, NoMemory>
         requires row { r < length self.now.rows.now }
         requires count { count ≤ length (stored_in self.now.rows.now r) }

@@ -1,9 +1,9 @@
 //! How many pages each level of a tree has, before any page has its number.
 
-ghost use Rattle.std.specs.Prelude.{◌≡◌, ◌<◌, IfOk, length};
+ghost use Rattle.std.specs.Prelude.{◌≡◌, ◌<◌, IfOk, OnOk, length};
 ghost use Rattle.page_packer.specs.Entries.{entry_at};
 ghost use Rattle.tree_layout.specs.Division.{tree_levels, level_counts, CanDivide};
-ghost use Rattle.tree_layout.specs.Counting.{weight_of, cut_leaves};
+ghost use Rattle.tree_layout.specs.Counting.{weight_of, one_more, cut_leaves};
 
 use crate::entries::Leaves;
 use column_values::FieldList;
@@ -14,27 +14,63 @@ use std::alloc::Global;
 use tree_layout::laws::counts_are_cut;
 use tree_layout::{Cut, Weight, count_levels};
 
-/// The size of leaf entry `k`, and that of a pointer by its key.
-fn weight_of<E: Leaves>(
+/// The size of leaf entry `k`.
+fn entry_size<E: Leaves>(
     alloc: Global,
     leaf: &FieldList,
     node: &FieldList,
     entries: &E,
     k: usize,
-) -> Result<Weight, NoMemory>
+) -> Result<u16, NoMemory>
     requires divide { CanDivide leaf.now node.now (E.entries entries.now) }
     requires inside { k < length (E.entries entries.now) }
     ensures { IfOk result
-        (λ weight. weight ≡ weight_of leaf.now node.now (entry_at (E.entries entries.now) k)) }
+        (λ size. size ≡ (weight_of leaf.now node.now (entry_at (E.entries entries.now) k)).size) }
+{
+    let parts = entries.parts(alloc, k)?;
+    Ok(record_size(leaf, &parts) as u16)
+}
+
+/// The size of a pointer by its key.
+fn pointer_size<E: Leaves>(
+    alloc: Global,
+    leaf: &FieldList,
+    node: &FieldList,
+    entries: &E,
+    k: usize,
+) -> Result<u16, NoMemory>
+    requires divide { CanDivide leaf.now node.now (E.entries entries.now) }
+    requires inside { k < length (E.entries entries.now) }
+    ensures { IfOk result
+        (λ size. size ≡ (weight_of leaf.now node.now (entry_at (E.entries entries.now) k)).pointer) }
 {
     pointers_lead_to_their_pages();
-    let parts = entries.parts(alloc, k)?;
     let mut pointer = entries.key(alloc, k, node.keys() as usize)?;
     pointer.push(&0u32.to_be_bytes(), false)?;
-    Ok(Weight {
-        size: record_size(leaf, &parts) as u16,
-        pointer: record_size(node, &pointer) as u16,
-    })
+    Ok(record_size(node, &pointer) as u16)
+}
+
+/// Adds leaf entry `k`. Only of the first entry of a page the pointer counts.
+fn push_entry<E: Leaves>(
+    alloc: Global,
+    leaf: &FieldList,
+    node: &FieldList,
+    entries: &E,
+    k: usize,
+    cut: &mut Cut,
+) -> Result<(), NoMemory>
+    requires divide { CanDivide leaf.now node.now (E.entries entries.now) }
+    requires inside { k < length (E.entries entries.now) }
+    ensures { OnOk result
+        (cut.new ≡ one_more cut.old (weight_of leaf.now node.now (entry_at (E.entries entries.now) k))) }
+{
+    let size = entry_size(alloc, leaf, node, entries, k)?;
+    let mut pointer = 0;
+    if cut.begins(size) {
+        pointer = pointer_size(alloc, leaf, node, entries, k)?;
+    }
+    cut.push(Weight { size, pointer })?;
+    Ok(())
 }
 
 /// The leaves of these entries, each by the size of the pointer to it.
@@ -49,7 +85,7 @@ fn cut_leaves<E: Leaves>(
 {
     let mut cut = Cut::new(alloc);
     for k in 0..entries.count() {
-        cut.push(weight_of(alloc, leaf, node, entries, k)?)?;
+        push_entry(alloc, leaf, node, entries, k, &mut cut)?;
     }
     cut.pages()
 }

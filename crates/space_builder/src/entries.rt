@@ -4,6 +4,7 @@ ghost use Rattle.std.specs.Prelude.{◌≡◌, ◌<◌, List, IfOk, length, map,
 ghost use Rattle.page_packer.specs.Entries.{Entry, entry_at};
 ghost use Rattle.space_builder.specs.calls.Pointing.{pointing, pointer_at, PointInto};
 
+use byteorder::{BigEndian, ByteOrder};
 use compact_record::Parts;
 use page_source::NoMemory;
 use std::alloc::Global;
@@ -99,7 +100,9 @@ impl<'a, E: Leaves> Entries for Pointers<'a, E> {
     fn parts(&self, alloc: Global, k: usize) -> Result<Parts, NoMemory> {
         let pointer = pointer_at(self.pointers, k);
         let mut parts = self.leaves.key(alloc, pointer.first, self.keys)?;
-        parts.push(&pointer.page.to_be_bytes(), false)?;
+        let mut number = [0; 4];
+        BigEndian::write_u32(&mut number, pointer.page);
+        parts.push(&number, false)?;
         Ok(parts)
     }
 }

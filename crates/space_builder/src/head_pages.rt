@@ -36,7 +36,7 @@ pub(crate) fn put_head_page<T: PageStore>(
     requires { TakesPages (T.told store.old) sizes.now }
     ensures puts { PutsPages T.PageStore store.old store.new ((0, header_page sizes.now flags) ∷ []) result }
 
-    // It takes no memory.
+    // Putting page 0 takes no memory.
     ensures memory { result ≢ Err PutStop.Memory }
 {
     put_header_page(page, sizes, flags);

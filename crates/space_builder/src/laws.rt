@@ -9,14 +9,15 @@ ghost use Rattle.space_builder.specs.layout.ValuePage.{PagesAreOfChains};
 ghost use Rattle.space_builder.specs.calls.StoredRows.{PicksEntries, SamePagesGiveRecords};
 ghost use Rattle.space_builder.specs.calls.StoredRows.{StoredRowsGiveEntries};
 ghost use Rattle.space_builder.specs.build.Laws.{GoodTextsCanBuild, GoodTextsBuildValid, GoodTextsAreOfRows};
-ghost use Rattle.space_builder.specs.build.Outcome.{RootsHaveOneAnswer, BuildHasOneOutcome};
+ghost use Rattle.space_builder.specs.build.Outcome.{RootsHaveOneAnswer, BuildHasOneOutcome, BuildHasAnOutcome};
 
+use column_values::laws::spellings_are_unique;
 use fil_frame::laws::sealed_pages_are_whole;
 use offpage_chain::laws::part_pages_are_read;
 use page_packer::laws::{a_page_has_its_numbers, a_page_holds_its_entries, sealing_keeps_the_body};
 use row_layout::laws::{
     entries_are_alike, entries_can_divide, entries_differ, fitted_rows_are_rows,
-    held_rows_are_rows, held_values_are_sound, nothing_is_left_over,
+    held_rows_are_rows, held_values_are_sound, nothing_is_left_over, values_fit,
 };
 use row_text::laws::lines_are_unique;
 use space_layout::laws::{
@@ -65,28 +66,28 @@ pub fn builds_a_sound_space()
     laws_below();
 }
 
-/// It has the trees of its table.
+/// A built tablespace has the trees of its table.
 pub fn builds_the_trees()
     ensures { BuildsTrees }
 {
     laws_below();
 }
 
-/// It holds the rows that it was built of.
+/// A built tablespace holds the rows that it was built of.
 pub fn builds_the_rows()
     ensures { BuildsRows }
 {
     laws_below();
 }
 
-/// Its values are sound.
+/// The values of a built tablespace are sound.
 pub fn builds_sound_values()
     ensures { BuildsValues }
 {
     laws_below();
 }
 
-/// Nothing is left over in it.
+/// Nothing is left over in a built tablespace.
 pub fn builds_no_left_overs()
     ensures { BuildsNoLeftOvers }
 {
@@ -109,7 +110,7 @@ pub fn good_texts_can_be_built()
     ensures { GoodTextsCanBuild }
 {}
 
-/// It is valid, and holds the rows of the text.
+/// What is built of a text whose lines are good is valid, and holds the rows of the text.
 pub fn good_texts_build_a_valid_tablespace()
     ensures { GoodTextsBuildValid }
 {
@@ -117,7 +118,7 @@ pub fn good_texts_build_a_valid_tablespace()
     builds_a_valid_tablespace();
 }
 
-/// The lines of these rows are the text.
+/// The lines of the rows of a text are the text.
 pub fn good_texts_are_of_rows()
     ensures { GoodTextsAreOfRows }
 {}
@@ -127,6 +128,15 @@ pub fn a_build_has_one_outcome()
     ensures roots { RootsHaveOneAnswer }
     ensures outcome { BuildHasOneOutcome }
 {
+    lines_are_unique();
+}
+
+/// A table and a text have an outcome.
+pub fn a_build_has_an_outcome()
+    ensures { BuildHasAnOutcome }
+{
+    spellings_are_unique();
+    values_fit();
     lines_are_unique();
 }
 

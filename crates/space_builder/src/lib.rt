@@ -28,5 +28,3 @@ mod values;
 
 pub use builder::build;
 pub use built::{BuildStop, Built, RowsWhy};
-pub use places::tree_number;
-pub use tree_pages::{TreeSpot, put_tree_page};

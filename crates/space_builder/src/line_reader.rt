@@ -3,7 +3,7 @@
 ghost use Rattle.std.specs.Prelude.{◌≡◌, ◌≢◌, ℕ, ◌+◌, ◌≤◌, ◌<◌, ◌⊎◌, [], length, take, drop, slice_index, IfOk, IfSome};
 ghost use Rattle.std.specs.Prelude.{OnOk};
 ghost use Rattle.space_builder.specs.calls.Lines.{IsFeedPlace, ComeBehind, GrewBehind, IsAtEnd, IsOverlong, FindsLine};
-ghost use Rattle.space_builder.specs.calls.Lines.{end_size};
+ghost use Rattle.space_builder.specs.calls.Lines.{end_size, buffer_size, IsFewAhead};
 ghost use Rattle.space_builder.specs.build.ReadRows.{BlamesText};
 
 use crate::built::ReadStop;
@@ -118,6 +118,8 @@ impl LineReader {
 
     /// Reads until the first line ahead is whole or too long, and answers where its LF is, or the end.
     fn reach_feed<R: ByteSource>(&mut self, text: &mut R) -> Result<usize, ReadStop>
+        requires { length self.old ≤ buffer_size }
+        ensures few { IfOk result (IsFewAhead self.new) }
         ensures grew { OnOk result (GrewBehind (R.left text.old) (R.left text.new) self.old self.new) }
         ensures place { IfOk result (IsFeedPlace self.new) }
         ensures whole { IfOk result (λ size.
@@ -136,6 +138,8 @@ impl LineReader {
 
     /// Reads until the next line is there, and answers its size; none at the end of the text.
     pub(crate) fn next<R: ByteSource>(&mut self, text: &mut R) -> Result<Option<NextLine>, ReadStop>
+        requires { length self.old ≤ buffer_size }
+        ensures few { IfOk result (λ found. IfSome found (λ line. IsFewAhead self.new line.size)) }
         ensures grew { OnOk result (GrewBehind (R.left text.old) (R.left text.new) self.old self.new) }
         ensures line { IfOk result (FindsLine self.new (R.left text.new)) }
         ensures cause { BlamesText (R.faults text.old) (R.faults text.new) result }

@@ -18,7 +18,7 @@ pub(crate) struct FieldSpot {
     pub(crate) end: usize,
 }
 
-/// The same in four bytes: where it ends, and in the lowest two bits whether it is null and whether it goes off.
+/// A field's spot in four bytes: where it ends, and in the lowest two bits whether it is null and whether it goes off.
 #[derive(Clone, Copy, Debug, PartialEq, Eq)]
 pub(crate) struct Mark {
     code: u32,

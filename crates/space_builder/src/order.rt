@@ -2,7 +2,7 @@
 
 ghost use Rattle.std.specs.Prelude.{◌≡◌, ◌<◌, ◌≤◌, ◌==◌, ◌++◌, IfOk, OnOk, All, length, map, slice_index_or};
 ghost use Rattle.std.specs.Option.{option_copied};
-ghost use Rattle.std.specs.List.{list_any, range_with_len};
+ghost use Rattle.std.specs.List.{list_any};
 ghost use Rattle.column_values.specs.Types.{field_at};
 ghost use Rattle.column_values.specs.Order.{cell_cmp, key_cmp};
 ghost use Rattle.compact_record.specs.Reading.{key_kinds};
@@ -15,18 +15,30 @@ ghost use Rattle.space_builder.specs.calls.Order.{IsKeyOrder, IsIndexOrder};
 
 use crate::stored::StoredRows;
 use column_values::{Field, FieldList, FieldType, compare};
+use key_ranks::{RowKeys, order_of_rows};
 use page_source::NoMemory;
 use schema_text::{Schema, column_fields};
 use std::alloc::Global;
 use std::cmp::Ordering;
+use std::marker::Model;
 
 /// The keys of the rows in an index.
-#[derive(Clone, Copy)]
-pub(crate) struct IndexKeys<'a> {
-    pub(crate) rows: &'a StoredRows,
+#[derive(Drop)]
+struct IndexKeys<'a> {
+    rows: &'a StoredRows,
     /// The fields of the index, and which fields of a row they are.
-    pub(crate) list: &'a FieldList,
-    pub(crate) fields: &'a [usize],
+    list: &'a FieldList,
+    fields: &'a [usize],
+}
+
+impl<'a> Model for IndexKeys<'a> {
+    ghost use Rattle.space_builder.specs.calls.Order.{Picking, PicksKeys};
+
+    ghost Value = { Picking };
+
+    ghost view = { λ k. record { list = k.list.now; fields = k.fields.now; rows = k.rows.now } };
+
+    ghost invariant = { λ k. PicksKeys k.list.now k.fields.now };
 }
 
 /// The order of two values that may be null.
@@ -49,18 +61,23 @@ fn kind_at(list: &FieldList, i: usize) -> FieldType
 }
 
 /// The order of the keys of two rows.
-fn compare_rows(keys: &IndexKeys, a: usize, b: usize) -> Ordering
-    requires few { keys.now.list.now.keys ≤ length keys.now.list.now.fields }
-    requires each { length keys.now.fields.now ≡ keys.now.list.now.keys }
-    ensures { result ≡ key_cmp (key_kinds keys.now.list.now)
-        (picked_key keys.now.fields.now (stored_in keys.now.rows.now a))
-        (picked_key keys.now.fields.now (stored_in keys.now.rows.now b)) }
+fn compare_rows(
+    rows: &StoredRows,
+    list: &FieldList,
+    fields: &[usize],
+    a: usize,
+    b: usize,
+) -> Ordering
+    requires few { list.now.keys ≤ length list.now.fields }
+    requires each { length fields.now ≡ list.now.keys }
+    ensures { result ≡ key_cmp (key_kinds list.now) (picked_key fields.now (stored_in rows.now a))
+        (picked_key fields.now (stored_in rows.now b)) }
 {
-    for i in 0..keys.fields.len() {
-        let kind = kind_at(keys.list, i);
-        let field = keys.fields[i];
-        let first = keys.rows.value(a, field);
-        let second = keys.rows.value(b, field);
+    for i in 0..fields.len() {
+        let kind = kind_at(list, i);
+        let field = fields[i];
+        let first = rows.value(a, field);
+        let second = rows.value(b, field);
         let order = compare_values(&kind, first, second);
         match order {
             Ordering::Less => return Ordering::Less,
@@ -71,30 +88,59 @@ fn compare_rows(keys: &IndexKeys, a: usize, b: usize) -> Ordering
     Ordering::Equal
 }
 
-/// So many numbers, from 0 on.
-fn numbers(alloc: Global, count: usize) -> Result<Vec<u32>, NoMemory>
-    ensures { IfOk result (λ list. list.items ≡ range_with_len 0 count) }
-{
-    let Ok(end) = u32::try_from(count) else {
-        return Err(NoMemory);
-    };
-    let mut list = Vec::with_capacity(alloc, count)?;
-    for i in 0..end {
-        list.push(i)?;
+impl RowKeys for IndexKeys<'_> {
+    ghost use Rattle.space_builder.specs.calls.Order.{table_of};
+
+    ghost table = { λ keys. table_of keys };
+
+    fn kind(&self) -> FieldType {
+        if self.fields.is_empty() {
+            return FieldType::Child;
+        }
+        kind_at(self.list, 0)
     }
-    Ok(list)
+
+    fn first(&self, row: usize) -> Option<&[u8]> {
+        if self.fields.is_empty() {
+            return None;
+        }
+        self.rows.value(row, self.fields[0])
+    }
+
+    fn compare(&self, a: usize, b: usize) -> Ordering {
+        compare_rows(self.rows, self.list, self.fields, a, b)
+    }
+}
+
+/// These numbers, in 32 bits each.
+fn narrowed(alloc: Global, list: &[usize]) -> Result<Vec<u32>, NoMemory>
+    ensures { IfOk result (λ numbers. numbers.items ≡ list.now) }
+{
+    let mut numbers = Vec::with_capacity(alloc, list.len())?;
+    for k in 0..list.len() {
+        let Ok(number) = u32::try_from(list[k]) else {
+            return Err(NoMemory);
+        };
+        numbers.push(number)?;
+    }
+    Ok(numbers)
 }
 
 /// The rows in the order of their keys.
-fn order_of_keys(alloc: Global, keys: &IndexKeys) -> Result<Vec<u32>, NoMemory>
-    requires few { keys.now.list.now.keys ≤ length keys.now.list.now.fields }
-    requires each { length keys.now.fields.now ≡ keys.now.list.now.keys }
-    ensures { IfOk result
-        (λ order. IsKeyOrder (key_kinds keys.now.list.now) keys.now.fields.now keys.now.rows.now order.items) }
+fn order_of_keys(
+    alloc: Global,
+    rows: &StoredRows,
+    list: &FieldList,
+    fields: &[usize],
+) -> Result<Vec<u32>, NoMemory>
+    requires few { list.now.keys ≤ length list.now.fields }
+    requires each { length fields.now ≡ list.now.keys }
+    ensures { IfOk result (λ order. IsKeyOrder (key_kinds list.now) fields.now rows.now order.items) }
 {
-    let mut order = numbers(alloc, keys.rows.count())?;
-    order.sort_by(|a, b| compare_rows(keys, *a as usize, *b as usize))?;
-    Ok(order)
+    let keys = IndexKeys { rows, list, fields };
+    let order = order_of_rows(alloc, &keys, rows.count())?;
+    let numbers = narrowed(alloc, &order)?;
+    Ok(numbers)
 }
 
 /// Whether the column is among these.
@@ -169,12 +215,5 @@ pub(crate) fn order_of_index(
     let _ = schema.indexes();
     let list = schema.fields(alloc, index, true)?;
     let fields = entry_fields(alloc, schema, index)?;
-    order_of_keys(
-        alloc,
-        &IndexKeys {
-            rows,
-            list: &list,
-            fields: &fields,
-        },
-    )
+    order_of_keys(alloc, rows, &list, &fields)
 }

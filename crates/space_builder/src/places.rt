@@ -53,7 +53,7 @@ fn place_for(counts: &[u32], l: usize, k: u32) -> u32
 }
 
 /// The number of page `k` of level `l` of index `j`, whose levels have so many pages each, from the leaves up.
-pub fn tree_number(sizes: &[u32], counts: &[u32], j: usize, l: usize, k: u32) -> u32
+pub(crate) fn tree_number(sizes: &[u32], counts: &[u32], j: usize, l: usize, k: u32) -> u32
     requires shape { IsShape sizes.now }
     requires index { 2 * j + 1 < length sizes.now }
     requires fits { FitsSegments counts.now (size_at sizes.now) j }

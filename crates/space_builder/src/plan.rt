@@ -31,9 +31,9 @@ pub(crate) struct RowOrder {
 /// How many pages an index has.
 #[derive(Debug, Drop)]
 pub(crate) struct IndexPages {
-    /// Those of each level of its tree, from the leaves up.
+    /// The pages of each level of its tree, from the leaves up.
     pub(crate) levels: Vec<u32>,
-    /// Those of its segment of upper levels, and those of the segment of its leaves.
+    /// The pages of its segment of upper levels, and of the segment of its leaves.
     pub(crate) top: u32,
     pub(crate) leaf: u32,
 }
@@ -194,7 +194,7 @@ fn fitting(pages: usize) -> Result<u32, PlanStop>
     Ok(pages as u32)
 }
 
-/// These numbers of pages of levels.
+/// The numbers of pages of levels, in 32 bits each.
 fn fitting_levels(alloc: Global, counts: &[usize]) -> Result<Vec<u32>, PlanStop>
     ensures same { IfOk result (λ levels. levels.items ≡ counts.now) }
     ensures few { IfOk result (λ levels. All (λ n. n ≤ 16416) levels.items) }

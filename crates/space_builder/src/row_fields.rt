@@ -115,7 +115,7 @@ impl RowFields {
         self.spot(i).off
     }
 
-    /// Its bytes.
+    /// The bytes of field `i`.
     pub(crate) fn bytes(&self, i: usize) -> &[u8]
         requires { i < length self.now }
         ensures { result.now ≡ (stored_at self.now i).bytes }
@@ -124,7 +124,7 @@ impl RowFields {
         &self.bytes[start..end]
     }
 
-    /// Its bytes, none where it is null.
+    /// The bytes of field `i`, none if it is null.
     pub(crate) fn value(&self, i: usize) -> Option<&[u8]>
         requires { i < length self.now }
         ensures { option_copied result ≡ value_of (stored_at self.now i) }

@@ -176,7 +176,7 @@ impl Space<'_> {
         put_system_pages(store, page, sizes)
     }
 
-    /// Its size in pages.
+    /// The size of the tablespace in pages.
     pub(crate) fn pages(&self) -> u32
         requires { IsSpace self.now }
         ensures { OfSpace self.now (λ rows. result ≡ layout_size self.now.schema.now rows) }

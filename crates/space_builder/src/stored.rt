@@ -257,7 +257,7 @@ impl StoredRows {
         self.spot(r, i).off
     }
 
-    /// Its bytes.
+    /// The bytes of field `i` of row `r`.
     pub(crate) fn bytes(&self, r: usize, i: usize) -> &[u8]
         requires row { r < length self.now }
         requires field { i < length (stored_in self.now r) }
@@ -267,7 +267,7 @@ impl StoredRows {
         &self.lists.bytes_of(r)[start..end]
     }
 
-    /// How many they are.
+    /// How many bytes field `i` of row `r` has.
     pub(crate) fn length(&self, r: usize, i: usize) -> u32
         requires row { r < length self.now }
         requires field { i < length (stored_in self.now r) }
@@ -277,7 +277,7 @@ impl StoredRows {
         (end - start) as u32
     }
 
-    /// Its value, wherever the bytes stand; none where there is no such field.
+    /// The value of field `i` of row `r`, wherever its bytes stand; none if there is no such field.
     pub(crate) fn value(&self, r: usize, i: usize) -> Option<&[u8]>
         ensures { option_copied result ≡ value_of (stored_at (stored_in self.now r) i) }
     {

@@ -11,17 +11,17 @@ use page_source::Page;
 
 /// Where a page of a tree stands.
 #[derive(Clone, Copy, Debug, PartialEq, Eq)]
-pub struct TreeSpot {
-    /// Its number.
-    pub number: u32,
+pub(crate) struct TreeSpot {
+    /// The number of the page.
+    pub(crate) number: u32,
     /// The page before it on its level.
-    pub prev: u32,
+    pub(crate) prev: u32,
     /// The page after it.
-    pub next: u32,
-    /// Its index, counted from 0.
-    pub index: u16,
-    /// Whether it is the root.
-    pub root: bool,
+    pub(crate) next: u32,
+    /// The index of the tree, counted from 0.
+    pub(crate) index: u16,
+    /// Whether the page is the root.
+    pub(crate) root: bool,
 }
 
 /// The segment headers of the root of an index.
@@ -45,7 +45,7 @@ fn heads_if(root: bool, index: u16) -> Option<Heads>
 }
 
 /// Makes `page` the page of the records that were pushed, at its spot.
-pub fn put_tree_page(packer: &mut Packer, page: &mut Page, spot: TreeSpot)
+pub(crate) fn put_tree_page(packer: &mut Packer, page: &mut Page, spot: TreeSpot)
     requires { spot.index < 16 }
     ensures page { page.new ≡ page_at_spot packer.old spot }
     ensures same { packer.new ≡ packer.old }

@@ -12,7 +12,7 @@ use page_source::FIL_NULL;
 /// What a tree is put by.
 #[derive(Clone, Copy, Debug)]
 pub(crate) struct TreePlan<'a> {
-    /// Its index, counted from 0.
+    /// The index of the tree, counted from 0.
     pub(crate) index: u16,
     /// The fields of its leaf records and of its node pointers.
     pub(crate) leaf: &'a FieldList,

@@ -101,7 +101,7 @@ fn list_first(first_pages: &mut Vec<u32>, numbers: &[u32]) -> Result<(), NoMemor
 pub(crate) struct FirstPages {
     /// The pages, one for each field of a row that has such a field, and any for its others.
     pub(crate) pages: Vec<u32>,
-    /// Where those of each row begin; any place for a row without such fields.
+    /// Where the pages of each row begin in that list; any place for a row without such fields.
     pub(crate) starts: Vec<u32>,
 }
 

@@ -18,7 +18,7 @@ pub record IsPage (file : List ℕ) (n kind : ℕ) : Type 0 where
   pub framed : IsFramed (page_of file n) n 1
   pub has_kind : kind_of (page_of file n) ≡ kind
 
--- it has the type of a page of an index, or of a long value
+-- page n of the file has the type of a page of an index, or of a long value
 abbrev pub IsSegmentPage : List ℕ → ℕ → Type 0
 IsSegmentPage file n = IsPage file n index_kind ⊎ IsPage file n blob_kind
 

@@ -14,7 +14,7 @@ abbrev pub HoldsSoundSpace : Type 0
 HoldsSoundSpace = (file sizes : List ℕ) (flags : ℕ) → IsShape sizes → HoldsSpace file sizes flags
     → IsSoundSpace file flags
 
--- and its segments have the pages that they are to have, and no others
+-- the segments of such a file have the pages that they are to have, and no others
 abbrev pub HoldsItsSegments : Type 0
 HoldsItsSegments = (file sizes : List ℕ) (flags : ℕ) → IsShape sizes → HoldsSpace file sizes flags
     → HasSegments file sizes

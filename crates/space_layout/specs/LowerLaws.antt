@@ -18,7 +18,7 @@ pub record UseLaws : Type 0 where
   pub bits : BitsAreUsedPages
   pub claims : FragmentClaimsAreEnough
 
--- all of them
+-- all laws of the crates below
 pub record LowerLaws : Type 0 where
   pub page : PageLaws
   pub uses : UseLaws

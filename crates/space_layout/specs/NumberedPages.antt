@@ -17,7 +17,7 @@ pub record IsNumbered (sizes : List ℕ) (entry : Numbered) : Type 0 where
   pub at : ℕ
   pub place : IsPlace sizes segment at entry.0
 
--- these are the pages of the segments: each is one, and each place has one
+-- pages that are those of the segments: each is one, and each place has one
 pub record AreSegmentPages (sizes : List ℕ) (pages : List Numbered) : Type 0 where
   pub each : All (IsNumbered sizes) pages
   pub every : (s i n : ℕ) → IsPlace sizes s i n → Contains (map (λ (entry : Numbered). entry.0) pages) n

@@ -88,7 +88,7 @@ pub record AreNumbers (sizes : List ℕ) : Type 0 where
 unfoldable pub sizes_of : List (ℕ × ℕ) → List ℕ
 sizes_of pairs = flat_map (λ (pair : ℕ × ℕ). pair.0 ∷ pair.1 ∷ []) pairs
 
--- they have a shape
+-- indexes whose segments have a shape
 pub record AreIndexes (pairs : List (ℕ × ℕ)) : Type 0 where
   pub few : length pairs ≤ 16
   pub roots : All (λ (pair : ℕ × ℕ). 1 ≤ pair.0) pairs

@@ -21,7 +21,7 @@ value_page_count counts = pages_before_row counts (length counts)
 abbrev pub value_place : List (List ℕ) → ℕ → ℕ → ℕ → ℕ
 value_place counts r i k = pages_before_row counts r + (pages_before_field (row_at counts r) i + k)
 
--- its page, where the first index has so many leaves in their segment
+-- the page of that part, if the first index has so many leaves in their segment
 abbrev pub value_page_number : List ℕ → ℕ → List (List ℕ) → ℕ → ℕ → ℕ → ℕ
 value_page_number sizes leaves counts r i k = segment_page sizes 1 (leaves + value_place counts r i k)
 

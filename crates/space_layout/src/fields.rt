@@ -64,7 +64,7 @@ fn full_of(sizes: &[u32], s: usize) -> Run
     }
 }
 
-/// Its last extent, where some pages of that are free.
+/// The last extent of a segment, if some pages of that are free.
 fn open_of(sizes: &[u32], s: usize) -> Run
     requires shape { IsShape sizes.now }
     requires within { s < length sizes.now }

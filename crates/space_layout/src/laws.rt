@@ -31,7 +31,7 @@ pub fn holds_sound_space()
     laws_below();
 }
 
-/// And its segments have the pages that they are to have, and no others.
+/// The segments of such a file have the pages that they are to have, and no others.
 pub fn holds_its_segments()
     ensures { HoldsItsSegments }
 {

@@ -10,7 +10,7 @@ use Rattle.std.proofs.lemmas.List.{take_all, take-append-le, take-append-drop, g
 use Rattle.std.proofs.lemmas.List.{drop_all}
 use Rattle.page_source.specs.Objects.{TakesBytes}
 use Rattle.space_builder.specs.calls.Lines.{GivesBytes, IsAtEnd, ComeBehind}
-use Rattle.space_builder.specs.calls.Lines.{GrewBehind, IsFeedPlace}
+use Rattle.space_builder.specs.calls.Lines.{GrewBehind, IsFeedPlace, IsFewAhead}
 use Rattle.space_builder.proofs.building.Reading.{gives_more}
 
 -- bytes that were read
@@ -63,6 +63,15 @@ grew_more a b c xs ys zs count grew come = record {
       come.behind ∙ ap (λ (bytes : List ℕ). bytes ++ come.piece) grew.behind ∙ append_assoc xs grew.piece come.piece;
   given = gives_more a b c grew.piece come.piece grew.given come.given;
 }
+
+-- a buffer more was read behind bytes of one line
+pub few_more : (a b : Option (List ℕ)) (xs ys : List ℕ) (count size place : ℕ) → size ≡ length xs → size ≤ 16777216
+    → ComeBehind a b xs ys count → size ≤ place → IsFewAhead ys place
+few_more a b xs ys count size place all short come least =
+    let grown = ap length come.behind ∙ length-append xs come.piece in
+    let count_is = come.count_is in
+    let few = come.few in
+    record { behind = omega arith; longest = omega arith }
 
 -- the place of the first LF, searched from a place on
 searched : (a b : Option (List ℕ)) (xs ys : List ℕ) (count size place : ℕ) → IsFeedPlace xs size → size ≡ length xs

@@ -5,6 +5,10 @@ use Rattle.std.specs.declared.cmp.Ordering.{Ordering}
 use Rattle.std.specs.declared.cmp.Ordering.TheVariants.{Equal}
 use Rattle.std.specs.Ordering.{ordering_then}
 use Rattle.std.proofs.Math.Seq.{drop-cons}
+use Rattle.std.specs.List.{range_with_len}
+use Rattle.std.specs.List.Sorted.{IsPermutation}
+use Rattle.std.proofs.Common.{[], subst}
+use Rattle.std.proofs.lemmas.List.{get_or_default}
 use Rattle.std.proofs.lemmas.List.{drop_all, length-map, length-take-le, get_or-map, get_or-take}
 use Rattle.column_values.specs.declared.field.Field.{Field}
 use Rattle.column_values.specs.declared.field.FieldType.{FieldType}
@@ -15,6 +19,9 @@ use Rattle.compact_record.specs.Reading.{key_kinds}
 use Rattle.row_layout.specs.StoredRow.{Stored, stored_at}
 use Rattle.space_builder.specs.calls.Stored.{value_of}
 use Rattle.space_builder.specs.calls.Picked.{picked_key}
+use Rattle.row_layout.specs.HoldsValues.{stored_in}
+use Rattle.key_ranks.specs.Keys.{IsRowOrder}
+use Rattle.space_builder.specs.calls.Order.{IsKeyOrder, Picking, PicksKeys, table_of}
 
 -- what is left of two keys from field i on, in their order
 abbrev pub LeftOf : List FieldType → Key → Key → ℕ → Ordering
@@ -86,3 +93,34 @@ module _ (list : Fields) (fields : List ℕ) (a b : List Stored) (few : list.key
       (compared ∙ ap (λ (v : Option (List ℕ)). cell_cmp kind v y) (cell a i field x below is read_x)
       ∙ ap (cell_cmp kind (get_or first i None)) (cell b i field y below is read_y))
       says left
+
+-- a key has a value of each kind
+pub picks_whole : (keys : Picking) (r : ℕ) → PicksKeys keys.list keys.fields
+    → length ((table_of keys).key r) ≡ length (table_of keys).kinds
+picks_whole keys r picks = size keys.list keys.fields [] [] picks.few picks.each (stored_in keys.rows r)
+
+-- its first value, and the kind of that
+pub first_value : (keys : Picking) (r field : ℕ) (value : Option (List ℕ)) → PicksKeys keys.list keys.fields
+    → 0 < length keys.fields → field ≡ get_or keys.fields 0 0
+    → value ≡ value_of (stored_at (stored_in keys.rows r) field) → value ≡ get_or ((table_of keys).key r) 0 None
+first_value keys r field value picks some is read =
+    cell keys.list keys.fields [] [] picks.few picks.each (stored_in keys.rows r) 0 field value some is read
+
+pub first_kind : (keys : Picking) (kind d : FieldType) → PicksKeys keys.list keys.fields
+    → kind ≡ (field_at keys.list 0).kind → 0 < length (table_of keys).kinds
+    → kind ≡ get_or (table_of keys).kinds 0 d
+first_kind keys kind d picks is some =
+    is ∙ kind_of_field keys.list 0 picks.few (omega (arith, some, kinds_size keys.list picks.few))
+    ∙ get_or_default (key_kinds keys.list) 0 Child d some
+
+-- rows in the order of these keys
+pub order_from_rows : (list : Fields) (fields : List ℕ) (rows : List (List Stored)) (count : ℕ) (found order : List ℕ)
+    → count ≡ length rows → order ≡ found
+    → IsRowOrder (table_of (record { list = list; fields = fields; rows = rows })) count found
+    → IsKeyOrder (key_kinds list) fields rows order
+order_from_rows list fields rows count found order all is sorted =
+    subst (λ (numbers : List ℕ). IsKeyOrder (key_kinds list) fields rows numbers) (sym is)
+    (record {
+      moved = subst (λ (n : ℕ). IsPermutation (range_with_len 0 n) found) all sorted.places;
+      sorted = sorted.sorted;
+    })

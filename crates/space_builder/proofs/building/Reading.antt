@@ -1,12 +1,13 @@
 -- A text that is read line by line.
 use Rattle.std.proofs.Common.{◌≡◌, ◌≢◌, ℕ, ◌+◌, ◌*◌, ◌<◌, ◌≤◌, Bool, true, false, List, [], ◌∷◌, ◌++◌, length, take}
-use Rattle.std.proofs.Common.{drop}
+use Rattle.std.proofs.Common.{◌-◌, drop}
 use Rattle.std.proofs.Common.{IfSome, Some, None, Option, Ok, Err, refl, sym, ap, ◌∙◌, subst, arith, inl, inr}
-use Rattle.std.proofs.lemmas.List.{append_assoc, append-nil, length-append, length-take-le}
+use Rattle.std.proofs.lemmas.List.{append_assoc, append-nil, length-append, length-take-le, length_push, drop_at}
 use Rattle.std.proofs.lemmas.List.Elements.{All-nil, All-cons, All-append}
-use Rattle.std.proofs.lemmas.List.Sums.{sum_by_push}
+use Rattle.std.proofs.lemmas.List.Sums.{sum_by_push, sum_by-cons}
 use Rattle.std.proofs.lemmas.Bool.Decides.{eqb_tells}
 use Rattle.page_source.specs.declared.objects.ByteSource.{Ghosts as TextOf}
+use Rattle.page_source.proofs.Told.{told2}
 use Rattle.schema_text.specs.TableDef.{TableDef}
 use Rattle.schema_text.specs.Grammar.{IsTable, line_feed}
 use Rattle.row_text.specs.Laws.{HasOneRow}
@@ -20,11 +21,12 @@ use Rattle.space_builder.specs.layout.Layout.{Rows, stored_rows}
 use Rattle.space_builder.specs.build.BadLine.{RowsChecks, AreRowsOf}
 use Rattle.space_builder.specs.calls.Lines.{with_feed, joined_lines, bytes_in, end_of, end_size, StandsFirst}
 use Rattle.space_builder.specs.calls.Lines.{GivesBytes}
-use Rattle.space_builder.specs.calls.Lines.{IsAtEnd, GrewBehind, IsNextLine}
+use Rattle.space_builder.specs.calls.Lines.{IsAtEnd, GrewBehind, IsFewAhead, IsNextLine}
 use Rattle.space_builder.specs.calls.NextRow.{HoldsRows, RefusesNext, AddsRow}
-use Rattle.space_builder.specs.build.ReadRows.{AreReadRows, ChecksLine, ReadsRows}
+use Rattle.space_builder.specs.build.ReadRows.{AreReadRows, ReadsNear, ChecksLine, ReadsRows}
 use Rattle.space_builder.specs.calls.Stops.{stop_behind}
 use Rattle.space_builder.proofs.building.NextRows.{length-stored}
+use Rattle.space_builder.proofs.building.Pieces.{line_there}
 use Rattle.space_builder.proofs.building.GoodLines.{GoodLines, good_none, good_more, joined_push}
 use Rattle.space_builder.proofs.building.Refused.{long_refused, far_refused, open_refused, row_refused, text_refused}
 use Rattle.space_builder.proofs.building.Refused.{text_is_good, rows_are_good, few_rows}
@@ -44,6 +46,16 @@ gives_more (Some text) b c xs ys first second =
 
 gives_same : (a b : Option (List ℕ)) (xs ys : List ℕ) → xs ≡ ys → GivesBytes a b xs → GivesBytes a b ys
 gives_same a b xs ys same given = subst (GivesBytes a b) same given
+
+-- how many bytes lines have
+joined_size : (lines : List (List ℕ)) → length (joined_lines lines) ≡ bytes_in lines
+joined_size [] = refl
+joined_size (line ∷ lines) =
+    let all = length-append (with_feed line) (joined_lines lines) in
+    let one = length_push line line_feed in
+    let sum = sum_by-cons (λ (l : List ℕ). length l + 1) line lines in
+    let rest = joined_size lines in
+    omega arith
 
 -- the front of some bytes up to the first LF
 record IsCut (bytes : List ℕ) : Type 0 where
@@ -346,16 +358,77 @@ module _ {R : Type 0} (g : TextOf R) (one : HasOneRow) (table : TableDef) (is : 
       (omega arith) (omega arith) fed
       (refuses reading.rows (reading_holds g table old now ahead taken stored reading))))
 
-  -- what the reading stops at
-  pub stops_by_bytes : (why : RowsWhy) → ChecksLine line taken (Err why) → g.faults old ≤ g.faults now
-      → ReadsRows g table old now (Err (stop_behind (length stored) (rowstops.Refused why)))
-  stops_by_bytes why checked later =
-      record { finds = bytes_refused why checked; later = later; rose = λ never. cc }
+  -- no more than a buffer was read behind it
+  near_line : IsFewAhead ahead line.size → (text left cut : List ℕ) (feed : Bool) (rest : List ℕ)
+      → g.left now ≡ Some left → text ≡ joined_lines lines ++ (ahead ++ left)
+      → StandsFirst (ahead ++ left) cut feed rest → (feed ≡ false → length cut ≢ 0) → line.size ≤ length cut
+      → ReadsNear text (g.left now) (length lines)
+  near_line few text left cut feed rest now_is text_is stands some long =
+      let read = joined_lines lines ++ ahead in
+      let here =
+      line_there text lines (ahead ++ left) cut feed rest text_is reading.good.lack stands some in
+      let size = here.size in
+      let end = here.end in
+      let count : length read ≡ bytes_in lines + length ahead =
+      length-append (joined_lines lines) ahead ∙ ap (λ n. n + length ahead) (joined_size lines) in
+      let behind = few.behind in
+      let longest = few.longest in
+      let whole : text ≡ read ++ left = text_is ∙ sym (append_assoc (joined_lines lines) ahead left) in
+      record {
+        count = length read;
+        rest = now_is ∙ ap Some (sym (ap (drop (length read)) whole ∙ drop_at read left (length read) refl));
+        most = omega arith;
+        longest = omega arith;
+      }
 
-  pub stops_by_row : (end : ℕ) (grown : List (List Stored)) (stop : RowStop) → ChecksLine line taken (Ok end)
+  near_text : IsFewAhead ahead line.size → (feed : Bool) → line.feed ≡ feed → (text left : List ℕ)
+      → g.left now ≡ Some left → text ≡ joined_lines lines ++ (ahead ++ left)
+      → ReadsNear text (g.left now) (length lines)
+  near_text few true fed text left now_is text_is =
+      let size = line_size in
+      near_line few text left bytes true (after ++ left) now_is text_is
+      (stands_on ahead left bytes true after (subst (λ f. StandsFirst ahead bytes f after) fed next.stands)
+      (λ never. cc))
+      (λ never. cc) (omega arith)
+  near_text few false unfed text left now_is text_is =
+      let size = line_size in
+      let cut = cut_first left in
+      let both = length-append bytes cut.line in
+      near_line few text left (bytes ++ cut.line) cut.feed cut.after now_is text_is
+      (stands_open ahead left bytes after (subst (λ f. StandsFirst ahead bytes f after) unfed next.stands) cut)
+      (λ unended none. next.some unfed (omega arith)) (omega arith)
+
+  near : IsFewAhead ahead line.size
+      → IfSome (g.left old) (λ text. ReadsNear text (g.left now) (length stored + 1 - 1))
+  near few =
+      by_text (g.left old) (g.left now) (joined_lines lines ++ ahead)
+      (λ text. ReadsNear text (g.left now) (length stored + 1 - 1)) reading.given
+      (λ text left now_is text_is.
+      let count = reading.good.count ∙ sym (ap length reading.same ∙ length-stored table reading.rows) in
+      let number : length lines ≡ length stored + 1 - 1 = omega arith in
+      subst (ReadsNear text (g.left now)) number
+      (near_text few line.feed refl text left now_is (text_is ∙ append_assoc (joined_lines lines) ahead left)))
+
+  -- the line is refused, and no more was read
+  abbrev RefusesNear : RowsWhy → List ℕ → Type 0
+  RefusesNear why text = Refuses why text × ReadsNear text (g.left now) (length stored + 1 - 1)
+
+  refused_near : (why : RowsWhy) → IsFewAhead ahead line.size → IfSome (g.left old) (Refuses why)
+      → IfSome (g.left old) (RefusesNear why)
+  refused_near why few refused = told2 (g.left old) (λ text refuses stays. (refuses, stays)) refused (near few)
+
+  -- what the reading stops at
+  pub stops_by_bytes : (why : RowsWhy) → IsFewAhead ahead line.size → ChecksLine line taken (Err why)
+      → g.faults old ≤ g.faults now
+      → ReadsRows g table old now (Err (stop_behind (length stored) (rowstops.Refused why)))
+  stops_by_bytes why few checked later =
+      record { finds = refused_near why few (bytes_refused why checked); later = later; rose = λ never. cc }
+
+  pub stops_by_row : (end : ℕ) (grown : List (List Stored)) (stop : RowStop) → IsFewAhead ahead line.size
+      → ChecksLine line taken (Ok end)
       → ((rows : Rows) → HoldsRows table rows stored → AddsRow table rows bytes grown (Err stop))
       → g.faults old ≤ g.faults now → ReadsRows g table old now (Err (stop_behind (length stored) stop))
-  stops_by_row end grown (rowstops.Refused why) checked adds later =
-      record { finds = next_refused end why checked adds; later = later; rose = λ never. cc }
-  stops_by_row end grown rowstops.Memory checked adds later =
+  stops_by_row end grown (rowstops.Refused why) few checked adds later =
+      record { finds = refused_near why few (next_refused end why checked adds); later = later; rose = λ never. cc }
+  stops_by_row end grown rowstops.Memory few checked adds later =
       record { finds = tt; later = later; rose = λ never. cc }

@@ -10,6 +10,9 @@ use Rattle.page_packer.specs.Entries.{Entry, entry_at, pointer_to}
 use Rattle.page_packer.specs.Laws.{PointersPoint}
 use Rattle.tree_layout.specs.declared.cuts.Weight.{Weight}
 use Rattle.tree_layout.specs.Division.{CanDivide, pointer_with}
+use Rattle.std.proofs.Common.{Bool, true, not, ◌==◌, ◌||◌}
+use Rattle.page_packer.specs.Packing.{sizes_fit}
+use Rattle.tree_layout.specs.Counting.{begins_page}
 use Rattle.tree_layout.specs.Counting.{Cutting, weight_of, nothing_cut, one_more, cut_more}
 
 cut_push : (cutting : Cutting) (weights : List Weight) (weight : Weight)
@@ -40,3 +43,37 @@ pub pointer_is : (entry pointer pushed : Entry) (keys n : ℕ) (bytes : List ℕ
 pointer_is entry pointer pushed keys n bytes first same number grown =
     grown ∙ ap (λ (p : Entry). p ++ parts.Bytes bytes false ∷ []) (first ∙ ap (λ (m : ℕ). take m entry) same)
     ∙ ap (λ (b : List ℕ). take keys entry ++ parts.Bytes b false ∷ []) number
+
+-- the size of a pointer counts only where its entry begins a page
+pub only_first : (cutting : Cutting) (weight here : Weight) → here.size ≡ weight.size
+    → (begins_page cutting here.size ≡ true → here.pointer ≡ weight.pointer)
+    → one_more cutting here ≡ one_more cutting weight
+unfolding one_more
+only_first cutting weight here size pointer =
+    let part : one_more cutting (record { size = here.size; pointer = here.pointer })
+    ≡ one_more cutting (record { size = here.size; pointer = weight.pointer }) =
+    by_cases (cutting.count == 0) (sizes_fit (cutting.count + 1) (cutting.total + here.size)) refl refl in
+    part ∙ ap (λ (n : ℕ). one_more cutting (record { size = n; pointer = weight.pointer })) size
+  where
+    by_cases : (none fit : Bool) → cutting.count == 0 ≡ none
+        → sizes_fit (cutting.count + 1) (cutting.total + here.size) ≡ fit
+        → one_more cutting (record { size = here.size; pointer = here.pointer })
+        ≡ one_more cutting (record { size = here.size; pointer = weight.pointer })
+    by_cases none false a b =
+        rw b (ap (λ (n : ℕ). record {
+          closed = cutting.closed ++ cutting.first ∷ [];
+          count = 1;
+          total = here.size;
+          first = n;
+        }) (pointer (rw (a, b) (always none))))
+      where
+        always : (x : Bool) → (x || true) ≡ true
+        always true = refl
+        always false = refl
+    by_cases true true a b = rw (b, a) (ap (λ (n : ℕ). record {
+      closed = cutting.closed;
+      count = cutting.count + 1;
+      total = cutting.total + here.size;
+      first = n;
+    }) (pointer (rw a refl)))
+    by_cases false true a b = rw (b, a) refl

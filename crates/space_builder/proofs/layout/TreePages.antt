@@ -57,13 +57,15 @@ module _ (laws : PageLaws) (leaf node : Fields) (numbers : ℕ → ℕ → ℕ) 
     makes : MakePage fields l (is_top levels l) (k == 0) list
     unfolding key_of_parts
     makes = record {
-      are_fields = good_fields l;
-      fit = tree.fit l k inside within;
-      rise = λ i below. inr (tree.rise l k inside within i (i + 1) [] (omega arith) below);
+      suit = record {
+        are_fields = good_fields l;
+        fit = tree.fit l k inside within;
+        rise = λ i below. inr (tree.rise l k inside within i (i + 1) [] (omega arith) below);
+        some_entry = λ none.
+            let alone = tree.empty l k inside within none in
+            (eq-eqb l 0 alone.0, eq-eqb l (top_of levels) (let one = alone.1 in omega arith));
+      };
       room = tree.sizes l k inside within;
-      some_entry = λ none.
-          let alone = tree.empty l k inside within none in
-          (eq-eqb l 0 alone.0, eq-eqb l (top_of levels) (let one = alone.1 in omega arith));
     }
 
     body_long : length (tree_body leaf node numbers levels j l k) ≡ 16384
@@ -139,20 +141,20 @@ module _ (laws : PageLaws) (leaf node : Fields) (numbers : ℕ → ℕ → ℕ) 
     entry_held : (i : ℕ) → i < length list → HoldsEntry page fields (get_or (records_of page) i 0) (get_or list i [])
     unfolding place_of
     entry_held i below =
-        let read = holds.read i below in
+        let read = holds.held.read i below in
         let all : length fields.fields ≡ length (get_or list i []) =
         zip_length FitsField fields.fields (get_or list i []) (tree.fit l k inside within i [] below) in
         record {
           cells = λ n less. (read.each n (omega arith)).cell;
           external = λ n less. (read.each n (omega arith)).external;
-          live = holds.live i below;
+          live = holds.held.live i below;
         }
 
     pub built_page : IsBuiltPage fields page l (is_top levels l) (k == 0) list
     built_page = record {
       at_level = numbers_held.has_level;
-      is_page = holds.is_page;
+      is_page = holds.held.is_page;
       marks = holds.mark;
-      count = holds.count;
+      count = holds.held.count;
       holds = entry_held;
     }

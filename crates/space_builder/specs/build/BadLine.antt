@@ -45,9 +45,12 @@ feed_length text k = if k + 1 == length (pieces_of text) then 0 else 1
 abbrev pub line_length : List ℕ → ℕ → ℕ
 line_length text k = length (line_at text k) + feed_length text k
 
--- where line k ends
+-- where line k begins, and where it ends
+abbrev pub line_start : List ℕ → ℕ → ℕ
+line_start text k = sum_by (λ (line : List ℕ). length line + 1) (take k (row_lines text))
+
 abbrev pub line_end : List ℕ → ℕ → ℕ
-line_end text k = sum_by (λ (line : List ℕ). length line + 1) (take k (row_lines text)) + line_length text k
+line_end text k = line_start text k + line_length text k
 
 -- the line is that of a row, and ends with LF
 pub record IsWholeLine (table : TableDef) (text : List ℕ) (k : ℕ) : Type 0 where
@@ -67,7 +70,7 @@ IsInOrder table text (suc k) =
     → (a b : List Value) → IsLineOf table a (line_at text k) → IsLineOf table b (line_at text (suc k))
     → IsKeyBelow table a b
 
--- its record fits
+-- the record of line k fits
 abbrev pub HasFittedRow : TableDef → List ℕ → ℕ → Type 0
 HasFittedRow table text k = (row : List Value) → IsLineOf table row (line_at text k) → IsSome (fitted_row table k row)
 

@@ -1,5 +1,5 @@
 -- What a build answers, and what its store then holds.
-use Rattle.std.specs.Prelude.{◌≡◌, ◌≢◌, ℕ, ◌<◌, ◌≤◌, ◌⊎◌, List, length, Some, None, Option, IfSome, IsNone, IsSome}
+use Rattle.std.specs.Prelude.{◌≡◌, ◌≢◌, ℕ, ◌-◌, ◌<◌, ◌≤◌, ◌⊎◌, List, length, Some, None, Option, IfSome, IsNone, IsSome}
 use Rattle.std.specs.Prelude.{Result}
 use Rattle.std.specs.Prelude.{Ok, Err, [], ⊤}
 use Rattle.std.specs.FinMap.{get}
@@ -11,7 +11,7 @@ use Rattle.space_builder.specs.declared.built.BuildStop.{BuildStop}
 use Rattle.space_builder.specs.declared.built.BuildStop.TheVariants as stops
 use Rattle.space_builder.specs.layout.Layout.{Rows, FitsSpace, layout_extents, layout_size, layout_map}
 use Rattle.space_builder.specs.build.BadLine.{RootOrderChecks, RowsChecks, AreRowsOf}
-use Rattle.space_builder.specs.build.ReadRows.{AreGoodRows}
+use Rattle.space_builder.specs.build.ReadRows.{AreGoodRows, ReadsNear}
 
 -- the store has the layout's size, and holds its pages
 pub record HoldsLayout (table : TableDef) (rows : Rows) (before now : Store) : Type 0 where
@@ -27,6 +27,12 @@ pub record HoldsPart (table : TableDef) (rows : Rows) (before now : Store) : Typ
 abbrev pub LacksHead : Store → Type 0
 LacksHead store = IfSome store.held (λ held. IsNone (get held 0))
 
+-- a store that was sized for these rows, and lacks page 0
+pub record IsSizedFor (table : TableDef) (rows : Rows) (before now : Store) : Type 0 where
+  pub asked : IsTold before.asked now.asked (Some (layout_size table rows))
+  pub size : IsTold before.size now.size (layout_size table rows)
+  pub head : LacksHead now
+
 -- rows that are good, and those of the text where it is told
 pub record AreRowsRead (table : TableDef) (text : Option (List ℕ)) (rows : Rows) : Type 0 where
   pub good : AreGoodRows table rows
@@ -35,6 +41,11 @@ pub record AreRowsRead (table : TableDef) (text : Option (List ℕ)) (rows : Row
 -- the roots are in order, and the text has such rows, of which this is so
 abbrev pub OfRows : TableDef → Option (List ℕ) → (Rows → Type 0) → Type 0
 OfRows table text Fact = RootOrderChecks table None × ((rows : Rows) × AreRowsRead table text rows × Fact rows)
+
+-- the store wasn't called, or all rows were read and fit, and it was sized for them
+abbrev pub IsUncalledOrSized : {T : Type 0} → (T → Store) → TableDef → Option (List ℕ) → T → T → Type 0
+IsUncalledOrSized told table text old new =
+    (new ≡ old) ⊎ OfRows table text (λ rows. FitsSpace table rows × IsSizedFor table rows (told old) (told new))
 
 -- what a build over a rows text answers, which may be told, and what it leaves in its store
 abbrev pub Builds : TableDef → Option (List ℕ) → Result Built BuildStop → Store → Store → Type 0
@@ -52,10 +63,13 @@ Builds table text (Err stops.Store) before now =
     OfRows table text (λ rows. FitsSpace table rows × HoldsPart table rows before now)
 Builds table text (Err stops.Memory) before now = LacksHead now
 
--- what is left of the text: all of it where the roots aren't in order, and nothing where it was built
+-- what is left of the text: all of it if the roots aren't in order, all but a buffer behind a line that is refused, and
+-- nothing if it was built
 abbrev pub ReadsText : {R : Type 0} → (R → Option (List ℕ)) → R → R → Result Built BuildStop → Type 0
 ReadsText left old new (Ok built) = IfSome (left old) (λ text. left new ≡ Some [])
 ReadsText left old new (Err (stops.RootPlace line)) = new ≡ old
+ReadsText left old new (Err (stops.RowsRefused line why)) =
+    IfSome (left old) (λ text. ReadsNear text (left new) (line - 1))
 ReadsText left old new (Err stop) = ⊤
 
 -- a fault is answered only where the count of that object rose

@@ -19,13 +19,13 @@ pub record IsGoodText (table : TableDef) (text : List ℕ) (rows : Rows) : Type 
 abbrev pub GoodTextsCanBuild : Type 0
 GoodTextsCanBuild = (table : TableDef) (text : List ℕ) (rows : Rows) → IsGoodText table text rows → CanBuild table rows
 
--- what is built of it is valid, and holds its rows
+-- what is built of a good text is valid, and holds its rows
 abbrev pub GoodTextsBuildValid : Type 0
 GoodTextsBuildValid =
     (table : TableDef) (text : List ℕ) (rows : Rows) → IsGoodText table text rows
     → IsValid (layout_file table rows) table × AreRows (layout_file table rows) table rows
 
--- and its rows' lines are the text that was read
+-- the lines of the rows of a text are the text
 abbrev pub GoodTextsAreOfRows : Type 0
 GoodTextsAreOfRows =
     (table : TableDef) (text : List ℕ) (rows : Rows) → AreRowsOf table text rows → text_of table rows ≡ text

@@ -21,7 +21,7 @@ ComesTo table text (Err (stops.RowsRefused line why)) =
 ComesTo table text (Err stops.Full) = HasRows table text (λ rows. 256 < layout_extents table rows)
 ComesTo table text (Err stop) = ⊥
 
--- the roots have one answer, and so have a table and a text
+-- the roots have one answer at the most, and so have a table and a text
 abbrev pub RootsHaveOneAnswer : Type 0
 RootsHaveOneAnswer =
     (table : TableDef) (a b : Option ℕ) → RootOrderChecks table a → RootOrderChecks table b → a ≡ b
@@ -30,6 +30,11 @@ abbrev pub BuildHasOneOutcome : Type 0
 BuildHasOneOutcome =
     (table : TableDef) (text : List ℕ) → IsTable table → (a b : Result Rows BuildStop) → ComesTo table text a
     → ComesTo table text b → a ≡ b
+
+-- a table and a text have an outcome
+abbrev pub BuildHasAnOutcome : Type 0
+BuildHasAnOutcome =
+    (table : TableDef) (text : List ℕ) → IsTable table → (outcome : Result Rows BuildStop) × ComesTo table text outcome
 
 -- such an answer leaves the store alone
 abbrev pub LeavesStore : Result Built BuildStop → Type 0

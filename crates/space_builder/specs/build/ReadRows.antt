@@ -1,5 +1,6 @@
 -- What is read of a rows text.
-use Rattle.std.specs.Prelude.{◌≡◌, ℕ, ◌+◌, ◌<◌, ◌≤◌, true, false, List, [], length, Some, IfSome, ⊤, Result, Ok, Err}
+use Rattle.std.specs.Prelude.{◌≡◌, ℕ, ◌+◌, ◌-◌, ◌<◌, ◌≤◌, true, false, List, [], length, drop, Option, Some, IfSome, ⊤}
+use Rattle.std.specs.Prelude.{Result, Ok, Err}
 use Rattle.page_source.specs.declared.objects.ByteSource.{Ghosts as TextOf}
 use Rattle.page_source.specs.Faults.{Rose}
 use Rattle.schema_text.specs.TableDef.{TableDef}
@@ -14,8 +15,8 @@ use Rattle.space_builder.specs.declared.built.BuildStop.{BuildStop}
 use Rattle.space_builder.specs.declared.built.BuildStop.TheVariants as stops
 use Rattle.space_builder.specs.layout.Layout.{Rows, stored_rows}
 use Rattle.space_builder.specs.layout.Laws.{HaveFittedRows}
-use Rattle.space_builder.specs.build.BadLine.{RowsChecks, AreRowsOf}
-use Rattle.space_builder.specs.calls.Lines.{end_size}
+use Rattle.space_builder.specs.build.BadLine.{line_start, line_end, RowsChecks, AreRowsOf}
+use Rattle.space_builder.specs.calls.Lines.{end_size, buffer_size}
 
 -- rows of a table whose keys rise, each with a record that fits: there is a row id of six bytes for each
 pub record AreGoodRows (table : TableDef) (rows : Rows) : Type 0 where
@@ -37,11 +38,20 @@ pub record BlamesText {A : Type 0} (before now : ℕ) (result : Result A ReadSto
   pub later : before ≤ now
   pub rose : result ≡ Err reads.Source → Rose before now
 
+-- what was read of a text whose line k is refused: at most a buffer behind that line, and at most a buffer behind the
+-- most bytes that a line may have
+pub record ReadsNear (text : List ℕ) (left : Option (List ℕ)) (k : ℕ) : Type 0 where
+  pub count : ℕ
+  pub rest : left ≡ Some (drop count text)
+  pub most : count ≤ line_end text k + buffer_size
+  pub longest : count ≤ line_start text k + (16777216 + buffer_size)
+
 -- what reading the rows of a text answers
 abbrev pub FindsRows : {R : Type 0} → TextOf R → TableDef → R → R → Result (List (List Stored)) BuildStop → Type 0
 FindsRows g table old new (Ok stored) = AreReadRows g table old new stored
 FindsRows g table old new (Err (stops.RowsRefused line why)) =
-    IfSome (g.left old) (λ text. RowsChecks table text (Some (record { line = line; why = why })))
+    IfSome (g.left old) (λ text. RowsChecks table text (Some (record { line = line; why = why }))
+    × ReadsNear text (g.left new) (line - 1))
 FindsRows g table old new (Err stops.Source) = ⊤
 FindsRows g table old new (Err stops.Memory) = ⊤
 FindsRows g table old new (Err stop) = ⊥

@@ -38,10 +38,15 @@ GivesBytes (Some text) now bytes = (rest : List ℕ) × (now ≡ Some rest) × (
 abbrev pub IsAtEnd : Option (List ℕ) → Type 0
 IsAtEnd left = IfSome left (λ rest. rest ≡ [])
 
+-- how many bytes are read at a time
+abbrev pub buffer_size : ℕ
+buffer_size = 65536
+
 -- so many bytes came behind those ahead, none only at the end of the text
 pub record ComeBehind (left now : Option (List ℕ)) (before after : List ℕ) (count : ℕ) : Type 0 where
   pub piece : List ℕ
   pub count_is : length piece ≡ count
+  pub few : count ≤ buffer_size
   pub behind : after ≡ before ++ piece
   pub given : GivesBytes left now piece
   pub ends : count ≡ 0 → IsAtEnd now
@@ -58,6 +63,11 @@ pub record IsFeedPlace (bytes : List ℕ) (place : ℕ) : Type 0 where
   pub lacks : (k : ℕ) → k < place → slice_index bytes k ≢ line_feed
   pub feed : place < length bytes → slice_index bytes place ≡ line_feed
 
+-- at most a buffer is ahead behind so many bytes of a line, and behind the most that a line may have
+pub record IsFewAhead (ahead : List ℕ) (size : ℕ) : Type 0 where
+  pub behind : length ahead ≤ size + buffer_size
+  pub longest : length ahead ≤ 16777216 + buffer_size
+
 -- more bytes than any line may have
 abbrev pub IsOverlong : ℕ → Type 0
 IsOverlong size = 16777216 < size
@@ -69,6 +79,6 @@ pub record IsNextLine (ahead : List ℕ) (left : Option (List ℕ)) (line : Next
   pub whole : line.feed ≡ false → IsOverlong line.size ⊎ IsAtEnd left
   pub some : line.feed ≡ false → line.size ≢ 0
 
--- and none at the end of the text
+-- the next line, or none at the end of the text
 abbrev pub FindsLine : List ℕ → Option (List ℕ) → Option NextLine → Type 0
 FindsLine ahead left line = MatchOption line ((ahead ≡ []) × IsAtEnd left) (IsNextLine ahead left)

@@ -32,7 +32,7 @@ pub record AreOrders (table : TableDef) (stored : List (List Stored)) (orders : 
 abbrev pub stored_total : Format → List (List Stored) → ℕ
 stored_total format stored = sum_by (λ (row : List Stored). sum_by (pages_of_stored format) row) stored
 
--- those that the leaves of index j share their segment with, as far as numbers go
+-- the pages that the leaves of index j share their segment with, as far as numbers go
 abbrev pub HasValuePages : TableDef → List (List Stored) → ℕ → ℕ → Type 0
 HasValuePages table stored j values =
     values ≡ (if j == 0 then min (stored_total table.format stored) (2 ^ 64 - 1) else 0)

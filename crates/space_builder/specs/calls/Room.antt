@@ -49,13 +49,13 @@ first_pages format number row =
 abbrev pub row_first_pages : Format → List ℕ → ℕ → List Stored → List ℕ
 row_first_pages format sizes at row = first_pages format (row_number sizes at (row_counts format row)) row
 
--- they can be put
+-- the pages of a row can be put
 pub record TakesRow (store : Store) (format : Format) (sizes : List ℕ) (at : ℕ) (row : List Stored) : Type 0 where
   pub takes : TakesPages store sizes
   pub has : HasLeafPages sizes (at + sum (row_counts format row))
   pub one : HaveOnePage (row_pages format sizes at row)
 
--- so it is with the pages of all rows, behind so many leaves
+-- the pages of all rows, behind so many leaves
 abbrev pub number_behind : Format → List ℕ → ℕ → List (List Stored) → ℕ → ℕ → ℕ → ℕ
 number_behind format sizes leaves rows = value_page_number sizes leaves (page_counts format rows)
 

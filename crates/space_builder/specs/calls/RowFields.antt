@@ -29,7 +29,7 @@ length_length format field stored =
 abbrev pub field_size : Format → Field → Stored → ℕ
 field_size format field stored = length_length format field stored + local_length format stored
 
--- those of the first so many fields
+-- the sizes of the first so many fields
 abbrev pub field_sizes : Format → Fields → List Stored → ℕ → ℕ
 field_sizes format fields row count =
     sum_by (λ i. field_size format (field_at fields i) (stored_at row i)) (range_with_len 0 count)

@@ -1,5 +1,5 @@
 -- What is put of a whole tablespace, and what that leaves in a store.
-use Rattle.std.specs.Prelude.{◌≡◌, ℕ, ◌≤◌, ◌++◌, List, Result, Ok, Err}
+use Rattle.std.specs.Prelude.{◌≡◌, ℕ, ◌≤◌, ◌++◌, ◌⊎◌, List, Result, Ok, Err}
 use Rattle.page_source.specs.declared.objects.PageStore.{Ghosts as StoreOf}
 use Rattle.page_source.specs.Faults.{Rose}
 use Rattle.page_source.specs.Objects.{Store}
@@ -15,7 +15,7 @@ use Rattle.space_builder.specs.declared.tree_plan.TreePlan.{TreePlan}
 use Rattle.space_builder.specs.layout.Layout.{Rows, stored_rows, tree_counts, segment_sizes, segment_pages}
 use Rattle.space_builder.specs.layout.Layout.{system_pages}
 use Rattle.space_builder.specs.layout.Laws.{CanBuild}
-use Rattle.space_builder.specs.build.Build.{HoldsLayout, HoldsPart, LacksHead}
+use Rattle.space_builder.specs.build.Build.{HoldsLayout, HoldsPart, LacksHead, IsSizedFor}
 use Rattle.space_builder.specs.calls.Plan.{AreOrders, IsPlanOf}
 use Rattle.space_builder.specs.calls.Room.{AreFirstPages}
 
@@ -61,8 +61,10 @@ LeavesSpace table rows (Ok a) before now = HoldsLayout table rows before now
 LeavesSpace table rows (Err stops.Store) before now = HoldsPart table rows before now
 LeavesSpace table rows (Err stops.Memory) before now = LacksHead now
 
+-- if memory ran out, the store wasn't called, or was sized
 pub record PutsSpace {T A : Type 0} (g : StoreOf T) (table : TableDef) (rows : Rows) (old new : T)
     (result : Result A PutStop) : Type 0 where
   pub leaves : LeavesSpace table rows result (g.told old) (g.told new)
+  pub memory : result ≡ Err stops.Memory → (new ≡ old) ⊎ IsSizedFor table rows (g.told old) (g.told new)
   pub later : g.faults old ≤ g.faults new
   pub store_rose : result ≡ Err stops.Store → Rose (g.faults old) (g.faults new)

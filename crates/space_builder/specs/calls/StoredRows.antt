@@ -30,7 +30,7 @@ NameSamePages stored number other =
     (r i : ℕ) → r < length stored → i < length (stored_in stored r)
     → (stored_at (stored_in stored r) i).off ≡ true → number r i 0 ≡ other r i 0
 
--- then the records are the same
+-- rows whose values name the same pages have the same records
 abbrev pub SamePagesGiveRecords : Type 0
 SamePagesGiveRecords =
     (format : Format) (stored : List (List Stored)) (number other : ℕ → ℕ → ℕ → ℕ)

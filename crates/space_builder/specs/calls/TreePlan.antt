@@ -91,7 +91,7 @@ abbrev pub BeginsWith : List Entry → List Entry → ℕ → Type 0
 BeginsWith entries page start =
     0 < length page → (start < length entries) × (entry_at page 0 ≡ entry_at entries start)
 
--- so do all pages
+-- each page begins with the entry at its place in the list
 pub record BeginAt (entries : List Entry) (pages : Level) (starts : List ℕ) : Type 0 where
   pub count : length starts ≡ length pages
   pub each : (k : ℕ) → k < length pages

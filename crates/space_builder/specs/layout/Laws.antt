@@ -32,7 +32,7 @@ pub record CanBuild (table : TableDef) (rows : Rows) : Type 0 where
 abbrev pub OfBuilt : (List ℕ → TableDef → Rows → Type 0) → Type 0
 OfBuilt Fact = (table : TableDef) (rows : Rows) → CanBuild table rows → Fact (layout_file table rows) table rows
 
--- its space is sound, and so are its trees and its values; nothing is left over
+-- the space of a built file is sound, and so are its trees and its values; nothing is left over
 abbrev pub BuildsSpace : Type 0
 BuildsSpace = OfBuilt (λ file table rows. IsSoundSpace file (flags_of table.format))
 
@@ -45,10 +45,10 @@ BuildsValues = OfBuilt (λ file table rows. HasValues file table)
 abbrev pub BuildsNoLeftOvers : Type 0
 BuildsNoLeftOvers = OfBuilt (λ file table rows. HasOnlyLeftOvers file table)
 
--- and it holds the rows
+-- a built file holds the rows
 abbrev pub BuildsRows : Type 0
 BuildsRows = OfBuilt (λ file table rows. AreRows file table rows)
 
--- all of them
+-- a built file is valid, and holds the rows
 abbrev pub BuildsValid : Type 0
 BuildsValid = OfBuilt (λ file table rows. IsValid file table × AreRows file table rows)

@@ -123,6 +123,6 @@ layout_map table rows =
 unfoldable pub layout_file : TableDef → Rows → List ℕ
 layout_file table rows = file_of (layout_size table rows) (layout_map table rows)
 
--- it fits the greatest tablespace that is built
+-- the layout fits the greatest tablespace that is built
 abbrev pub FitsSpace : TableDef → Rows → Type 0
 FitsSpace table rows = layout_extents table rows ≤ 256

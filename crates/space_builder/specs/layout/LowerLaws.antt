@@ -49,7 +49,7 @@ pub record RowLaws : Type 0 where
   pub values : HeldValuesAreSound
   pub rest : NothingIsLeftOver
 
--- all of them
+-- all laws of the crates below
 pub record LowerLaws : Type 0 where
   pub page : PageLaws
   pub space : SpaceLaws

@@ -34,7 +34,7 @@ spot_of numbers levels j l k =
       root = is_top levels l;
     }
 
--- its entries, packed, are the page of the layout
+-- the entries of a page of a tree, packed, are the page of the layout
 abbrev pub PagesArePacked : Type 0
 PagesArePacked =
     (leaf node : Fields) (numbers : ℕ → ℕ → ℕ) (levels : List Level) (j l k : ℕ)

@@ -12,7 +12,7 @@ unfoldable pub value_page_bytes : (ℕ → ℕ) → List ℕ → ℕ → List �
 value_page_bytes number bytes k =
     part_page 1 (number k) (next_number number (pages_for (length bytes)) k) (blob_part bytes k)
 
--- so it is with the pages of a chain that is written to these pages
+-- the pages of a chain that is written to pages of these numbers are those of the layout
 abbrev pub PagesAreOfChains : Type 0
 PagesAreOfChains =
     (number : ℕ → ℕ) (bytes : List ℕ) (k : ℕ) → k < pages_for (length bytes)

@@ -1,8 +1,9 @@
 use Rattle.std.proofs.Common.{◌∙◌, length, ap, sym, subst}
 use Rattle.std.proofs.lemmas.Result.{err_from_is_err_and}
 use Rattle.space_builder.specs.calls.Plan.{AreOrders}
-use Rattle.space_builder.proofs.Builds.{fresh_lacks, read_failed, are_stored, is_space, no_plan, not_put, all_put}
-use Rattle.space_builder.proofs.Builds.{put_cause, no_cause, stored_count}
+use Rattle.space_builder.proofs.Builds.{fresh_lacks, read_failed, read_short, are_stored, is_space, no_plan, not_put}
+use Rattle.space_builder.proofs.Builds.{all_put}
+use Rattle.space_builder.proofs.Builds.{put_cause, put_short, no_cause, stored_count}
 use Rattle.space_builder.proofs.Outcomes.{put_calls}
 use Rattle.space_builder.proofs.builder.build.Goals as goal
 
@@ -12,6 +13,13 @@ returns-in_err-stored-clause-built g c =
     rw (r.1, r.2)
     (read_failed g.R.ByteSource c.args.schema.now c.args.rows.now c.read_rows.new.text
     c.in_err-stored.field-0.0 (g.T.PageStore.told c.args.store.now) c.in_default.ensures.roots c.requires
+    c.in_err-stored.ensures.finds)
+
+pub returns-in_err-stored-clause-read : goal.returns-in_err-stored-clause-read
+returns-in_err-stored-clause-read g c =
+    let r = err_from_is_err_and c.from_residual.result c.from_residual.ensures.1 in
+    rw (r.1, r.2)
+    (read_short g.R.ByteSource c.args.schema.now c.args.rows.now c.read_rows.new.text c.in_err-stored.field-0.0
     c.in_err-stored.ensures.finds)
 
 pub returns-in_err-orders-clause-built : goal.returns-in_err-orders-clause-built
@@ -124,6 +132,23 @@ pub returns-in_err-put-clause-untouched : goal.returns-in_err-put-clause-untouch
 returns-in_err-put-clause-untouched g c =
     let r = err_from_is_err_and c.from_residual-in_err-put.result c.from_residual-in_err-put.ensures.1 in
     rw (r.1, r.2) (λ leaves. absurd (put_calls c.in_err-put.field-0.0 leaves))
+
+pub returns-in_err-put-clause-memory : goal.returns-in_err-put-clause-memory
+returns-in_err-put-clause-memory g c =
+    let r = err_from_is_err_and c.from_residual-in_err-put.result c.from_residual-in_err-put.ensures.1 in
+    let is = c.in_default.ensures.table in
+    let roots = c.in_default.ensures.roots in
+    let read = c.in_ok-stored.ensures.finds in
+    rw (r.1, r.2)
+    (put_short g.R.ByteSource c.args.schema.now c.args.rows.now c.read_rows.new.text c.in_ok-stored.stored is roots read
+    g.T.PageStore c.args.store.now c.put.new.store c.in_err-put.field-0.0
+    (c.in_ok-plan.ensures read.rows
+    (are_stored g.R.ByteSource c.args.schema.now c.args.rows.now c.read_rows.new.text c.in_ok-stored.stored is roots
+    read)).fits
+    (c.in_err-put.ensures read.rows
+    (is_space g.R.ByteSource _ c.args.rows.now c.read_rows.new.text is roots read
+    (subst (AreOrders c.args.schema.now c.in_ok-stored.stored) (sym c.deref-2.ensures.value) c.in_ok-orders.ensures)
+    c.in_ok-plan.ensures)))
 
 pub returns-clause-untouched : goal.returns-clause-untouched
 returns-clause-untouched g c = λ leaves. absurd leaves

@@ -2,7 +2,6 @@ use Rattle.std.proofs.Common.{◌≡◌, ◌∙◌, ◌<◌, Vec, Global, List, 
 use Rattle.std.proofs.lemmas.List.{take_all}
 use Rattle.std.proofs.lemmas.Result.{IfOk-weaker}
 use Rattle.page_packer.specs.Entries.{Entry, entry_at}
-use Rattle.tree_layout.specs.declared.cuts.Weight.{Weight}
 use Rattle.tree_layout.specs.Counting.{Cutting, weight_of, nothing_cut, one_more, cut_more, pages_of, cut_leaves}
 use Rattle.space_builder.proofs.building.Weights.{cut_step}
 use Rattle.space_builder.proofs.counts.cut_leaves.Goals as goal
@@ -13,8 +12,7 @@ loop-k-preserved g c =
     let leaf = c.args.leaf.now in
     let node = c.args.node.now in
     let within : c.loop-k.k < length entries = omega (arith, c.loop-k-test.true, c.count-k-end.ensures) in
-    c.in_ok-push.ensures.ok
-    ∙ ap (λ (weight : Weight). one_more c.loop-k.cut weight) c.in_ok-weight_of.ensures
+    c.in_ok-push_entry.ensures
     ∙ ap (λ (cut : Cutting). one_more cut (weight_of leaf node (entry_at entries c.loop-k.k))) c.loop-k.invariant
     ∙ cut_step leaf node entries c.loop-k.k within
 

@@ -17,6 +17,7 @@ returns-clause-come g c =
     record {
       piece = take count buffer;
       count_is = length-take-le count buffer bound;
+      few = omega arith;
       behind = c.truncate.ensures.items
           ∙ room_read items _ c.deref_mut.result.now buffer _ _ c.len-end.result count _ 65536
           (omega (arith, c.len-end.ensures, c.args.bytes.now.ok.0))

@@ -9,6 +9,6 @@ use Rattle.space_builder.proofs.order.compare_rows.Given as goal
 -- the fields so far are equal
 abbrev pub invariant-loop-i : goal.invariant-loop-i
 invariant-loop-i l =
-    let a = picked_key l.keys.fields.now (stored_in l.keys.rows.now l.a) in
-    let b = picked_key l.keys.fields.now (stored_in l.keys.rows.now l.b) in
-    LeftOf (key_kinds l.keys.list.now) a b l.i ≡ key_cmp (key_kinds l.keys.list.now) a b
+    let a = picked_key l.fields (stored_in l.rows l.a) in
+    let b = picked_key l.fields (stored_in l.rows l.b) in
+    LeftOf (key_kinds l.list) a b l.i ≡ key_cmp (key_kinds l.list) a b

@@ -1,7 +1,8 @@
-use Rattle.std.proofs.Common.{◌≤◌, List, ℕ, Ok, Err, length, sym, ap, ◌∙◌, subst, arith}
+use Rattle.std.proofs.Common.{◌+◌, ◌≤◌, List, ℕ, Ok, Err, IfSome, length, sym, ap, ◌∙◌, subst, arith}
+use Rattle.std.proofs.lemmas.List.{length-drop}
 use Rattle.space_builder.specs.declared.built.BuildStop.{BuildStop}
 use Rattle.space_builder.specs.declared.built.RowStop.TheVariants.{Refused}
-use Rattle.space_builder.specs.calls.Lines.{FindsLine}
+use Rattle.space_builder.specs.calls.Lines.{FindsLine, IsFewAhead, end_size}
 use Rattle.space_builder.specs.calls.NextRow.{AddsRow}
 use Rattle.space_builder.specs.build.ReadRows.{ReadsRows}
 use Rattle.space_builder.specs.calls.Stops.{stop_behind}
@@ -16,6 +17,7 @@ loop-rows-init g c =
       reading = reading_none g.R.ByteSource c.args.schema.now c.args.text.now c.new-lines.result c.new-rows.result
           c.new-lines.ensures c.new-rows.ensures;
       wide = λ r below. absurd (omega arith);
+      few = omega (arith, ap length c.new-lines.ensures);
       later = omega arith;
     }
 
@@ -39,10 +41,11 @@ returns-in-Err g c =
     c.loop-rows.taken c.loop-rows.rows c.loop-rows.invariant.reading c.in_ok-line.ensures.grew in
     let later : faults old ≤ faults now = omega (arith, c.loop-rows.invariant.later, c.next.ensures.cause.later) in
     let next = subst (FindsLine ahead (g.R.ByteSource.left now)) c.in-Some.is c.in_ok-line.ensures.line in
+    let few = subst (λ found. IfSome found (λ line. IsFewAhead ahead line.size)) c.in-Some.is c.in_ok-line.ensures.few in
     let stop = c.stop_behind.ensures ∙ ap (λ n. stop_behind n (Refused c.in-Err.why)) c.count-count.ensures in
     subst (λ (s : BuildStop). ReadsRows g.R.ByteSource table old now (Err s)) (sym stop)
     (stops_by_bytes g.R.ByteSource one table is old now ahead c.loop-rows.taken c.loop-rows.rows reading
-    c.in-Some.line next c.in-Err.why c.in-Err.ensures later)
+    c.in-Some.line next c.in-Err.why few c.in-Err.ensures later)
 
 pub add_row-requires-clause-few : goal.add_row-requires-clause-few
 add_row-requires-clause-few g c =
@@ -71,11 +74,12 @@ returns-in-Err-add_row g c =
     c.loop-rows.taken c.loop-rows.rows c.loop-rows.invariant.reading c.in_ok-line.ensures.grew in
     let later : faults old ≤ faults now = omega (arith, c.loop-rows.invariant.later, c.next.ensures.cause.later) in
     let next = subst (FindsLine ahead (g.R.ByteSource.left now)) c.in-Some.is c.in_ok-line.ensures.line in
+    let few = subst (λ found. IfSome found (λ line. IsFewAhead ahead line.size)) c.in-Some.is c.in_ok-line.ensures.few in
     let end = c.in-Err-add_row.stop in
     let stop = c.stop_behind-in-Err-add_row.ensures ∙ ap (λ n. stop_behind n end) c.count-count.ensures in
     subst (λ (s : BuildStop). ReadsRows g.R.ByteSource table old now (Err s)) (sym stop)
     (stops_by_row g.R.ByteSource one table is old now ahead c.loop-rows.taken c.loop-rows.rows reading
-    c.in-Some.line next c.in-Ok.end c.add_row.new.rows end c.in-Ok.ensures
+    c.in-Some.line next c.in-Ok.end c.add_row.new.rows end few c.in-Ok.ensures
     (λ rows holds.
     subst (λ (line : List ℕ). AddsRow table rows line c.add_row.new.rows (Err end)) c.line-bytes.ensures
     (c.in-Err-add_row.ensures.added rows holds))
@@ -94,6 +98,10 @@ loop-rows-preserved g c =
     c.loop-rows.taken c.loop-rows.rows c.loop-rows.invariant.reading c.in_ok-line.ensures.grew in
     let later : faults old ≤ faults now = omega (arith, c.loop-rows.invariant.later, c.next.ensures.cause.later) in
     let next = subst (FindsLine ahead (g.R.ByteSource.left now)) c.in-Some.is c.in_ok-line.ensures.line in
+    let few = subst (λ found. IfSome found (λ line. IsFewAhead ahead line.size)) c.in-Some.is c.in_ok-line.ensures.few in
+    let behind = few.behind in
+    let within = next.within in
+    let rest = length-drop (c.in-Some.line.size + end_size c.in-Some.line.feed) ahead in
     let grown = c.add_row.new.rows in
     record {
       reading =
@@ -105,6 +113,7 @@ loop-rows-preserved g c =
           subst (λ (line : List ℕ). AddsRow table rows line grown (Ok tt)) c.line-bytes.ensures
           (c.in-Ok-add_row.ensures.added rows holds)));
       wide = c.in-Ok-add_row.ensures.wide;
+      few = omega (arith, ap length c.take.ensures);
       later = later;
     }
 

@@ -1,4 +1,5 @@
-use Rattle.std.proofs.Common.{◌-◌, ◌≤◌}
+use Rattle.std.proofs.Common.{◌-◌, ◌≤◌, length}
+use Rattle.space_builder.specs.calls.Lines.{buffer_size}
 use Rattle.space_builder.specs.calls.NextRow.{AreWide}
 use Rattle.space_builder.proofs.building.Reading.{IsReading}
 use Rattle.space_builder.proofs.read_rows.read_rows.Given as goal
@@ -9,6 +10,7 @@ invariant-loop-rows g l =
     record {
       reading : IsReading g.R.ByteSource l.schema l.fn.text l.text l.lines l.taken l.rows;
       wide : AreWide l.shape.fields l.rows;
+      few : length l.lines ≤ buffer_size;
       later : faults l.fn.text ≤ faults l.text;
     }
 

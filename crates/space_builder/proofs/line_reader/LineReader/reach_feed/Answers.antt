@@ -1,5 +1,5 @@
 use Rattle.std.proofs.Common.{length, arith, ap, ◌∙◌}
-use Rattle.space_builder.proofs.building.Ahead.{grew_more, place_on}
+use Rattle.space_builder.proofs.building.Ahead.{grew_more, place_on, few_more}
 use Rattle.space_builder.proofs.line_reader.LineReader.reach_feed.Goals as goal
 
 pub loop-size-preserved : goal.loop-size-preserved
@@ -12,6 +12,9 @@ loop-size-preserved g c =
           c.loop-size.size _ c.loop-size.invariant.place (c.loop-size-test.true ∙ ap length
           c.ahead-in-loop-size.ensures)
           come c.ahead-in-loop-size-2.ensures found.within found.lacks found.feed;
+      few = few_more (left c.loop-size.text) (left c.read_on.new.text) c.loop-size.self c.read_on.new.self _
+          c.loop-size.size _ (c.loop-size-test.true ∙ ap length c.ahead-in-loop-size.ensures) (omega arith) come
+          found.least;
       grew = grew_more (left c.args.text.now) (left c.loop-size.text) (left c.read_on.new.text) c.args.self.now
           c.loop-size.self c.read_on.new.self _ c.loop-size.invariant.grew come;
       later = omega (arith, c.loop-size.invariant.later, c.read_on.ensures.cause.later);

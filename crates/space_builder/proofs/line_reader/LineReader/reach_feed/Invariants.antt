@@ -1,5 +1,5 @@
 use Rattle.std.proofs.Common.{◌-◌, ◌≤◌, length}
-use Rattle.space_builder.specs.calls.Lines.{IsFeedPlace, GrewBehind}
+use Rattle.space_builder.specs.calls.Lines.{IsFeedPlace, IsFewAhead, GrewBehind}
 use Rattle.space_builder.proofs.line_reader.LineReader.reach_feed.Given as goal
 
 abbrev pub invariant-loop-size : goal.invariant-loop-size
@@ -8,6 +8,7 @@ invariant-loop-size g l =
     let faults = g.R.ByteSource.faults in
     record {
       place : IsFeedPlace l.self l.size;
+      few : IsFewAhead l.self l.size;
       grew : GrewBehind (left l.fn.text) (left l.text) l.fn.self l.self;
       later : faults l.fn.text ≤ faults l.text;
     }

@@ -41,7 +41,7 @@ returns-in_err-put_behind_head g c = λ rows is.
     (behind_failed c.laws_below.ensures c.args.self.now rows is g.T.PageStore c.args.store.now c.requires.fresh
     c.set_size.new.self c.pages.result (c.pages.ensures rows is) c.in_ok-set_size.ensures.cause.later
     c.put_behind_head.new.store c.in_err-put_behind_head.field-0.0 c.in_ok-set_size.ensures.done.0
-    (c.in_err-put_behind_head.ensures rows is))
+    c.in_ok-set_size.ensures.done.1 (c.in_err-put_behind_head.ensures rows is))
 
 pub put_head_page-requires : goal.put_head_page-requires
 put_head_page-requires g c =
