@@ -4,6 +4,7 @@ ghost use Rattle.std.specs.Prelude.{◌≡◌, slice_get};
 ghost use Rattle.ibd_carve.specs.declared.forms.Form.{Form};
 ghost use Rattle.ibd_carve.specs.Forms.{IsForm, image_place};
 ghost use Rattle.ibd_carve.specs.Program.{Runs};
+ghost use Rattle.page_source.specs.Sources.{text_to_read, pages_to_make};
 
 use crate::forms::{Form, form_of};
 use crate::run::run_carve;
@@ -39,8 +40,8 @@ pub type RealObjects<'a> = Objects<
 /// space id, and the file by the next one. None is opened before its first call.
 pub fn name_objects<'a>(rt: &'a HostRuntime, words: &'a Words) -> RealObjects<'a>
     ensures image { (form : Form) → IsForm words.now form
-        → result.image ≡ record { word = slice_get words.now (image_place form); faults = 0 } }
-    ensures file { result.file ≡ record { word = slice_get words.now 3; faults = 0 } }
+        → result.image ≡ text_to_read (slice_get words.now (image_place form)) }
+    ensures file { result.file ≡ pages_to_make (slice_get words.now 3) }
     ensures out { result.out ≡ 0 }
     ensures err { result.err ≡ 0 }
 {

@@ -15,7 +15,7 @@ use Rattle.space_builder.specs.declared.built.BuildStop.{BuildStop}
 use Rattle.space_builder.specs.declared.built.BuildStop.TheVariants as stops
 use Rattle.space_builder.specs.layout.Layout.{Rows, layout_size}
 use Rattle.space_builder.specs.build.BadLine.{RootOrderChecks}
-use Rattle.space_builder.specs.build.Build.{Builds, BuildsWithCause, ReadsText, LacksHead}
+use Rattle.space_builder.specs.build.Build.{Builds, BuildsWithCause, ReadsText, LacksHead, IsUncalledOrSized}
 use Rattle.space_builder.specs.build.Outcome.{ComesTo, RootsHaveOneAnswer, BuildHasOneOutcome, LeavesStore}
 use Rattle.command_line.specs.declared.schema_file.SchemaStop.{SchemaStop}
 use Rattle.command_line.specs.declared.schema_file.SchemaStop.TheVariants.{Refused, Source, Memory}
@@ -23,7 +23,9 @@ use Rattle.ibd_cli.specs.declared.status.Status.{Status}
 use Rattle.ibd_cli.specs.declared.status.Status.TheVariants as statuses
 use Rattle.ibd_cli.specs.Run.{EndsAs}
 use Rattle.ibd_cli.specs.Build.{Objects, Meanings, Texts, TellsTexts, built_line, IsRefusedForBuild, GivesBuilt}
-use Rattle.ibd_cli.specs.Build.{WritesNothing, ReadsTexts, BuildsWhole, EndsBuild, ServesBuild}
+use Rattle.ibd_cli.specs.Build.{WritesNothing, ReadsTexts, BuildsWhole, LeavesUncalledOrSized, EndsBuild, HasBuilt, OfStore}
+use Rattle.ibd_cli.specs.Build.{DumpsAsRead, ServesBuild}
+use Rattle.ibd_cli.specs.Laws.{BuiltFilesDumpAsRead}
 use Rattle.command_line.specs.SchemaFile.{ReadsSchema}
 use Rattle.ibd_cli.specs.Answers.{status_of_schema, status_of_build}
 use Rattle.command_line.proofs.OneAnswer.{HasOneAnswer}
@@ -31,18 +33,25 @@ use Rattle.command_line.proofs.OneAnswer.{no_table}
 use Rattle.ibd_cli.proofs.Outcomes.{one_refusal}
 use Rattle.ibd_cli.proofs.Serving.{at_told, Stopped, HasTable, is_source, never_sink}
 use Rattle.ibd_cli.proofs.BuildOutcomes.{status_of_outcome, never_refused, refused_as_root, defines_one}
+use Rattle.ibd_cli.proofs.BuiltDumps.{holds_file}
 
 -- a text is that of one table or refused in one way, the roots of a table have one answer, and so have a table and a
--- text
+-- text, of which what is built is dumped as it was read
 pub record BuildsOnce : Type 0 where
   pub texts : (text : List ℕ) → HasOneAnswer text
   pub roots : RootsHaveOneAnswer
   pub outcome : BuildHasOneOutcome
+  pub dumps : BuiltFilesDumpAsRead
 
 -- a fresh store lacks page 0
 fresh_lacks : (store : Store) → IsFresh store → LacksHead store
 fresh_lacks store fresh =
     told1 store.held (λ held is. ap is_some (ap (λ (map : PageMap). get map 0) is ∙ get-empty nat_cmp 0)) fresh.held
+
+never_built : (stop : SchemaStop) → HasBuilt (status_of_schema stop) → ⊥
+never_built (Refused line why) built = built
+never_built Source built = built
+never_built Memory built = built
 
 never_store : (stop : SchemaStop) → status_of_schema stop ≡ statuses.StoreFault → ⊥
 never_store (Refused line why) is = cc
@@ -90,6 +99,7 @@ module _ (once : BuildsOnce) {Q R O T : Type 0} (g : Meanings Q R O T) (old now 
   unread_ends Memory unread = (
     subst (λ (target : T). LacksHead (g.target.told target)) (sym unread.nothing.target)
         (fresh_lacks (g.target.told old.target) unread.fresh),
+    inl unread.nothing.target,
     unread.nothing.out,
   )
 
@@ -108,6 +118,7 @@ module _ (once : BuildsOnce) {Q R O T : Type 0} (g : Meanings Q R O T) (old now 
         source = λ is. inl (unread.schema.cause (is_source stop is));
         sink = λ is. absurd (never_sink stop is);
         store = λ is. absurd (never_store stop is);
+        dumps = λ built. absurd (never_built stop built);
       }
 
   -- the schema text is that of a table, of which was built
@@ -118,6 +129,8 @@ module _ (once : BuildsOnce) {Q R O T : Type 0} (g : Meanings Q R O T) (old now 
     pub cause : BuildsWithCause (g.rows.faults old.rows) (g.rows.faults now.rows) (g.target.faults old.target)
         (g.target.faults now.target) result
     pub untouched : LeavesStore result → now.target ≡ old.target
+    pub memory : result ≡ Err stops.Memory
+        → IsUncalledOrSized g.target.told table (g.rows.left old.rows) old.target now.target
 
   module _ (table : TableDef) where
     -- its schema text, where it is told
@@ -163,7 +176,12 @@ module _ (once : BuildsOnce) {Q R O T : Type 0} (g : Meanings Q R O T) (old now 
     )
     stop_ends stops.Source reached out = record { out = out; target = reached.untouched tt }
     stop_ends stops.Store reached out = ((table, of_schema (Err stops.Store) reached, reached.builds), out)
-    stop_ends stops.Memory reached out = (reached.builds, out)
+    stop_ends stops.Memory reached out =
+        let left : LeavesUncalledOrSized g old now =
+        elim (reached.memory refl) [
+          | inl same ↦ inl same
+          | inr sized ↦ inr (table, of_schema (Err stops.Memory) reached, sized)
+        ] in (reached.builds, left, out)
 
     stop_alone : (stop : BuildStop) → Reached table (Err stop) → (text : List ℕ) (line : ℕ) (why : SchemaWhy)
         → g.schema.left old.schema ≡ Some text → IsRefusedForBuild text line why
@@ -221,6 +239,14 @@ module _ (once : BuildsOnce) {Q R O T : Type 0} (g : Meanings Q R O T) (old now 
     stop_sink stops.Store is = cc
     stop_sink stops.Memory is = cc
 
+    stop_built : (stop : BuildStop) → HasBuilt (status_of_build stop) → ⊥
+    stop_built (stops.RootPlace line) built = built
+    stop_built (stops.RowsRefused line why) built = built
+    stop_built stops.Full built = built
+    stop_built stops.Source built = built
+    stop_built stops.Store built = built
+    stop_built stops.Memory built = built
+
     -- the rows, or the target, ended it
     pub build_stopped : (stop : BuildStop) → Reached table (Err stop) → now.out ≡ old.out
         → ServesBuild g old now (status_of_build stop)
@@ -234,6 +260,7 @@ module _ (once : BuildsOnce) {Q R O T : Type 0} (g : Meanings Q R O T) (old now 
           source = λ is. inr (reached.cause.source_rose (ap Err (stop_source stop is)));
           sink = λ is. absurd (stop_sink stop is);
           store = λ is. reached.cause.store_rose (ap Err (stop_store stop is));
+          dumps = λ built. absurd (stop_built stop built);
         }
 
     -- all was built, and the line was put so
@@ -261,6 +288,15 @@ module _ (once : BuildsOnce) {Q R O T : Type 0} (g : Meanings Q R O T) (old now 
             ),
           ),
         )
+
+    -- and the target is dumped as the text of rows
+    target_dumps : (built : Built) → Reached table (Ok built) → (texts : Texts) → TellsTexts g old texts
+        → OfStore (g.target.told now.target) (DumpsAsRead texts)
+    target_dumps built reached texts tells =
+        let b = reached.builds in
+        let of_text = at_told _ (g.rows.left old.rows) texts.rows tells.rows b.1.1.of_text in
+        holds_file table b.1.0 (g.target.told old.target) (g.target.told now.target) b.1.2.1 (DumpsAsRead texts)
+        (once.dumps texts table b.1.0 (table_of (Ok built) reached texts.schema tells.schema) (b.0, of_text, b.1.2.0))
 
     read_to_ends : (built : Built) → Reached table (Ok built) → ReadsTexts g old now
     read_to_ends built reached =
@@ -290,6 +326,7 @@ module _ (once : BuildsOnce) {Q R O T : Type 0} (g : Meanings Q R O T) (old now 
           source = λ is. absurd (cc);
           sink = λ is. absurd (cc);
           store = λ is. absurd (cc);
+          dumps = λ whole texts tells. target_dumps built reached texts tells;
         }
 
     pub build_unput : (built : Built) → Reached table (Ok built)
@@ -305,6 +342,7 @@ module _ (once : BuildsOnce) {Q R O T : Type 0} (g : Meanings Q R O T) (old now 
           source = λ is. absurd (cc);
           sink = λ is. rose;
           store = λ is. absurd (cc);
+          dumps = λ whole texts tells. target_dumps built reached texts tells;
         }
 
 -- no other command's status ends it

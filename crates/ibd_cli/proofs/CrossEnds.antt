@@ -1,11 +1,14 @@
 -- How a comparison of the indexes with the rows ends.
-use Rattle.std.proofs.Common.{◌≡◌, ℕ, List, Option, Err, refl, ap}
+use Rattle.std.proofs.Common.{◌≡◌, ℕ, List, Option, Ok, Err, refl, ap}
 use Rattle.page_source.specs.declared.objects.PageSource.{Ghosts as FileOf}
 use Rattle.page_source.specs.declared.objects.ByteSink.{Ghosts as SinkOf}
+use Rattle.page_source.specs.Faults.{Rose}
+use Rattle.page_source.specs.Objects.{GrowsBy, GrowsByPart}
 use Rattle.page_source.specs.Calls.{OfFile}
-use Rattle.page_source.proofs.Told.{told1}
+use Rattle.page_source.proofs.Told.{told0, told1}
 use Rattle.schema_text.specs.TableDef.{TableDef}
 use Rattle.table_check.specs.First.{TakesSteps, AsksAtMost, dump_steps}
+use Rattle.table_check.specs.Laws.{ChecksAreValidity}
 use Rattle.cross_index.specs.declared.crossed.Crossed.{Crossed}
 use Rattle.cross_index.specs.declared.crossed.CrossStop.{CrossStop}
 use Rattle.cross_index.specs.declared.crossed.CrossStop.TheVariants.{Broken, Missing, Extra, Source, Memory}
@@ -13,6 +16,7 @@ use Rattle.cross_index.specs.Cross.{Crosses}
 use Rattle.cross_index.specs.Stops.{CrossesOver}
 use Rattle.ibd_cli.specs.declared.status.Status.TheVariants as statuses
 use Rattle.ibd_cli.specs.declared.forms.Task.TheVariants.{Cross}
+use Rattle.ibd_cli.specs.Outcome.{crossed_line, IsDone}
 use Rattle.ibd_cli.specs.Answers.{status_of_cross, Ends, IsOfFile, ServesFile}
 
 stop_ends : (key file : List ℕ) (table : TableDef) (stop : CrossStop) (o : Option (List ℕ))
@@ -23,12 +27,19 @@ stop_ends key file table (Extra index page) o told = (told, refl)
 stop_ends key file table Source o told = refl
 stop_ends key file table Memory o told = refl
 
-stop_of_file : (stop : CrossStop) → IsOfFile (status_of_cross stop)
+stop_of_file : (stop : CrossStop) → IsOfFile Cross (status_of_cross stop)
 stop_of_file (Broken fault) = tt
 stop_of_file (Missing index row) = tt
 stop_of_file (Extra index page) = tt
 stop_of_file Source = tt
 stop_of_file Memory = tt
+
+never_done : (stop : CrossStop) → status_of_cross stop ≡ statuses.Done → ⊥
+never_done (Broken fault) is = cc
+never_done (Missing index row) is = cc
+never_done (Extra index page) is = cc
+never_done Source is = cc
+never_done Memory is = cc
 
 never_keyed : (stop : CrossStop) → status_of_cross stop ≡ statuses.KeyRefused → ⊥
 never_keyed (Broken fault) is = cc
@@ -62,10 +73,69 @@ cross_stopped key f o file file_now table out steps steps_now stop told over cos
       of_file = stop_of_file stop;
       unkeyed = λ is. absurd (never_keyed stop is);
       unsought = λ none. absurd none;
+      silent = told0 (f.content file) (λ content none. refl);
       unwritten = λ before. refl;
+      some = λ is. absurd (never_done stop is);
+      few = told0 (f.content file) (λ content. tt);
       source = λ same. over.rose (ap Err (is_source stop same));
       sink = λ same. absurd (never_sink stop same);
       content = over.same;
       cost = cost;
       fetches = fetches;
     }
+
+module _ {F O : Type 0} (law : ChecksAreValidity) (key : List ℕ) (f : FileOf F) (o : SinkOf O) (file file_now : F)
+    (table : TableDef) (out out_now : O) (steps steps_now : ℕ) (crossed : Crossed)
+    (told : OfFile f file (λ content. Crosses content table (Ok crossed)))
+    (over : CrossesOver f file file_now steps steps_now (Ok crossed))
+    (cost : TakesSteps f file dump_steps steps steps_now) (fetches : AsksAtMost f file file_now dump_steps) where
+  -- the indexes have the keys of the rows, and the line of the numbers is the output
+  has_line : OfFile f file (λ content. IsDone Cross key content table (crossed_line crossed))
+  has_line =
+      told1 (f.content file) (λ content crosses. record {
+        sound = (law content table).1 crosses.0.valid;
+        valid = crosses.0.valid;
+        written = record {
+          same = crosses.0.differ;
+          crossed = crossed;
+          numbers = crosses.1;
+          written = refl;
+        };
+      }) told
+
+  pub cross_done : GrowsBy (o.written out) (o.written out_now) (crossed_line crossed)
+      → ServesFile f o Cross key file file_now table out out_now steps steps_now statuses.Done
+  cross_done grows = record {
+    ends = told1 (f.content file) (λ content done. (crossed_line crossed, done, grows)) has_line;
+    of_file = tt;
+    unkeyed = λ is. absurd (cc);
+    unsought = λ none. absurd none;
+    silent = told1 (f.content file) (λ content done none. absurd (none (crossed_line crossed) done)) has_line;
+    unwritten = λ before. absurd (before.0 refl);
+    some = λ is. (crossed, grows);
+    few = told0 (f.content file) (λ content. tt);
+    source = λ is. absurd (cc);
+    sink = λ is. absurd (cc);
+    content = over.same;
+    cost = cost;
+    fetches = fetches;
+  }
+
+  pub cross_unput : GrowsByPart (o.written out) (o.written out_now) (crossed_line crossed)
+      → Rose (o.faults out) (o.faults out_now)
+      → ServesFile f o Cross key file file_now table out out_now steps steps_now statuses.SinkFault
+  cross_unput grows rose = record {
+    ends = told1 (f.content file) (λ content done. (crossed_line crossed, done, grows)) has_line;
+    of_file = tt;
+    unkeyed = λ is. absurd (cc);
+    unsought = λ none. absurd none;
+    silent = told1 (f.content file) (λ content done none. absurd (none (crossed_line crossed) done)) has_line;
+    unwritten = λ before. absurd (before.1 refl);
+    some = λ is. absurd (cc);
+    few = told0 (f.content file) (λ content. tt);
+    source = λ is. absurd (cc);
+    sink = λ is. rose;
+    content = over.same;
+    cost = cost;
+    fetches = fetches;
+  }

@@ -1,42 +1,46 @@
 -- How a look-up ends.
-use Rattle.std.proofs.Common.{◌≡◌, ◌⊎◌, ℕ, List, Option, Result, Ok, Err, refl, ap, inl, inr}
+use Rattle.std.proofs.Common.{◌≡◌, ◌⊎◌, ℕ, ◌+◌, ◌≤◌, List, Option, Result, Ok, Err, refl, ap, inl, inr, arith}
 use Rattle.page_source.specs.declared.objects.PageSource.{Ghosts as FileOf}
 use Rattle.page_source.specs.declared.objects.ByteSink.{Ghosts as SinkOf}
 use Rattle.page_source.specs.Calls.{OfFile}
 use Rattle.page_source.proofs.Told.{told1}
+use Rattle.column_values.specs.Order.{Key}
 use Rattle.schema_text.specs.TableDef.{TableDef}
 use Rattle.table_check.specs.First.{TakesSteps, AsksAtMost}
 use Rattle.key_lookup.specs.declared.stop.GetStop.{GetStop}
 use Rattle.key_lookup.specs.declared.stop.GetStop.TheVariants.{Refused, Absent, Broken, Source, Sink, Memory}
-use Rattle.key_lookup.specs.KeyOfText.{IsNoKey}
-use Rattle.key_lookup.specs.Get.{Gets, GetsOver, TouchesNothing, get_steps}
+use Rattle.key_lookup.specs.KeyOfText.{SpellsKey, IsNoKey}
+use Rattle.key_lookup.specs.Get.{IsLineFound, Gets, GetsOver, TouchesNothing, get_steps, steps_for}
 use Rattle.ibd_cli.specs.declared.status.Status.TheVariants as statuses
 use Rattle.ibd_cli.specs.declared.forms.Task.TheVariants.{Get}
-use Rattle.ibd_cli.specs.Run.{ComesBefore, EndsAs}
-use Rattle.ibd_cli.specs.Answers.{status_of_get, Ends, IsOfFile, ServesFile}
+use Rattle.ibd_cli.specs.Outcome.{IsDone}
+use Rattle.ibd_cli.specs.Run.{ComesBefore, EndsAs, TakesFew}
+use Rattle.ibd_cli.specs.Answers.{status_of_get, HasNoOutput, Ends, IsOfFile, ServesFile}
 
-done_ends : (key file : List ℕ) (table : TableDef) (done : Unit {0}) (old new : Option (List ℕ))
-    → Gets file table key (Ok done) old new → Ends Get key file table statuses.Done old new
-done_ends key file table done old new (sought, spells, (line, found, grows)) =
-    (line, record { sound = (sought, spells, found.good); valid = tt; written = (sought, spells, found) }, grows)
+-- the line of a key that is sought is the output
+line_done : (key file : List ℕ) (table : TableDef) (sought : Key) (line : List ℕ) → SpellsKey table key sought
+    → IsLineFound file table sought line → IsDone Get key file table line
+line_done key file table sought line spells found = record {
+  sound = (sought, spells, found.good);
+  valid = tt;
+  written = (sought, spells, found);
+}
 
-stop_ends : (key file : List ℕ) (table : TableDef) (stop : GetStop) (old new : Option (List ℕ))
-    → Gets file table key (Err stop) old new → Ends Get key file table (status_of_get stop) old new
-stop_ends key file table Refused old new told = told
-stop_ends key file table Absent old new (sought, spells, told) = ((sought, spells, told.0), told.1)
-stop_ends key file table (Broken fault) old new (sought, spells, told) = ((sought, spells, told.0), told.1)
-stop_ends key file table Source old new told = told
-stop_ends key file table Sink old new (sought, spells, (line, found, grows)) =
-    (line, record { sound = (sought, spells, found.good); valid = tt; written = (sought, spells, found) }, grows)
-stop_ends key file table Memory old new told = told
-
-stop_of_file : (stop : GetStop) → IsOfFile (status_of_get stop)
+stop_of_file : (stop : GetStop) → IsOfFile Get (status_of_get stop)
 stop_of_file Refused = tt
 stop_of_file Absent = tt
 stop_of_file (Broken fault) = tt
 stop_of_file Source = tt
 stop_of_file Sink = tt
 stop_of_file Memory = tt
+
+never_done : (stop : GetStop) → status_of_get stop ≡ statuses.Done → ⊥
+never_done Refused is = cc
+never_done Absent is = cc
+never_done (Broken fault) is = cc
+never_done Source is = cc
+never_done Sink is = cc
+never_done Memory is = cc
 
 is_refused : (stop : GetStop) → status_of_get stop ≡ statuses.KeyRefused → stop ≡ Refused
 is_refused Refused is = refl
@@ -83,24 +87,74 @@ stop_unkeyed Memory ends = tt
 -- what the three contracts of a look-up say of one
 pub record Got {F O : Type 0} (f : FileOf F) (o : SinkOf O) (key : List ℕ) (file file_now : F) (table : TableDef)
     (out out_now : O) (steps steps_now : ℕ) (result : Result (Unit {0}) GetStop) : Type 0 where
-  pub told : OfFile f file (λ content. Gets content table key result (o.written out) (o.written out_now))
+  pub told : OfFile f file (λ content. Gets o content table key result out out_now)
   pub refused : result ≡ Err Refused → IsNoKey table key
   pub first : IsNoKey table key → TouchesNothing file file_now out out_now steps steps_now result
   pub over : GetsOver f o file file_now out out_now steps steps_now result
+  pub few : OfFile f file (λ content. (sought : Key) → SpellsKey table key sought
+      → steps_now ≤ steps + steps_for content table sought)
   pub cost : TakesSteps f file get_steps steps steps_now
   pub fetches : AsksAtMost f file file_now get_steps
 
+module _ {F O : Type 0} (f : FileOf F) (o : SinkOf O) (key : List ℕ) (source source_now : F) (table : TableDef)
+    (out out_now : O) (steps steps_now : ℕ) (file : List ℕ) where
+  done_ends : (done : Unit {0}) → Gets o file table key (Ok done) out out_now
+      → Ends Get key file table statuses.Done (o.written out) (o.written out_now)
+  done_ends done (sought, spells, (line, found, grows)) =
+      (line, line_done key file table sought line spells found, grows)
+
+  stop_ends : (stop : GetStop) → Got f o key source source_now table out out_now steps steps_now (Err stop)
+      → Gets o file table key (Err stop) out out_now
+      → Ends Get key file table (status_of_get stop) (o.written out) (o.written out_now)
+  stop_ends Refused got none = (none, ap o.written (got.first none).out)
+  stop_ends Absent got (sought, spells, absent) = ((sought, spells, absent), ap o.written (got.over.absent refl))
+  stop_ends (Broken fault) got (sought, spells, told) = ((sought, spells, told.0), ap o.written told.1)
+  stop_ends Source got (sought, spells, told) =
+      (sought, spells, (told.0, (λ none. ap o.written (told.1 none))))
+  stop_ends Sink got (sought, spells, (line, found, grows)) =
+      (line, line_done key file table sought line spells found, grows)
+  stop_ends Memory got told = ap o.written (got.over.unwritten refl)
+
+  -- without an output the sink is as before
+  done_silent : (done : Unit {0}) → Gets o file table key (Ok done) out out_now → HasNoOutput Get key file table
+      → out_now ≡ out
+  done_silent done (sought, spells, (line, found, grows)) none =
+      absurd (none line (line_done key file table sought line spells found))
+
+  stop_silent : (stop : GetStop) → Got f o key source source_now table out out_now steps steps_now (Err stop)
+      → Gets o file table key (Err stop) out out_now → HasNoOutput Get key file table → out_now ≡ out
+  stop_silent Refused got told none = (got.first told).out
+  stop_silent Absent got told none = got.over.absent refl
+  stop_silent (Broken fault) got (sought, spells, told) none = told.1
+  stop_silent Source got (sought, spells, told) none =
+      told.1 (λ line found. none line (line_done key file table sought line spells found))
+  stop_silent Sink got (sought, spells, (line, found, grows)) none =
+      absurd (none line (line_done key file table sought line spells found))
+  stop_silent Memory got told none = got.over.unwritten refl
+
 module _ {F O : Type 0} (f : FileOf F) (o : SinkOf O) (key : List ℕ) (file file_now : F) (table : TableDef)
     (out out_now : O) (steps steps_now : ℕ) where
+  -- each page that was asked for was counted, so that few were
+  got_few : (result : Result (Unit {0}) GetStop) → Got f o key file file_now table out out_now steps steps_now result
+      → OfFile f file (λ content. TakesFew Get key content table (record { steps = steps; fetches = f.fetches file })
+      (record { steps = steps_now; fetches = f.fetches file_now }))
+  got_few result got = told1 (f.content file) (λ content few sought spells.
+      let most = few sought spells in
+      let asked = got.over.asked in (most, omega arith)) got.few
+
   pub get_done : (done : Unit {0}) → Got f o key file file_now table out out_now steps steps_now (Ok done)
       → ServesFile f o Get key file file_now table out out_now steps steps_now statuses.Done
   get_done done got = record {
     ends = told1 (f.content file)
-        (λ content gets. done_ends key content table done (o.written out) (o.written out_now) gets) got.told;
+        (λ content gets. done_ends f o key file file_now table out out_now steps steps_now content done gets) got.told;
     of_file = tt;
     unkeyed = λ is. absurd (cc);
     unsought = λ none. absurd (done_unkeyed done (got.first none).ends);
+    silent = told1 (f.content file)
+        (λ content gets. done_silent f o key file file_now table out out_now steps steps_now content done gets) got.told;
     unwritten = λ before. absurd before;
+    some = λ is. tt;
+    few = got_few (Ok done) got;
     source = λ is. absurd (cc);
     sink = λ is. absurd (cc);
     content = got.over.same;
@@ -122,12 +176,16 @@ module _ {F O : Type 0} (f : FileOf F) (o : SinkOf O) (key : List ℕ) (file fil
       → ServesFile f o Get key file file_now table out out_now steps steps_now (status_of_get stop)
   get_stopped stop got = record {
     ends = told1 (f.content file)
-        (λ content gets. stop_ends key content table stop (o.written out) (o.written out_now) gets) got.told;
+        (λ content gets. stop_ends f o key file file_now table out out_now steps steps_now content stop got gets) got.told;
     of_file = stop_of_file stop;
     unkeyed = λ is. got.refused (ap Err (is_refused stop is));
     unsought = λ none.
         let first = got.first none in (first.file, first.steps_same, stop_unkeyed stop first.ends);
+    silent = told1 (f.content file)
+        (λ content gets. stop_silent f o key file file_now table out out_now steps steps_now content stop got gets) got.told;
     unwritten = unwritten_at stop got;
+    some = λ is. absurd (never_done stop is);
+    few = got_few (Err stop) got;
     source = λ is. got.over.source_rose (ap Err (is_source stop is));
     sink = λ is. got.over.sink_rose (ap Err (is_sink stop is));
     content = got.over.same;

@@ -1,10 +1,14 @@
 pub mod WordLists
 pub mod Joined
+pub mod CheckEnds
 pub mod DumpEnds
 pub mod CrossEnds
 pub mod GetEnds
 pub mod Outcomes
 pub mod Serving
+pub mod OneOutcome
+pub mod BuiltDumps
 pub mod BuildOutcomes
+pub mod OneBuild
 pub mod BuildEnds
 pub mod SampleEnds

@@ -24,7 +24,7 @@ use Rattle.ibd_cli.specs.declared.forms.Task.TheVariants.{Check, Dump, Cross, Ge
 use Rattle.command_line.specs.Reading.{IsReadUpTo}
 use Rattle.command_line.specs.SchemaFile.{IsRefusedText}
 use Rattle.ibd_cli.specs.Outcome.{FirstOf, IsDone, IsNoKeyOf, Told, Gives}
-use Rattle.ibd_cli.specs.Run.{EndsAs, IsNoKeyIn, ReadsInputs, LeavesPart, LeavesUnread, Leaves, IsOfTable, Serves}
+use Rattle.ibd_cli.specs.Run.{EndsAs, IsNoKeyIn, ReadsInputs, LeavesPart, LeavesUnread, Leaves, IsOfTask, Spent, TakesFew, Serves}
 use Rattle.command_line.specs.SchemaFile.{ReadsSchema}
 use Rattle.ibd_cli.specs.Answers.{status_of_schema, HasPart, EndsUnread, Ends, IsOfFile, ServesFile}
 use Rattle.command_line.proofs.OneAnswer.{HasOneAnswer}
@@ -84,20 +84,25 @@ never_sink (Refused l w) is = cc
 never_sink Source is = cc
 never_sink Memory is = cc
 
+never_done : (stop : SchemaStop) → status_of_schema stop ≡ statuses.Done → ⊥
+never_done (Refused l w) is = cc
+never_done Source is = cc
+never_done Memory is = cc
+
 never_keyed : (stop : SchemaStop) → status_of_schema stop ≡ statuses.KeyRefused → ⊥
 never_keyed (Refused l w) is = cc
 never_keyed Source is = cc
 never_keyed Memory is = cc
 
-stopped_of_table : (stop : SchemaStop) → IsOfTable (status_of_schema stop)
-stopped_of_table (Refused l w) = tt
-stopped_of_table Source = tt
-stopped_of_table Memory = tt
+stopped_of_task : (task : Task) (stop : SchemaStop) → IsOfTask task (status_of_schema stop)
+stopped_of_task task (Refused l w) = tt
+stopped_of_task task Source = tt
+stopped_of_task task Memory = tt
 
--- what ends a task that has read its schema ends a command on a table
-file_of_table : (status : Status) → IsOfFile status → IsOfTable status
-file_of_table (statuses.SchemaRefused l w) is = tt
-file_of_table _ is = is
+-- what ends a task that has read its schema ends the command
+file_of_task : (task : Task) (status : Status) → IsOfFile task status → IsOfTask task status
+file_of_task task (statuses.SchemaRefused l w) is = tt
+file_of_task task _ is = is
 
 pub is_source : (stop : SchemaStop) → status_of_schema stop ≡ statuses.SourceFault → stop ≡ Source
 is_source (Refused l w) is = absurd (cc)
@@ -133,6 +138,13 @@ inputs_stopped all f q task key file schema schema_now steps stop stopped =
       fetches = record { told = told0 (f.content file) (λ content. omega arith); always = omega arith };
     }
 
+-- what takes nothing takes few
+takes_none : (task : Task) (key file : List ℕ) (table : TableDef) (spent : Spent) → TakesFew task key file table spent spent
+takes_none Check key file table spent = tt
+takes_none Dump key file table spent = omega arith
+takes_none Cross key file table spent = tt
+takes_none Get key file table spent = λ sought spells. (omega arith, omega arith)
+
 -- nothing is a part of each text
 pub no_part : (old : Option (List ℕ)) (text : List ℕ) → GrowsByPart old old text
 no_part None text = refl
@@ -160,12 +172,16 @@ pub serves_stopped : {F Q O : Type 0} (all : (text : List ℕ) → HasOneAnswer 
     → Serves f q o task key file file schema schema_now out out steps steps (status_of_schema stop)
 serves_stopped all f q o task key file schema schema_now out steps stop stopped =
     record {
-      of_table = stopped_of_table stop;
+      of_task = stopped_of_task task stop;
       inputs = inputs_stopped all f q task key file schema schema_now steps stop stopped;
       leaves = λ told tells.
           leaves_stopped task key told stop (o.written out) (q.left schema_now)
           (at_told _ (q.left schema) told.schema tells.schema_text stopped.reads);
+      silent = λ told tells none. refl;
       unwritten = λ before. refl;
+      some = λ is. absurd (never_done stop is);
+      few = λ told tells table is.
+          takes_none task key told.file table (record { steps = steps; fetches = f.fetches file });
       sink = λ is. absurd (never_sink stop is);
     }
 
@@ -197,7 +213,7 @@ inputs_served all once f q o task key file file_now schema schema_now out out_no
     let new = o.written out_now in
     record {
       read = has.read;
-      refused = λ line why is. absurd (subst IsOfFile is served.of_file);
+      refused = λ line why is. absurd (subst (IsOfFile task) is served.of_file);
       untouched = λ text told none. absurd (none table (at_told _ (q.left schema) text told has.reads).0);
       alone = λ text line why told refused.
           absurd (no_table text (all text) line why table refused (at_told _ (q.left schema) text told has.reads).0);
@@ -299,7 +315,7 @@ pub serves_file : {F Q O : Type 0} (all : (text : List ℕ) → HasOneAnswer tex
 serves_file all once f q o task key file file_now schema schema_now out out_now steps steps_now table status has
     served =
     record {
-      of_table = file_of_table status served.of_file;
+      of_task = file_of_task task status served.of_file;
       inputs =
           inputs_served all once f q o task key file file_now schema schema_now out out_now steps steps_now table status
           has served;
@@ -307,9 +323,22 @@ serves_file all once f q o task key file file_now schema schema_now out out_now 
           let reads = at_told _ (q.left schema) told.schema tells.schema_text has.reads in
           leaves_served once task key told (all told.schema) table reads.0 status (o.written out) (o.written out_now)
           (q.left schema_now) reads.1 (at_told _ (f.content file) told.file tells.content served.ends);
+      silent = λ told tells none.
+          let is = (at_told _ (q.left schema) told.schema tells.schema_text has.reads).0 in
+          at_told _ (f.content file) told.file tells.content served.silent
+          (λ output done. none output (table, is, done));
       unwritten = served.unwritten;
+      some = λ is. (table, told1 (q.left schema) (λ text reads. reads.0) has.reads, served.some is);
+      few = λ told tells other is.
+          let spent : Spent = record { steps = steps; fetches = f.fetches file } in
+          let now : Spent = record { steps = steps_now; fetches = f.fetches file_now } in
+          same_table told.schema (all told.schema) other is (λ t. TakesFew task key told.file t spent now) (
+            table,
+            (at_told _ (q.left schema) told.schema tells.schema_text has.reads).0,
+            at_told _ (f.content file) told.file tells.content served.few,
+          );
       sink = served.sink;
     }
 
-pub never_usage : (status : Status) → IsOfTable status → status ≡ statuses.Usage → ⊥
-never_usage status is same = subst IsOfTable same is
+pub never_usage : (task : Task) (status : Status) → IsOfTask task status → status ≡ statuses.Usage → ⊥
+never_usage task status is same = subst (IsOfTask task) same is

@@ -31,7 +31,7 @@ use Rattle.ibd_cli.specs.declared.forms.Task.{Task}
 use Rattle.ibd_cli.specs.declared.forms.Task.TheVariants.{Check, Dump, Cross, Get}
 use Rattle.ibd_cli.specs.Outcome.{OfKey, FirstOf, IsDone, IsNoKeyOf, IsAbsentOf, task_steps}
 use Rattle.ibd_cli.specs.Outcome.{FindsDifference}
-use Rattle.ibd_cli.specs.Run.{ComesBefore, EndsAs, IsOfTable}
+use Rattle.ibd_cli.specs.Run.{ComesBefore, EndsAs, IsOfTask, WritesSome, TakesFew}
 
 -- the status of a command that the schema text stops, that the checks stop, and that a dump stops
 abbrev pub status_of_schema : SchemaStop → Status
@@ -81,6 +81,10 @@ abbrev pub status_of_sample : SampleStop → Status
 status_of_sample samples.Full = statuses.Full
 status_of_sample samples.Memory = statuses.Memory
 
+-- the task isn't done, and so has no output
+abbrev pub HasNoOutput : Task → List ℕ → List ℕ → TableDef → Type 0
+HasNoOutput task key file table = (output : List ℕ) → ¬ (IsDone task key file table output)
+
 -- a prefix of the output was written
 abbrev pub HasPart : Task → List ℕ → List ℕ → TableDef → Option (List ℕ) → Option (List ℕ) → Type 0
 HasPart task key file table old new =
@@ -113,19 +117,23 @@ Ends task key file table statuses.Memory old new = new ≡ old
 Ends task key file table _ old new = ⊥
 
 -- such a status ends a task that has read its schema
-abbrev pub IsOfFile : Status → Type 0
-IsOfFile (statuses.SchemaRefused line why) = ⊥
-IsOfFile status = IsOfTable status
+abbrev pub IsOfFile : Task → Status → Type 0
+IsOfFile task (statuses.SchemaRefused line why) = ⊥
+IsOfFile task status = IsOfTask task status
 
 -- what a task does to the file and the output, and how it ends
 pub record ServesFile {F O : Type 0} (f : FileOf F) (o : SinkOf O) (task : Task) (key : List ℕ) (file file_now : F)
     (table : TableDef) (out out_now : O) (steps steps_now : ℕ) (status : Status) : Type 0 where
   pub ends : OfFile f file (λ content. Ends task key content table status (o.written out) (o.written out_now))
-  pub of_file : IsOfFile status
+  pub of_file : IsOfFile task status
   -- a text that is no key's is refused before the file is touched
   pub unkeyed : status ≡ statuses.KeyRefused → IsNoKeyOf task key table
   pub unsought : IsNoKeyOf task key table → (file_now ≡ file) × (steps_now ≡ steps) × EndsAs statuses.KeyRefused status
+  pub silent : OfFile f file (λ content. HasNoOutput task key content table → out_now ≡ out)
   pub unwritten : ComesBefore task status → out_now ≡ out
+  pub some : status ≡ statuses.Done → WritesSome task table (o.written out) (o.written out_now)
+  pub few : OfFile f file (λ content. TakesFew task key content table
+      (record { steps = steps; fetches = f.fetches file }) (record { steps = steps_now; fetches = f.fetches file_now }))
   pub source : status ≡ statuses.SourceFault → Rose (f.faults file) (f.faults file_now)
   pub sink : status ≡ statuses.SinkFault → Rose (o.faults out) (o.faults out_now)
   pub content : f.content file_now ≡ f.content file

@@ -1,10 +1,10 @@
 -- What the command `build` answers, and what it leaves.
-use Rattle.std.specs.Prelude.{◌≡◌, ℕ, ◌<◌, ◌⊎◌, List, [], ◌++◌, length, codes, Option, Some, None, IfSome, Ok, Err}
+use Rattle.std.specs.Prelude.{◌≡◌, ℕ, ◌<◌, ◌⊎◌, ⊤, List, [], ◌++◌, length, codes, Option, Some, None, IfSome, Ok, Err}
 use Rattle.page_source.specs.declared.objects.ByteSource.{Ghosts as SourceOf}
 use Rattle.page_source.specs.declared.objects.ByteSink.{Ghosts as SinkOf}
 use Rattle.page_source.specs.declared.objects.PageStore.{Ghosts as StoreOf}
 use Rattle.page_source.specs.Faults.{Rose}
-use Rattle.page_source.specs.Objects.{GrowsBy, GrowsByPart}
+use Rattle.page_source.specs.Objects.{Store, GrowsBy, GrowsByPart, file_of}
 use Rattle.schema_text.specs.declared.errors.SchemaWhy.{SchemaWhy}
 use Rattle.schema_text.specs.declared.errors.SchemaWhy.TheVariants as whys
 use Rattle.schema_text.specs.TableDef.{TableDef}
@@ -12,14 +12,16 @@ use Rattle.schema_text.specs.Grammar.{IsTextOf}
 use Rattle.space_builder.specs.declared.built.BuildStop.TheVariants as stops
 use Rattle.space_builder.specs.layout.Layout.{Rows, FitsSpace, layout_extents, layout_size}
 use Rattle.space_builder.specs.build.BadLine.{RootOrderChecks, RowsChecks}
-use Rattle.space_builder.specs.build.Build.{HoldsLayout, HoldsPart, LacksHead, OfRows}
+use Rattle.space_builder.specs.build.Build.{HoldsLayout, HoldsPart, LacksHead, IsSizedFor, OfRows}
 use Rattle.space_builder.specs.build.Outcome.{ComesTo}
 use Rattle.ibd_cli.specs.declared.status.Status.{Status}
 use Rattle.ibd_cli.specs.declared.status.Status.TheVariants.{Done, SchemaRefused, RowsRefused}
 use Rattle.ibd_cli.specs.declared.status.Status.TheVariants.{SourceFault, SinkFault, StoreFault, Memory, Full}
+use Rattle.ibd_cli.specs.declared.forms.Task.TheVariants.{Dump}
 use Rattle.command_line.specs.Lines.{counted}
 use Rattle.command_line.specs.Reading.{IsReadUpTo}
 use Rattle.command_line.specs.SchemaFile.{IsRefusedText, IsOfNoTable}
+use Rattle.ibd_cli.specs.Outcome.{Told, OfSchema, Gives}
 use Rattle.ibd_cli.specs.Run.{EndsAs}
 
 -- the objects that a build names
@@ -61,9 +63,6 @@ IsRefusedForBuild schema line why =
     IsRefusedText schema line why ⊎ ((why ≡ whys.Root) × HasMisplacedRoot schema line)
 
 -- of the table of the schema, and of the text of the rows, each where it is told
-abbrev pub OfSchema : Option (List ℕ) → (TableDef → Type 0) → Type 0
-OfSchema schema Fact = (table : TableDef) × IfSome schema (IsTextOf table) × Fact table
-
 abbrev pub OfTableRows : Option (List ℕ) → Option (List ℕ) → (TableDef → Rows → Type 0) → Type 0
 OfTableRows schema rows Fact = OfSchema schema (λ table. OfRows table rows (Fact table))
 
@@ -103,6 +102,12 @@ BuildsWhole g old now Writes =
     × HoldsLayout table rows (g.target.told old.target) (g.target.told now.target)
     × Writes (g.out.written old.out) (g.out.written now.out) (built_line (layout_size table rows) (length rows)))
 
+-- the target wasn't called, or all rows were good and it was sized for them
+abbrev pub LeavesUncalledOrSized : {Q R O T : Type 0} → Meanings Q R O T → Objects Q R O T → Objects Q R O T → Type 0
+LeavesUncalledOrSized g old now =
+    (now.target ≡ old.target) ⊎ OfBuilt g old (λ table rows. FitsSpace table rows
+    × IsSizedFor table rows (g.target.told old.target) (g.target.told now.target))
+
 -- how a build ends, and how its objects stand
 abbrev pub EndsBuild : {Q R O T : Type 0} → Meanings Q R O T → Objects Q R O T → Objects Q R O T → Status → Type 0
 EndsBuild g old now Done = BuildsWhole g old now GrowsBy × ReadsTexts g old now
@@ -120,8 +125,29 @@ EndsBuild g old now StoreFault =
     OfBuilt g old (λ table rows. FitsSpace table rows
     × HoldsPart table rows (g.target.told old.target) (g.target.told now.target))
     × (now.out ≡ old.out)
-EndsBuild g old now Memory = LacksHead (g.target.told now.target) × (now.out ≡ old.out)
+EndsBuild g old now Memory =
+    LacksHead (g.target.told now.target) × LeavesUncalledOrSized g old now × (now.out ≡ old.out)
 EndsBuild g old now _ = ⊥
+
+-- such a status ends a build that has put all pages
+abbrev pub HasBuilt : Status → Type 0
+HasBuilt Done = ⊤
+HasBuilt SinkFault = ⊤
+HasBuilt _ = ⊥
+
+-- what is said of the bytes that a store holds, where it tells them
+abbrev pub OfStore : Store → (List ℕ → Type 0) → Type 0
+OfStore store Fact = IfSome store.size (λ size. IfSome store.held (λ held. Fact (file_of size held)))
+
+-- what the command `dump` is told of a file, with the schema text of a build
+abbrev pub told_of : Texts → List ℕ → Told
+told_of texts file = record { schema = texts.schema; file = file }
+
+-- a dump of the file with the schema text of a build is done with the text of its rows, and ends in no other way
+pub record DumpsAsRead (texts : Texts) (file : List ℕ) : Type 0 where
+  pub gives : (key : List ℕ) → Gives Dump key (told_of texts file) Done texts.rows
+  pub only : (key : List ℕ) (status : Status) (output : List ℕ) → Gives Dump key (told_of texts file) status output
+      → (status ≡ Done) × (output ≡ texts.rows)
 
 -- the whole promise of a build
 pub record ServesBuild {Q R O T : Type 0} (g : Meanings Q R O T) (old now : Objects Q R O T) (status : Status)
@@ -145,3 +171,6 @@ pub record ServesBuild {Q R O T : Type 0} (g : Meanings Q R O T) (old now : Obje
       ⊎ Rose (g.rows.faults old.rows) (g.rows.faults now.rows)
   pub sink : status ≡ SinkFault → Rose (g.out.faults old.out) (g.out.faults now.out)
   pub store : status ≡ StoreFault → Rose (g.target.faults old.target) (g.target.faults now.target)
+  -- what the target then holds is dumped as the text of rows that was read
+  pub dumps : HasBuilt status → (texts : Texts) → TellsTexts g old texts
+      → OfStore (g.target.told now.target) (DumpsAsRead texts)

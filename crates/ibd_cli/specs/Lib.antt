@@ -4,5 +4,6 @@ pub mod Outcome
 pub mod Run
 pub mod Build
 pub mod Sample
+pub mod Laws
 pub mod Program
 pub mod Answers

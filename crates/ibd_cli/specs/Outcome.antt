@@ -1,5 +1,5 @@
 -- What the inputs define: how a command on a table ends, and what it writes.
-use Rattle.std.specs.Prelude.{◌≡◌, ℕ, ⊤, List, [], ◌++◌, codes, Option, Some, None}
+use Rattle.std.specs.Prelude.{◌≡◌, ℕ, ⊤, List, [], ◌++◌, codes, Option, Some, None, IfSome}
 use Rattle.page_source.specs.declared.rule.Fault.{Fault}
 use Rattle.column_values.specs.Order.{Key}
 use Rattle.schema_text.specs.declared.errors.SchemaWhy.{SchemaWhy}
@@ -31,6 +31,10 @@ pub record Told : Type 0 where
 -- of the table of the schema
 abbrev pub OfTable : Told → (TableDef → Type 0) → Type 0
 OfTable told Fact = (table : TableDef) × IsTextOf table told.schema × Fact table
+
+-- of some table, that of the schema text where it is told
+abbrev pub OfSchema : Option (List ℕ) → (TableDef → Type 0) → Type 0
+OfSchema schema Fact = (table : TableDef) × IfSome schema (IsTextOf table) × Fact table
 
 -- the numbers of a checked file, each behind its name
 abbrev pub checked_numbers : Checked → List ℕ

@@ -25,6 +25,16 @@ pub record Meanings (F Q R O E T : Type 0) : Type 1 where
   pub err : SinkOf E
   pub target : StoreOf T
 
+-- six objects as one value, and what they tell
+abbrev pub six : {F Q R O E T : Type 0} → F → Q → R → O → E → T → Objects F Q R O E T
+six file schema rows out err target =
+    record { file = file; schema = schema; rows = rows; out = out; err = err; target = target }
+
+abbrev pub telling : {F Q R O E T : Type 0} → FileOf F → SourceOf Q → SourceOf R → SinkOf O → SinkOf E → StoreOf T
+    → Meanings F Q R O E T
+telling file schema rows out err target =
+    record { file = file; schema = schema; rows = rows; out = out; err = err; target = target }
+
 -- what the words ask for is done, and ends so
 pub record Runs {F Q R O E T : Type 0} (g : Meanings F Q R O E T) (words : List (List ℕ))
     (old now : Objects F Q R O E T) (steps_old steps_now : ℕ) (status : Status) : Type 0 where

@@ -1,25 +1,33 @@
 -- What a command on a table leaves: how the objects stand, and why it ended.
-use Rattle.std.specs.Prelude.{◌≡◌, ◌≢◌, ℕ, ⊤, ◌⊎◌, List, [], Option, Some, IfSome}
+use Rattle.std.specs.Prelude.{◌≡◌, ◌≢◌, ℕ, ◌+◌, ◌≤◌, ⊤, ◌⊎◌, List, [], Option, Some, IfSome}
 use Rattle.page_source.specs.declared.objects.PageSource.{Ghosts as FileOf}
 use Rattle.page_source.specs.declared.objects.ByteSource.{Ghosts as SourceOf}
 use Rattle.page_source.specs.declared.objects.ByteSink.{Ghosts as SinkOf}
 use Rattle.page_source.specs.declared.rule.Fault.{Fault}
 use Rattle.page_source.specs.Faults.{Rose}
+use Rattle.page_source.specs.Pages.{page_count}
 use Rattle.page_source.specs.Objects.{GrowsBy, GrowsByPart}
 use Rattle.page_source.specs.Calls.{OfFile}
+use Rattle.column_values.specs.Order.{Key}
 use Rattle.schema_text.specs.TableDef.{TableDef}
 use Rattle.schema_text.specs.Grammar.{IsTextOf}
 use Rattle.schema_text.specs.declared.errors.SchemaWhy.{SchemaWhy}
-use Rattle.table_check.specs.First.{TakesSteps, AsksAtMost}
+use Rattle.table_check.specs.declared.table.Checked.{Checked}
+use Rattle.table_check.specs.First.{TakesSteps, AsksAtMost, check_steps}
+use Rattle.sql_dump.specs.Dump.{row_pages}
+use Rattle.sql_dump.specs.SomeRows.{GrowsByRows}
+use Rattle.cross_index.specs.declared.crossed.Crossed.{Crossed}
+use Rattle.key_lookup.specs.KeyOfText.{SpellsKey}
+use Rattle.key_lookup.specs.Get.{steps_for}
 use Rattle.ibd_cli.specs.declared.status.Status.{Status}
-use Rattle.ibd_cli.specs.declared.status.Status.TheVariants.{Done, Usage, SchemaRefused, Broken, RowsRefused}
-use Rattle.ibd_cli.specs.declared.status.Status.TheVariants.{SourceFault, SinkFault, StoreFault, Memory, Full}
-use Rattle.ibd_cli.specs.declared.status.Status.TheVariants.{KeyRefused, Absent}
+use Rattle.ibd_cli.specs.declared.status.Status.TheVariants.{Done, Usage, SchemaRefused, Broken}
+use Rattle.ibd_cli.specs.declared.status.Status.TheVariants.{SourceFault, SinkFault, StoreFault, Memory}
+use Rattle.ibd_cli.specs.declared.status.Status.TheVariants.{CrossMissing, CrossExtra, KeyRefused, Absent}
 use Rattle.ibd_cli.specs.declared.forms.Task.{Task}
 use Rattle.ibd_cli.specs.declared.forms.Task.TheVariants.{Check, Dump, Cross, Get}
 use Rattle.command_line.specs.Reading.{IsReadUpTo}
 use Rattle.command_line.specs.SchemaFile.{IsRefusedText, IsOfNoTable}
-use Rattle.ibd_cli.specs.Outcome.{IsNoKeyOf, FirstOf, Told, Gives, task_steps}
+use Rattle.ibd_cli.specs.Outcome.{OfSchema, checked_line, crossed_line, IsNoKeyOf, FirstOf, Told, Gives, task_steps}
 
 -- it ended as the inputs define, unless an object failed or memory ran out
 abbrev pub EndsAs : Status → Status → Type 0
@@ -119,22 +127,58 @@ ComesBefore Get Absent = ⊤
 ComesBefore Get Memory = ⊤
 ComesBefore Get _ = ⊥
 
--- such a status ends a command on a table, whatever the objects tell
-abbrev pub IsOfTable : Status → Type 0
-IsOfTable Usage = ⊥
-IsOfTable (RowsRefused line why) = ⊥
-IsOfTable StoreFault = ⊥
-IsOfTable Full = ⊥
-IsOfTable status = ⊤
+-- such a status ends the command, whatever the objects tell
+abbrev pub IsOfTask : Task → Status → Type 0
+IsOfTask task Done = ⊤
+IsOfTask task (SchemaRefused line why) = ⊤
+IsOfTask task (Broken fault) = ⊤
+IsOfTask task SourceFault = ⊤
+IsOfTask task SinkFault = ⊤
+IsOfTask task Memory = ⊤
+IsOfTask Cross (CrossMissing index row) = ⊤
+IsOfTask Cross (CrossExtra index page) = ⊤
+IsOfTask Get KeyRefused = ⊤
+IsOfTask Get Absent = ⊤
+IsOfTask _ _ = ⊥
+
+-- what a command that is done has written, whatever the file tells: the line of some numbers, or the lines of some rows
+abbrev pub WritesSome : Task → TableDef → Option (List ℕ) → Option (List ℕ) → Type 0
+WritesSome Check table old new = (checked : Checked) × GrowsBy old new (checked_line checked)
+WritesSome Dump table old new = (checked : Checked) × GrowsByRows table old new checked.rows
+WritesSome Cross table old new = (crossed : Crossed) × GrowsBy old new (crossed_line crossed)
+WritesSome Get table old new = ⊤
+
+-- how many steps were counted, and pages fetched
+pub record Spent : Type 0 where
+  pub steps : ℕ
+  pub fetches : ℕ
+
+-- what a command takes of a file of this table, besides: a dump fetches the pages of its rows once more after the
+-- checks; a look-up takes the head, the way to the row, and its chains twice
+abbrev pub TakesFew : Task → List ℕ → List ℕ → TableDef → Spent → Spent → Type 0
+TakesFew Dump key file table before now =
+    now.fetches ≤ before.fetches + check_steps (page_count file) + row_pages file table
+TakesFew Get key file table before now = (sought : Key) → SpellsKey table key sought
+    → (now.steps ≤ before.steps + steps_for file table sought)
+    × (now.fetches ≤ before.fetches + steps_for file table sought)
+TakesFew _ key file table before now = ⊤
 
 -- the whole promise of a command on a table
 pub record Serves {F Q O : Type 0} (f : FileOf F) (q : SourceOf Q) (o : SinkOf O) (task : Task) (key : List ℕ)
     (file file_now : F) (schema schema_now : Q) (out out_now : O) (steps steps_now : ℕ) (status : Status) : Type 0 where
-  pub of_table : IsOfTable status
+  pub of_task : IsOfTask task status
   pub inputs : ReadsInputs f q task key file file_now schema schema_now steps steps_now status
   -- what is written, where the inputs are told
   pub leaves : (told : Told) → Tells f q file schema told
       → Leaves task key told status (o.written out) (o.written out_now) (q.left schema_now)
+  -- and if they define no output, the sink itself is as before
+  pub silent : (told : Told) → Tells f q file schema told
+      → ((output : List ℕ) → ¬ (Gives task key told Done output)) → out_now ≡ out
   -- and whatever they tell
   pub unwritten : ComesBefore task status → out_now ≡ out
+  pub some : status ≡ Done → OfSchema (q.left schema) (λ table. WritesSome task table (o.written out) (o.written out_now))
+  -- what it takes of the file, where the inputs are told
+  pub few : (told : Told) → Tells f q file schema told → (table : TableDef) → IsTextOf table told.schema
+      → TakesFew task key told.file table (record { steps = steps; fetches = f.fetches file })
+      (record { steps = steps_now; fetches = f.fetches file_now })
   pub sink : status ≡ SinkFault → Rose (o.faults out) (o.faults out_now)

@@ -5,6 +5,7 @@ ghost use Rattle.page_source.specs.Calls.{Puts};
 ghost use Rattle.page_source.specs.Objects.{IsFresh};
 ghost use Rattle.ibd_cli.specs.Build.{ServesBuild, built_line};
 
+use crate::laws::built_files_dump_as_read;
 use crate::status::Status;
 use command_line::read_schema;
 use itoa::Buffer;
@@ -31,10 +32,11 @@ pub fn build_file<Q: ByteSource, R: ByteSource, O: ByteSink, T: PageStore, L: Le
         (record { schema = schema.new; rows = rows.new; out = out.new; target = target.new }) result }
     ensures steps { steps.new ≡ steps.old }
 {
-    // A schema text is that of one table, and a table and a text have one outcome.
+    // A schema text is that of one table, a table and a text have one outcome, and what is built is dumped as the text.
     has_one_schema();
     texts_pass();
     a_build_has_one_outcome();
+    built_files_dump_as_read();
     match read_schema(alloc, schema) {
         Ok(table) => match build(alloc, rows, &table, target, steps) {
             Ok(built) => match put_built(out, &built) {

@@ -8,6 +8,7 @@ mod cross;
 mod dump;
 mod forms;
 mod get;
+pub mod laws;
 mod objects;
 mod report;
 mod run;
@@ -35,5 +36,5 @@ fn main(rt: HostRuntime) -> ExitCode {
             Status::Memory
         }
     };
-    ExitCode::from(status.number())
+    status.exit_code()
 }

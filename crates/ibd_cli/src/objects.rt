@@ -2,8 +2,9 @@
 
 ghost use Rattle.std.specs.Prelude.{◌≡◌, ◌<◌, ℕ, slice_get};
 ghost use Rattle.page_source.specs.Objects.{IsFresh};
+ghost use Rattle.page_source.specs.Sources.{pages_to_read, text_to_read, pages_to_make};
 ghost use Rattle.ibd_cli.specs.Forms.{IsForm};
-ghost use Rattle.ibd_cli.specs.Program.{Runs};
+ghost use Rattle.ibd_cli.specs.Program.{Runs, telling};
 
 use crate::forms::Form;
 use crate::run::run;
@@ -46,10 +47,10 @@ pub type RealObjects<'a> = Objects<
 /// The objects that the words name: the schema text by the first word behind the command, the tablespace by the second,
 /// or in a build the rows by the second and the tablespace by the third. None is opened before its first call.
 pub fn name_objects<'a>(rt: &'a HostRuntime, words: &'a Words) -> RealObjects<'a>
-    ensures file { result.file ≡ record { word = slice_get words.now 2; faults = 0; fetches = 0 } }
-    ensures schema { result.schema ≡ record { word = slice_get words.now 1; faults = 0 } }
-    ensures rows { result.rows ≡ record { word = slice_get words.now 2; faults = 0 } }
-    ensures target { result.target ≡ record { word = slice_get words.now 3; faults = 0 } }
+    ensures file { result.file ≡ pages_to_read (slice_get words.now 2) }
+    ensures schema { result.schema ≡ text_to_read (slice_get words.now 1) }
+    ensures rows { result.rows ≡ text_to_read (slice_get words.now 2) }
+    ensures target { result.target ≡ pages_to_make (slice_get words.now 3) }
     ensures out { result.out ≡ 0 }
     ensures err { result.err ≡ 0 }
 {
@@ -79,14 +80,7 @@ where
         requires shared { 0 < blank.parts }
         requires fresh { IsForm words.now Form.Build → IsFresh (T.told self.old.target) }
         ensures { (steps : ℕ) × Runs
-            (record {
-              file = F.PageSource;
-              schema = Q.ByteSource;
-              rows = R.ByteSource;
-              out = O.ByteSink;
-              err = E.ByteSink;
-              target = T.PageStore;
-            })
+            (telling F.PageSource Q.ByteSource R.ByteSource O.ByteSink E.ByteSink T.PageStore)
             words.now self.old self.new 0 steps result }
     {
         run(

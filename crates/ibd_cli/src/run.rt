@@ -4,7 +4,7 @@ ghost use Rattle.page_source.specs.Objects.{IsFresh};
 ghost use Rattle.ibd_cli.specs.Forms.{IsForm};
 ghost use Rattle.ibd_cli.specs.Answers.{ServesFile};
 ghost use Rattle.ibd_cli.specs.Run.{Serves};
-ghost use Rattle.ibd_cli.specs.Program.{Runs};
+ghost use Rattle.ibd_cli.specs.Program.{Runs, six, telling};
 
 use crate::build::build_file;
 use crate::check::check_file;
@@ -26,8 +26,8 @@ use std::sync::ledger::Ledger;
 use table_check::laws::{checks_are_validity, first_has_one_answer};
 
 /// Does what the words ask for, and answers how it ended. The words are those of the command line
-/// without the program's name; `file`, `schema` and `rows` are read, `out`, `err` and `target` written. `Runs` says of each
-/// form of the words which objects are called, how they stand at the end, and which status it is.
+/// without the program's name; `file`, `schema` and `rows` are read, `out`, `err` and `target` written. `Runs` says of
+/// each form of the words which objects are called, how they stand at the end, and which status it is.
 pub fn run<
     F: PageSource,
     Q: ByteSource,
@@ -48,33 +48,9 @@ pub fn run<
     steps: &mut Steps<L>,
 ) -> Status
     requires fresh { IsForm words.now Form.Build → IsFresh (T.told target.old) }
-    ensures { Runs
-        (record {
-          file = F.PageSource;
-          schema = Q.ByteSource;
-          rows = R.ByteSource;
-          out = O.ByteSink;
-          err = E.ByteSink;
-          target = T.PageStore;
-        })
-        words.now
-        (record {
-          file = file.old;
-          schema = schema.old;
-          rows = rows.old;
-          out = out.old;
-          err = err.old;
-          target = target.old;
-        })
-        (record {
-          file = file.new;
-          schema = schema.new;
-          rows = rows.new;
-          out = out.new;
-          err = err.new;
-          target = target.new;
-        })
-        steps.old steps.new result }
+    ensures { Runs (telling F.PageSource Q.ByteSource R.ByteSource O.ByteSink E.ByteSink T.PageStore) words.now
+        (six file.old schema.old rows.old out.old err.old target.old)
+        (six file.new schema.new rows.new out.new err.new target.new) steps.old steps.new result }
 {
     let status = match form_of(words) {
         None => Status::Usage,

@@ -1,6 +1,7 @@
 //! How a command ended: its exit status, and its line on the standard error.
 
 ghost use Rattle.std.specs.Prelude.{◌≡◌};
+ghost use Rattle.std.specs.Process.{exit_status};
 ghost use Rattle.ibd_cli.specs.Answers.{status_of_schema, status_of_stop, status_of_dump};
 ghost use Rattle.ibd_cli.specs.Answers.{status_of_cross, status_of_get, status_of_build, status_of_sample};
 ghost use Rattle.ibd_cli.specs.Lines.{status_number};
@@ -13,6 +14,7 @@ use sample_table::SampleStop;
 use schema_text::SchemaWhy;
 use space_builder::{BuildStop, RowsWhy};
 use sql_dump::DumpStop;
+use std::process::ExitCode;
 
 /// How a command ended.
 #[derive(Clone, Copy, Debug, PartialEq, Eq)]
@@ -68,6 +70,13 @@ impl Status {
             Status::KeyRefused => 13,
             Status::Absent => 14,
         }
+    }
+
+    /// What `main` returns, so that the process ends with that number.
+    pub fn exit_code(&self) -> ExitCode
+        ensures { exit_status result ≡ status_number self.now }
+    {
+        ExitCode::from(self.number())
     }
 }
 

@@ -2,6 +2,7 @@
 
 ghost use Rattle.std.specs.Prelude.{◌≡◌, ◌<◌, ℕ, slice_get};
 ghost use Rattle.ibd_salvage.specs.Program.{Runs};
+ghost use Rattle.page_source.specs.Sources.{pages_to_read, text_to_read};
 
 use crate::run::run_salvage;
 use crate::status::SalvageStatus;
@@ -35,8 +36,8 @@ pub type RealObjects<'a> = Objects<
 /// The objects that the words name: the schema text by the word after the kind, the tablespace by the next one. None is
 /// opened before its first call.
 pub fn name_objects<'a>(rt: &'a HostRuntime, words: &'a Words) -> RealObjects<'a>
-    ensures file { result.file ≡ record { word = slice_get words.now 2; faults = 0; fetches = 0 } }
-    ensures schema { result.schema ≡ record { word = slice_get words.now 1; faults = 0 } }
+    ensures file { result.file ≡ pages_to_read (slice_get words.now 2) }
+    ensures schema { result.schema ≡ text_to_read (slice_get words.now 1) }
     ensures out { result.out ≡ 0 }
     ensures err { result.err ≡ 0 }
 {

@@ -10,6 +10,7 @@ returns-in-Ok-put_built-clause-builds g c =
       texts = one_answer c.has_one_schema.ensures.texts c.texts_pass.ensures.pass c.texts_pass.ensures.one_answer;
       roots = c.a_build_has_one_outcome.ensures.roots;
       outcome = c.a_build_has_one_outcome.ensures.outcome;
+      dumps = c.built_files_dump_as_read.ensures;
     })
     _ _ _ c.in-Ok.table c.in-Ok-build.built
     (record {
@@ -18,6 +19,7 @@ returns-in-Ok-put_built-clause-builds g c =
       reads = c.in-Ok-build.ensures.read;
       cause = c.in-Ok-build.ensures.cause;
       untouched = c.in-Ok-build.ensures.untouched;
+      memory = c.in-Ok-build.ensures.memory;
     })
     c.in-Ok-put_built.ensures.ok
 
@@ -28,6 +30,7 @@ returns-in-Ok-build-clause-builds g c =
       texts = one_answer c.has_one_schema.ensures.texts c.texts_pass.ensures.pass c.texts_pass.ensures.one_answer;
       roots = c.a_build_has_one_outcome.ensures.roots;
       outcome = c.a_build_has_one_outcome.ensures.outcome;
+      dumps = c.built_files_dump_as_read.ensures;
     })
     _ _ _ c.in-Ok.table c.in-Ok-build.built
     (record {
@@ -36,6 +39,7 @@ returns-in-Ok-build-clause-builds g c =
       reads = c.in-Ok-build.ensures.read;
       cause = c.in-Ok-build.ensures.cause;
       untouched = c.in-Ok-build.ensures.untouched;
+      memory = c.in-Ok-build.ensures.memory;
     })
     c.in-Err-put_built.ensures.failed c.in-Err-put_built.ensures.cause.failed
 
@@ -47,6 +51,7 @@ returns-in-Ok-clause-builds g c =
       texts = one_answer c.has_one_schema.ensures.texts c.texts_pass.ensures.pass c.texts_pass.ensures.one_answer;
       roots = c.a_build_has_one_outcome.ensures.roots;
       outcome = c.a_build_has_one_outcome.ensures.outcome;
+      dumps = c.built_files_dump_as_read.ensures;
     })
     _ _ _ c.in-Ok.table c.in-Err-build.stop
     (record {
@@ -55,6 +60,7 @@ returns-in-Ok-clause-builds g c =
       reads = c.in-Err-build.ensures.read;
       cause = c.in-Err-build.ensures.cause;
       untouched = c.in-Err-build.ensures.untouched;
+      memory = c.in-Err-build.ensures.memory;
     })
     refl)
 
@@ -66,6 +72,7 @@ returns-clause-builds g c =
       texts = one_answer c.has_one_schema.ensures.texts c.texts_pass.ensures.pass c.texts_pass.ensures.one_answer;
       roots = c.a_build_has_one_outcome.ensures.roots;
       outcome = c.a_build_has_one_outcome.ensures.outcome;
+      dumps = c.built_files_dump_as_read.ensures;
     })
     _ _ _ c.in-Err.stop
     (record {

@@ -10,6 +10,7 @@ returns-in-Ok g c =
       refused = c.in-Ok.ensures.refused;
       first = c.in-Ok.ensures.first;
       over = c.in-Ok.ensures.over;
+      few = c.in-Ok.ensures.few;
       cost = c.in-Ok.ensures.steps;
       fetches = c.in-Ok.ensures.fetches;
     })
@@ -24,6 +25,7 @@ returns-in-Err g c =
       refused = c.in-Err.ensures.refused;
       first = c.in-Err.ensures.first;
       over = c.in-Err.ensures.over;
+      few = c.in-Err.ensures.few;
       cost = c.in-Err.ensures.steps;
       fetches = c.in-Err.ensures.fetches;
     }))

@@ -25,7 +25,7 @@ returns g c = record {
     λ usage.
         elim c.match-form_of.branch [
           | in-None w ↦ w.in-None.ensures
-          | in-Some-Table w ↦ absurd (never_usage _ w.serve-status.ensures.of_table (sym w.status-is ∙ usage))
+          | in-Some-Table w ↦ absurd (never_usage _ _ w.serve-status.ensures.of_task (sym w.status-is ∙ usage))
           | in-Some-Build w ↦
               absurd (build_never_usage _ _ _ _ w.build_file-status.ensures.builds (sym w.status-is ∙ usage))
           | in-Some-Sample w ↦
