@@ -1,12 +1,12 @@
 //! One line of the cases.
 
 use crate::command::{BuildCase, Command, try_schema};
-use crate::error::LineError;
-use crate::plan::Plan;
 use crate::report::Report;
-use crate::shelf::Shelf;
-use crate::text::decode;
-use crate::words::Words;
+use case_files::error::LineError;
+use case_files::named_files::NamedFiles;
+use case_files::plan::Plan;
+use case_files::text::decode;
+use case_files::words::Words;
 use std::alloc::Global;
 
 /// What goes before the words on what is tried.
@@ -18,7 +18,7 @@ fn without_words(line: &str) -> &str {
 }
 
 /// Tries a line: what it names is named from then on, and its cases are counted.
-pub fn try_line(alloc: Global, shelf: &mut Shelf, line: &str) -> Result<Report, LineError> {
+pub fn try_line(alloc: Global, files: &mut NamedFiles, line: &str) -> Result<Report, LineError> {
     let mut report = Report::new(alloc);
     if line.is_empty() || line.starts_with('#') {
         return Ok(report);
@@ -29,12 +29,12 @@ pub fn try_line(alloc: Global, shelf: &mut Shelf, line: &str) -> Result<Report, 
         None => (case, None),
     };
     if let Some((name, text)) = text_of(what, "schema") {
-        try_schema_line(alloc, shelf, name, text, answer, &mut report)?;
+        try_schema_line(alloc, files, name, text, answer, &mut report)?;
     } else if let Some((name, made)) = text_of(what, "file") {
-        name_file(alloc, shelf, name, made, answer)?;
+        name_file(alloc, files, name, made, answer)?;
     } else {
         let answer = answer.ok_or(LineError::NoAnswer)?;
-        try_command(alloc, shelf, what, answer, &mut report)?;
+        try_command(alloc, files, what, answer, &mut report)?;
     }
     Ok(report)
 }
@@ -52,7 +52,7 @@ fn text_of<'a>(what: &'a str, word: &str) -> Option<(&'a str, &'a str)> {
 /// Names a schema text where the line does, and tries it where there is an answer.
 fn try_schema_line(
     alloc: Global,
-    shelf: &mut Shelf,
+    files: &mut NamedFiles,
     name: &str,
     text: &str,
     answer: Option<&str>,
@@ -63,7 +63,7 @@ fn try_schema_line(
         try_schema(alloc, text.bytes(), answer, report)?;
     }
     if !name.is_empty() {
-        return shelf.put_schema(alloc, name, text);
+        return files.put_schema(alloc, name, text);
     }
     match answer {
         Some(_) => Ok(()),
@@ -74,7 +74,7 @@ fn try_schema_line(
 /// Names a file: one that is made of another one, or what a build leaves.
 fn name_file(
     alloc: Global,
-    shelf: &mut Shelf,
+    files: &mut NamedFiles,
     name: &str,
     made: &str,
     answer: Option<&str>,
@@ -83,22 +83,22 @@ fn name_file(
         return Err(LineError::Word);
     }
     if let Some(build) = made.strip_prefix("build ") {
-        let base = BuildCase::read(alloc, build)?.base(alloc, shelf)?;
-        return shelf.put_file(alloc, name, base);
+        let base = BuildCase::read(alloc, build)?.base(alloc, files)?;
+        return files.put_file(alloc, name, base);
     }
     let mut words = Words::of(alloc, made)?;
     let plan = Plan::read(alloc, &mut words)?;
     words.end()?;
-    let base = shelf.made(alloc, &plan)?;
-    shelf.put_file(alloc, name, base)
+    let base = files.made(alloc, &plan)?;
+    files.put_file(alloc, name, base)
 }
 
 fn try_command(
     alloc: Global,
-    shelf: &Shelf,
+    files: &NamedFiles,
     what: &str,
     answer: &str,
     report: &mut Report,
 ) -> Result<(), LineError> {
-    Command::read(alloc, what)?.run(alloc, shelf, answer, report)
+    Command::read(alloc, what)?.run(alloc, files, answer, report)
 }

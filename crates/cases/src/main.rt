@@ -3,26 +3,13 @@
 #![tactic(auto)]
 
 mod command;
-mod edit;
-mod error;
-mod failing;
-mod hex;
 mod line;
 mod outcome;
-mod pages;
-mod plan;
 mod report;
-mod rows;
 mod run;
-mod sheaf;
-mod shelf;
-mod store;
-mod text;
-mod unread;
-mod words;
 
+use case_files::named_files::NamedFiles;
 use line::try_line;
-use shelf::Shelf;
 use std::alloc::Global;
 use std::io::{BufRead, BufReader};
 
@@ -39,10 +26,10 @@ impl Tally {
         &mut self,
         rt: &R,
         alloc: Global,
-        shelf: &mut Shelf,
+        files: &mut NamedFiles,
         line: &str,
     ) -> anyhow::Result<()> {
-        match try_line(alloc, shelf, line) {
+        match try_line(alloc, files, line) {
             Ok(report) => {
                 self.passed = self.passed.saturating_add(report.passed());
                 self.failed = self.failed.saturating_add(report.failed());
@@ -62,13 +49,13 @@ impl Tally {
 
 fn main(rt: HostRuntime) -> anyhow::Result<()> {
     let alloc = rt.alloc();
-    let mut shelf = Shelf::new(alloc)?;
+    let mut files = NamedFiles::new(alloc)?;
     let mut tally = Tally {
         passed: 0,
         failed: 0,
     };
     for line in BufReader::new(alloc, rt.reader())?.lines(alloc) {
-        tally.count_line(&rt, alloc, &mut shelf, line?.as_str())?;
+        tally.count_line(&rt, alloc, &mut files, line?.as_str())?;
     }
     if tally.passed == 0 && tally.failed == 0 {
         tally.failed = 1;

@@ -1,7 +1,7 @@
 //! How a call ended, and the words for it.
 
-use crate::error::LineError;
-use crate::text::{put_hex, put_number};
+use case_files::error::LineError;
+use case_files::text::{put_hex, put_number};
 use cross_index::{CrossStop, Crossed};
 use fil_frame::crc32c;
 use image_listing::ListStop;

@@ -1,7 +1,7 @@
 //! What is said of a line that was tried.
 
-use crate::error::LineError;
-use crate::text::encode;
+use case_files::error::LineError;
+use case_files::text::encode;
 use page_source::ByteList;
 use std::alloc::Global;
 

@@ -2,13 +2,13 @@
 
 ghost use Rattle.std.specs.Prelude.{◌≡◌, ◌<◌};
 
-use crate::error::LineError;
 use crate::outcome::{End, Outcome, put_checked, put_crossed};
-use crate::pages::{CasePages, Image};
-use crate::plan::{Plan, Trouble};
-use crate::sheaf::Sheaf;
-use crate::shelf::{Base, Shelf, edited};
-use crate::words::Range;
+use case_files::edited_pages::EditedPages;
+use case_files::error::LineError;
+use case_files::named_files::{Base, NamedFiles, edited};
+use case_files::pages::{CasePages, Image};
+use case_files::plan::{Plan, Trouble};
+use case_files::words::Range;
 use cross_index::cross;
 use key_lookup::get;
 use page_source::{ByteList, Fails, MemorySink, NoMemory, PAGE_SIZE, Steps, Stop};
@@ -76,7 +76,7 @@ pub enum Hitch {
 #[derive(Drop)]
 pub struct Ready<'a> {
     base: &'a Base,
-    over: Sheaf,
+    over: EditedPages,
     pages: u32,
     schema: &'a [u8],
     later: Option<&'a Base>,
@@ -89,23 +89,27 @@ fn page_count(bytes: u64) -> u32 {
 
 impl<'a> Ready<'a> {
     /// The file of the plan.
-    pub fn new(alloc: Global, shelf: &'a Shelf, plan: &Plan<'a>) -> Result<Ready<'a>, LineError> {
-        let base = shelf.file(plan.base)?;
+    pub fn new(
+        alloc: Global,
+        files: &'a NamedFiles,
+        plan: &Plan<'a>,
+    ) -> Result<Ready<'a>, LineError> {
+        let base = files.file(plan.base)?;
         let later = match plan.trouble {
-            Trouble::Turns(name, _) => Some(shelf.file(name)?),
+            Trouble::Turns(name, _) => Some(files.file(name)?),
             _ => None,
         };
         Ok(Ready {
             base,
-            over: edited(alloc, &base.sheaf, plan)?,
+            over: edited(alloc, &base.pages, plan)?,
             pages: page_count(base.resized(plan.size)),
-            schema: shelf.schema_of(plan)?,
+            schema: files.schema_of(plan)?,
             later,
         })
     }
 
     /// The file with these pages over its own.
-    pub fn of(base: &'a Base, over: Sheaf, schema: &'a [u8]) -> Ready<'a> {
+    pub fn of(base: &'a Base, over: EditedPages, schema: &'a [u8]) -> Ready<'a> {
         Ready {
             base,
             over,
@@ -119,19 +123,19 @@ impl<'a> Ready<'a> {
     pub fn image(&self) -> Image<'_> {
         Image {
             over: &self.over,
-            under: &self.base.sheaf,
+            under: &self.base.pages,
             pages: self.pages,
         }
     }
 
-    /// Its edited pages.
-    pub fn over(&mut self) -> &mut Sheaf {
+    /// The edited pages of the file.
+    pub fn over(&mut self) -> &mut EditedPages {
         &mut self.over
     }
 
     /// The pages that lie under these.
-    pub fn under(&self) -> &'a Sheaf {
-        &self.base.sheaf
+    pub fn under(&self) -> &'a EditedPages {
+        &self.base.pages
     }
 
     /// How many whole pages the file has.
@@ -153,8 +157,8 @@ impl<'a> Ready<'a> {
                 file.turn_at(
                     call,
                     Image {
-                        over: &base.sheaf,
-                        under: &base.sheaf,
+                        over: &base.pages,
+                        under: &base.pages,
                         pages: page_count(base.size),
                     },
                 );

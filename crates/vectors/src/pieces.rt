@@ -130,7 +130,7 @@ pub(crate) const TWO_LEAVES: [Piece<'static>; 15] = [
     (4, 107, b"\x03"),
     (4, 120, b"\0\0\x10\0\x16\x80\0\0\x01"),
     (4, 142, b"\0\0\x18\xFF\xDD\x80\0\0\x02"),
-    // The same with the rows 5 and 6.
+    // Page 5: heap top 164, four records on the heap, two in the chain; then the rows 5 and 6.
     (5, 40, b"\0\xA4\x80\x04"),
     (5, 54, b"\0\x02"),
     (5, 97, b"\0\x1A"),
@@ -219,7 +219,7 @@ pub(crate) const THREE_LEVELS: [Piece<'static>; 31] = [
     (4, 97, b"\0\x1A"),
     (4, 107, b"\x02"),
     (4, 120, b"\x10\0\x11\xFF\xF3\x80\0\0\x01\0\0\0\x06"),
-    // The same with the pointer from the key 7 on to page 7, without the mark.
+    // Page 5 with one pointer, from the key 7 on to page 7, without the minimum mark.
     (5, 40, b"\0\x85\x80\x03"),
     (5, 54, b"\0\x01"),
     (5, 64, b"\0\x01"),

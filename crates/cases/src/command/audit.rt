@@ -2,15 +2,15 @@
 
 ghost use Rattle.std.specs.Prelude.{◌≡◌, ◌<◌};
 
-use crate::error::LineError;
 use crate::outcome::End;
-use crate::pages::CasePages;
-use crate::plan::Plan;
 use crate::report::Report;
 use crate::run::Ready;
-use crate::shelf::Shelf;
-use crate::text::put_number;
-use crate::words::{Words, page_number};
+use case_files::error::LineError;
+use case_files::named_files::NamedFiles;
+use case_files::pages::CasePages;
+use case_files::plan::Plan;
+use case_files::text::put_number;
+use case_files::words::{Words, page_number};
 use page_source::{ByteList, NoMemory, Steps, Stop};
 use schema_text::Schema;
 use space_audit::{Owner, Space, audit};
@@ -50,11 +50,11 @@ impl<'a> AuditCase<'a> {
     pub fn run(
         &self,
         alloc: Global,
-        shelf: &Shelf,
+        files: &NamedFiles,
         answer: &str,
         report: &mut Report,
     ) -> Result<(), LineError> {
-        let ready = Ready::new(alloc, shelf, &self.plan)?;
+        let ready = Ready::new(alloc, files, &self.plan)?;
         let mut came = ByteList::new(alloc);
         match audit_of(alloc, &ready) {
             Ok(space) => {

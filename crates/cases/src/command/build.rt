@@ -2,17 +2,17 @@
 
 ghost use Rattle.std.specs.Prelude.{◌≡◌, ◌<◌};
 
-use crate::error::LineError;
-use crate::failing::{Failing, Object, which_of};
 use crate::outcome::{End, put_checked};
 use crate::report::Report;
-use crate::rows::rows_of;
 use crate::run::{Hitch, Ready, Task};
-use crate::sheaf::Sheaf;
-use crate::shelf::{Base, Shelf, copied};
-use crate::store::CaseStore;
-use crate::text::{put_hex, put_number};
-use crate::words::Words;
+use case_files::edited_pages::EditedPages;
+use case_files::error::LineError;
+use case_files::failing::{Failing, Object, which_of};
+use case_files::named_files::{Base, NamedFiles, copied};
+use case_files::rows::rows_of;
+use case_files::store::CaseStore;
+use case_files::text::{put_hex, put_number};
+use case_files::words::Words;
 use fil_frame::crc32c;
 use page_source::{ByteList, Fails, MemoryBytes, NoMemory, Page, Steps};
 use schema_text::Schema;
@@ -61,11 +61,11 @@ impl<'a> BuildCase<'a> {
     pub fn run(
         &self,
         alloc: Global,
-        shelf: &Shelf,
+        files: &NamedFiles,
         answer: &str,
         report: &mut Report,
     ) -> Result<(), LineError> {
-        let schema = shelf.schema(self.schema)?;
+        let schema = files.schema(self.schema)?;
         let calls = self.failing.calls;
         for call in calls.first..calls.last.saturating_add(1) {
             let came = self.said_at(alloc, schema, call)?;
@@ -76,8 +76,8 @@ impl<'a> BuildCase<'a> {
     }
 
     /// The file that the build leaves, where the first of the calls fails that are to.
-    pub fn base(&self, alloc: Global, shelf: &Shelf) -> Result<Base, LineError> {
-        let schema = shelf.schema(self.schema)?;
+    pub fn base(&self, alloc: Global, files: &NamedFiles) -> Result<Base, LineError> {
+        let schema = files.schema(self.schema)?;
         match Schema::read(alloc, schema) {
             Ok(table) => {
                 let left = self.left_at(alloc, &table, self.failing.calls.first)?;
@@ -141,7 +141,7 @@ impl<'a> BuildCase<'a> {
     ) -> Result<(), LineError> {
         text.extend(b" sum=")?;
         put_hex(text, file_sum(alloc, base, built.pages)?)?;
-        let ready = Ready::of(base, Sheaf::new(alloc), base.schema.bytes());
+        let ready = Ready::of(base, EditedPages::new(alloc), base.schema.bytes());
         put_check(alloc, text, &ready, built)?;
         self.put_dump(alloc, text, &ready)
     }
@@ -192,7 +192,7 @@ fn build_into<L: Ledger>(
 fn base_of(alloc: Global, schema: &[u8], store: CaseStore) -> Result<Base, LineError> {
     Ok(Base {
         size: store.bytes(),
-        sheaf: store.into_pages(),
+        pages: store.into_pages(),
         schema: copied(alloc, schema)?,
     })
 }
@@ -202,7 +202,7 @@ fn file_sum(alloc: Global, base: &Base, pages: u32) -> Result<u32, NoMemory> {
     let zeros = Page::zeroed(alloc)?;
     let mut bytes = ByteList::new(alloc);
     for n in 0..pages {
-        let page = base.sheaf.find(n).unwrap_or(&zeros);
+        let page = base.pages.find(n).unwrap_or(&zeros);
         bytes.extend(page.bytes())?;
     }
     Ok(crc32c(bytes.bytes()))

@@ -1,15 +1,15 @@
 //! The commands `carve_list` and `carve_take`: what stands in a raw image of a disk.
 
-use crate::error::LineError;
-use crate::failing::{Failing, Object, which_of};
-use crate::hex::bytes_of;
 use crate::outcome::{End, Outcome};
 use crate::report::Report;
 use crate::run::{Hitch, sink_of, written_of};
-use crate::shelf::{Shelf, copied};
-use crate::store::CaseStore;
-use crate::text::{decode, put_number};
-use crate::words::{Range, Words, page_number};
+use case_files::error::LineError;
+use case_files::failing::{Failing, Object, which_of};
+use case_files::hex::bytes_of;
+use case_files::named_files::{NamedFiles, copied};
+use case_files::store::CaseStore;
+use case_files::text::{decode, put_number};
+use case_files::words::{Range, Words, page_number};
 use image_carve::{TakeStop, Taken, take};
 use image_listing::list;
 use page_source::{ByteList, Fails, MemoryBytes, NoMemory, Page};
@@ -54,11 +54,11 @@ impl<'a> CarveCase<'a> {
     pub fn run(
         &self,
         alloc: Global,
-        shelf: &Shelf,
+        files: &NamedFiles,
         answer: &str,
         report: &mut Report,
     ) -> Result<(), LineError> {
-        let image = self.image(alloc, shelf)?;
+        let image = self.image(alloc, files)?;
         let wanted = decode(alloc, answer)?;
         let calls = self.failing.calls;
         for call in calls.first..calls.last.saturating_add(1) {
@@ -73,10 +73,10 @@ impl<'a> CarveCase<'a> {
     }
 
     /// The bytes of all pieces, one after another.
-    fn image(&self, alloc: Global, shelf: &Shelf) -> Result<ByteList, LineError> {
+    fn image(&self, alloc: Global, files: &NamedFiles) -> Result<ByteList, LineError> {
         let mut image = ByteList::new(alloc);
         for piece in &self.pieces {
-            put_piece(alloc, &mut image, shelf, piece)?;
+            put_piece(alloc, &mut image, files, piece)?;
         }
         Ok(image)
     }
@@ -157,10 +157,15 @@ impl<'a> Part<'a> {
     }
 
     /// Adds them. A page that isn't kept is zeros.
-    fn put(&self, alloc: Global, image: &mut ByteList, shelf: &Shelf) -> Result<(), LineError> {
+    fn put(
+        &self,
+        alloc: Global,
+        image: &mut ByteList,
+        files: &NamedFiles,
+    ) -> Result<(), LineError> {
         let zeros = Page::zeroed(alloc)?;
-        let file = shelf.file(self.name)?;
-        let page = file.sheaf.find(self.page).unwrap_or(&zeros);
+        let file = files.file(self.name)?;
+        let page = file.pages.find(self.page).unwrap_or(&zeros);
         let (first, last) = (self.bytes.first as usize, self.bytes.last as usize);
         let bytes = page.bytes().get(first..last).ok_or(LineError::Place)?;
         image.extend(bytes)?;
@@ -172,12 +177,12 @@ impl<'a> Part<'a> {
 fn put_piece(
     alloc: Global,
     image: &mut ByteList,
-    shelf: &Shelf,
+    files: &NamedFiles,
     piece: &str,
 ) -> Result<(), LineError> {
     match piece.strip_prefix('=') {
         Some(bytes) => image.extend(bytes_of(alloc, bytes)?.bytes())?,
-        None => Part::read(piece)?.put(alloc, image, shelf)?,
+        None => Part::read(piece)?.put(alloc, image, files)?,
     }
     Ok(())
 }

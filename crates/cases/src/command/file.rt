@@ -1,12 +1,12 @@
 //! The commands `check`, `dump`, `both`, `cross` and `fetches`: a file through all rules.
 
-use crate::error::LineError;
-use crate::plan::{Plan, Trouble};
 use crate::report::Report;
 use crate::run::{Hitch, Ready, Task, hitch_at, numbers_of};
-use crate::shelf::{Shelf, copied};
-use crate::text::{decode, put_number};
-use crate::words::{Range, Words};
+use case_files::error::LineError;
+use case_files::named_files::{NamedFiles, copied};
+use case_files::plan::{Plan, Trouble};
+use case_files::text::{decode, put_number};
+use case_files::words::{Range, Words};
 use page_source::ByteList;
 use std::alloc::Global;
 
@@ -40,12 +40,12 @@ impl<'a> FileCase<'a> {
     pub fn run(
         &self,
         alloc: Global,
-        shelf: &Shelf,
+        files: &NamedFiles,
         tasks: &[Task<'_>],
         answer: &str,
         report: &mut Report,
     ) -> Result<(), LineError> {
-        let ready = Ready::new(alloc, shelf, &self.plan)?;
+        let ready = Ready::new(alloc, files, &self.plan)?;
         let wanted = decode(alloc, answer)?;
         for task in tasks {
             self.run_task(alloc, &ready, *task, wanted.bytes(), report)?;
@@ -120,11 +120,11 @@ impl<'a> FetchCase<'a> {
     pub fn run(
         &self,
         alloc: Global,
-        shelf: &Shelf,
+        files: &NamedFiles,
         answer: &str,
         report: &mut Report,
     ) -> Result<(), LineError> {
-        let ready = Ready::new(alloc, shelf, &self.plan)?;
+        let ready = Ready::new(alloc, files, &self.plan)?;
         let file = ready.fetches(alloc, self.task)?;
         let mut came = ByteList::new(alloc);
         for page in file.fetched() {

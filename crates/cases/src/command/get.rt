@@ -1,13 +1,13 @@
 //! The command `get`: the row with a key.
 
 use crate::command::file::FileCase;
-use crate::error::LineError;
-use crate::plan::Plan;
 use crate::report::Report;
 use crate::run::{Ready, Task};
-use crate::shelf::Shelf;
-use crate::text::{decode, put_number};
-use crate::words::Words;
+use case_files::error::LineError;
+use case_files::named_files::NamedFiles;
+use case_files::plan::Plan;
+use case_files::text::{decode, put_number};
+use case_files::words::Words;
 use page_source::ByteList;
 use std::alloc::Global;
 
@@ -42,18 +42,18 @@ impl<'a> GetCase<'a> {
     pub fn run(
         &self,
         alloc: Global,
-        shelf: &Shelf,
+        files: &NamedFiles,
         answer: &str,
         report: &mut Report,
     ) -> Result<(), LineError> {
         let task = Task::Get(self.key.bytes());
-        self.file.run(alloc, shelf, &[task], answer, report)?;
+        self.file.run(alloc, files, &[task], answer, report)?;
         let is_refused = answer == "key";
         let steps = if is_refused { Some(0) } else { self.steps };
         let Some(steps) = steps else {
             return Ok(());
         };
-        let ready = Ready::new(alloc, shelf, self.file.plan())?;
+        let ready = Ready::new(alloc, files, self.file.plan())?;
         let file = ready.fetches(alloc, task)?;
         let ticked = if is_refused {
             file.calls()

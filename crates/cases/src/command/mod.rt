@@ -15,14 +15,14 @@ mod sweep;
 mod value;
 mod walk;
 
-use crate::error::LineError;
 use crate::report::Report;
 use crate::run::Task;
-use crate::shelf::Shelf;
-use crate::words::Words;
 use audit::AuditCase;
 pub use build::BuildCase;
 use carve::CarveCase;
+use case_files::error::LineError;
+use case_files::named_files::NamedFiles;
+use case_files::words::Words;
 use file::{FetchCase, FileCase};
 use get::GetCase;
 use page::PageCase;
@@ -98,29 +98,29 @@ impl<'a> Command<'a> {
     pub fn run(
         &self,
         alloc: Global,
-        shelf: &Shelf,
+        files: &NamedFiles,
         answer: &str,
         report: &mut Report,
     ) -> Result<(), LineError> {
         match self {
-            Command::Check(case) => case.run(alloc, shelf, &[Task::Check], answer, report),
-            Command::Dump(case) => case.run(alloc, shelf, &[Task::Dump], answer, report),
+            Command::Check(case) => case.run(alloc, files, &[Task::Check], answer, report),
+            Command::Dump(case) => case.run(alloc, files, &[Task::Dump], answer, report),
             Command::Both(case) => {
-                case.run(alloc, shelf, &[Task::Check, Task::Dump], answer, report)
+                case.run(alloc, files, &[Task::Check, Task::Dump], answer, report)
             }
-            Command::Cross(case) => case.run(alloc, shelf, &[Task::Cross], answer, report),
-            Command::Salvage(case) => case.run(alloc, shelf, answer, report),
-            Command::Get(case) => case.run(alloc, shelf, answer, report),
-            Command::Build(case) => case.run(alloc, shelf, answer, report),
-            Command::Carve(case) => case.run(alloc, shelf, answer, report),
+            Command::Cross(case) => case.run(alloc, files, &[Task::Cross], answer, report),
+            Command::Salvage(case) => case.run(alloc, files, answer, report),
+            Command::Get(case) => case.run(alloc, files, answer, report),
+            Command::Build(case) => case.run(alloc, files, answer, report),
+            Command::Carve(case) => case.run(alloc, files, answer, report),
             Command::Sample(case) => case.run(alloc, answer, report),
-            Command::Fetches(case) => case.run(alloc, shelf, answer, report),
-            Command::Audit(case) => case.run(alloc, shelf, answer, report),
-            Command::Walk(case) => case.run(alloc, shelf, answer, report),
-            Command::Page(case) => case.run(alloc, shelf, answer, report),
-            Command::Sweep(case) => case.run(alloc, shelf, answer, report),
-            Command::Value(case) => case.run(alloc, shelf, answer, report),
-            Command::Row(case) => case.run(alloc, shelf, answer, report),
+            Command::Fetches(case) => case.run(alloc, files, answer, report),
+            Command::Audit(case) => case.run(alloc, files, answer, report),
+            Command::Walk(case) => case.run(alloc, files, answer, report),
+            Command::Page(case) => case.run(alloc, files, answer, report),
+            Command::Sweep(case) => case.run(alloc, files, answer, report),
+            Command::Value(case) => case.run(alloc, files, answer, report),
+            Command::Row(case) => case.run(alloc, files, answer, report),
         }
     }
 }

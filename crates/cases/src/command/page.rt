@@ -4,13 +4,13 @@ ghost use Rattle.std.specs.Prelude.{◌≡◌, ◌≤◌, length, IfOk};
 ghost use Rattle.index_page.specs.Header.{records_of};
 ghost use Rattle.index_page.specs.Page.{IsIndexPage};
 
-use crate::error::LineError;
-use crate::plan::Plan;
 use crate::report::Report;
 use crate::run::Ready;
-use crate::shelf::Shelf;
-use crate::text::put_number;
-use crate::words::{Words, page_number};
+use case_files::error::LineError;
+use case_files::named_files::NamedFiles;
+use case_files::plan::Plan;
+use case_files::text::put_number;
+use case_files::words::{Words, page_number};
 use column_values::FieldList;
 use index_page::{Scratch, mark_fault, page_fault};
 use page_source::{ByteList, NoMemory, Page, Rule};
@@ -78,11 +78,11 @@ impl<'a> PageCase<'a> {
     pub fn run(
         &self,
         alloc: Global,
-        shelf: &Shelf,
+        files: &NamedFiles,
         answer: &str,
         report: &mut Report,
     ) -> Result<(), LineError> {
-        let ready = Ready::new(alloc, shelf, &self.plan)?;
+        let ready = Ready::new(alloc, files, &self.plan)?;
         let image = ready.image();
         let fields = fields_of(alloc, ready.schema(), self.index, self.stand.leaf)?;
         let mut page = Page::zeroed(alloc)?;

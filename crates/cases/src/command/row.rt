@@ -1,9 +1,9 @@
 //! The commands `line` and `key`: the line of a row, and the text of a key, read and written back.
 
-use crate::error::LineError;
 use crate::report::Report;
-use crate::shelf::{Shelf, copied};
-use crate::text::{decode, put_number};
+use case_files::error::LineError;
+use case_files::named_files::{NamedFiles, copied};
+use case_files::text::{decode, put_number};
 use page_source::{ByteList, Fails, MemorySink};
 use row_text::{Row, RowError, read_key, read_row, write_row};
 use schema_text::{Schema, SchemaError};
@@ -39,11 +39,11 @@ impl<'a> RowCase<'a> {
     pub fn run(
         &self,
         alloc: Global,
-        shelf: &Shelf,
+        files: &NamedFiles,
         answer: &str,
         report: &mut Report,
     ) -> Result<(), LineError> {
-        let schema = Schema::read(alloc, shelf.schema(self.schema)?).map_err(name_error)?;
+        let schema = Schema::read(alloc, files.schema(self.schema)?).map_err(name_error)?;
         let came = match self.what {
             RowText::Line => answer_of_line(alloc, &schema, self.text.bytes())?,
             RowText::Key => answer_of_key(alloc, &schema, self.text.bytes())?,

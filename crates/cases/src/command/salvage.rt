@@ -3,16 +3,16 @@
 ghost use Rattle.std.specs.Prelude.{◌≡◌, ◌<◌};
 
 use crate::command::file::{tries_of, which_of};
-use crate::error::LineError;
 use crate::outcome::{End, put_length, put_saved};
-use crate::pages::CasePages;
-use crate::plan::Plan;
 use crate::report::Report;
 use crate::run::{Hitch, Ready, hitch_at, losses_of, sink_of};
-use crate::shelf::{Shelf, copied};
-use crate::text::decode;
-use crate::unread::Unread;
-use crate::words::Words;
+use case_files::error::LineError;
+use case_files::named_files::{NamedFiles, copied};
+use case_files::pages::CasePages;
+use case_files::plan::Plan;
+use case_files::text::decode;
+use case_files::unread::Unread;
+use case_files::words::Words;
 use fil_frame::crc32c;
 use page_source::{ByteList, MemorySink, NoMemory, Steps};
 use salvage_model::{RecordKind, Saved};
@@ -66,11 +66,11 @@ impl<'a> SalvageCase<'a> {
     pub fn run(
         &self,
         alloc: Global,
-        shelf: &Shelf,
+        files: &NamedFiles,
         answer: &str,
         report: &mut Report,
     ) -> Result<(), LineError> {
-        let ready = Ready::new(alloc, shelf, &self.plan)?;
+        let ready = Ready::new(alloc, files, &self.plan)?;
         let whole = self.salvaged(alloc, &ready, Hitch::None)?;
         let wanted = decode(alloc, answer)?;
         let numbers = tries_of(self.plan.trouble)?;

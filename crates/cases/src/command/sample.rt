@@ -2,10 +2,10 @@
 
 ghost use Rattle.std.specs.Prelude.{◌≡◌, ◌≤◌, ◌<◌};
 
-use crate::error::LineError;
 use crate::outcome::{put_checked, put_length};
 use crate::report::Report;
-use crate::words::Words;
+use case_files::error::LineError;
+use case_files::words::Words;
 use page_source::{ByteList, NoMemory, Steps};
 use sample_table::{Sample, SampleStop, sample};
 use std::alloc::Global;

@@ -1,8 +1,8 @@
 //! The command `schema`: the text of a schema, accepted and printed back, or refused.
 
-use crate::error::LineError;
 use crate::outcome::End;
 use crate::report::Report;
+use case_files::error::LineError;
 use page_source::{ByteList, NoMemory};
 use schema_text::Schema;
 use std::alloc::Global;
@@ -18,7 +18,7 @@ pub fn try_schema(
     report.compare(b"", answer.as_bytes(), came.bytes())
 }
 
-/// `same` where the text is accepted and printed back, what is printed where that is another text, or why it is refused.
+/// `same` if the text is accepted and printed back, what is printed if that is another text, or why it is refused.
 fn answer_of(alloc: Global, text: &[u8]) -> Result<ByteList, NoMemory> {
     let mut came = ByteList::new(alloc);
     match Schema::read(alloc, text) {

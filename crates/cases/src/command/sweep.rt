@@ -1,21 +1,21 @@
 //! The command `sweep`: one bit of one byte after another.
 
-use crate::edit::{Edit, Frame};
-use crate::error::LineError;
-use crate::plan::Plan;
 use crate::report::Report;
 use crate::run::{Hitch, Ready, Task};
-use crate::sheaf::Sheaf;
-use crate::shelf::{Shelf, copied};
-use crate::text::{decode, put_number};
-use crate::words::{Range, Words, any_has, ranges};
+use case_files::edit::{Edit, Frame};
+use case_files::edited_pages::EditedPages;
+use case_files::error::LineError;
+use case_files::named_files::{NamedFiles, copied};
+use case_files::plan::Plan;
+use case_files::text::{decode, put_number};
+use case_files::words::{Range, Words, any_has, ranges};
 use page_source::{ByteList, PAGE_SIZE};
 use std::alloc::Global;
 
 /// Which bytes are changed, and which bits of each.
 #[derive(Drop)]
 struct Tried {
-    /// These of each page.
+    /// Which bytes of each page are changed.
     bytes: Vec<Range>,
     /// Each byte of the file whose place is a multiple of this; none where it is 0.
     every: u64,
@@ -124,7 +124,7 @@ impl<'a> SweepCase<'a> {
     pub fn run(
         &self,
         alloc: Global,
-        shelf: &Shelf,
+        files: &NamedFiles,
         answer: &str,
         report: &mut Report,
     ) -> Result<(), LineError> {
@@ -132,12 +132,12 @@ impl<'a> SweepCase<'a> {
         for text in answer.split("; ") {
             replies.push(Reply::read(alloc, text)?)?;
         }
-        let base = shelf.file(self.base)?;
-        let mut ready = Ready::new(alloc, shelf, &Plan::of(alloc, self.base))?;
+        let base = files.file(self.base)?;
+        let mut ready = Ready::new(alloc, files, &Plan::of(alloc, self.base))?;
         let outcome = ready.run(alloc, self.task, Hitch::None)?;
         let sound = outcome.said_as(alloc, b"", b"")?;
         for n in 0..ready.pages() {
-            *ready.over() = touched(alloc, &base.sheaf, n)?;
+            *ready.over() = touched(alloc, &base.pages, n)?;
             for at in 0..PAGE_SIZE as u16 {
                 if self.tried.has(n, at) {
                     let wanted = wanted_at(alloc, &replies, sound.bytes(), n, at)?;
@@ -171,8 +171,8 @@ impl<'a> SweepCase<'a> {
 }
 
 /// The page alone, as it is.
-fn touched(alloc: Global, under: &Sheaf, n: u32) -> Result<Sheaf, LineError> {
-    let mut over = Sheaf::new(alloc);
+fn touched(alloc: Global, under: &EditedPages, n: u32) -> Result<EditedPages, LineError> {
+    let mut over = EditedPages::new(alloc);
     over.edit(alloc, under, &Edit::Touch { page: n })?;
     over.seal(Frame::AsIs);
     Ok(over)

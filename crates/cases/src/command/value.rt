@@ -1,13 +1,13 @@
 //! The command `value`: a value of a column of any type, in a row with the key 1.
 
-use crate::edit::Edit;
-use crate::error::LineError;
-use crate::hex::bytes_of;
-use crate::plan::Plan;
 use crate::report::Report;
 use crate::run::{Hitch, Ready, Task};
-use crate::shelf::{Shelf, copied, edited};
-use crate::text::decode;
+use case_files::edit::Edit;
+use case_files::error::LineError;
+use case_files::hex::bytes_of;
+use case_files::named_files::{NamedFiles, copied, edited};
+use case_files::plan::Plan;
+use case_files::text::decode;
 use page_source::ByteList;
 use std::alloc::Global;
 
@@ -40,15 +40,15 @@ impl<'a> ValueCase<'a> {
     pub fn run(
         &self,
         alloc: Global,
-        shelf: &Shelf,
+        files: &NamedFiles,
         answer: &str,
         report: &mut Report,
     ) -> Result<(), LineError> {
         let schema = schema_with(alloc, self.kind)?;
-        let base = shelf.file("A")?;
+        let base = files.file("A")?;
         let mut plan = Plan::of(alloc, "A");
         self.push_edits(alloc, &mut plan.edits)?;
-        let over = edited(alloc, &base.sheaf, &plan)?;
+        let over = edited(alloc, &base.pages, &plan)?;
         let ready = Ready::of(base, over, schema.bytes());
         let is_broken = answer.starts_with("broken ") || answer.starts_with("schema ");
         let wanted = decode(alloc, answer)?;

@@ -3,15 +3,15 @@
 ghost use Rattle.std.specs.Prelude.{◌≡◌, ◌<◌, IfOk, length};
 ghost use Rattle.tree_walk.specs.Room.{HasRoom};
 
-use crate::error::LineError;
 use crate::outcome::End;
-use crate::pages::CasePages;
-use crate::plan::Plan;
 use crate::report::Report;
 use crate::run::Ready;
-use crate::shelf::Shelf;
-use crate::text::put_number;
-use crate::words::Words;
+use case_files::error::LineError;
+use case_files::named_files::NamedFiles;
+use case_files::pages::CasePages;
+use case_files::plan::Plan;
+use case_files::text::put_number;
+use case_files::words::Words;
 use page_source::{ByteList, NoMemory, Steps};
 use schema_text::Schema;
 use schema_text::laws::lists_are_of_one_index;
@@ -37,11 +37,11 @@ impl<'a> WalkCase<'a> {
     pub fn run(
         &self,
         alloc: Global,
-        shelf: &Shelf,
+        files: &NamedFiles,
         answer: &str,
         report: &mut Report,
     ) -> Result<(), LineError> {
-        let ready = Ready::new(alloc, shelf, &self.plan)?;
+        let ready = Ready::new(alloc, files, &self.plan)?;
         let mut came = ByteList::new(alloc);
         match ends_of(alloc, &ready) {
             Ok(list) => {

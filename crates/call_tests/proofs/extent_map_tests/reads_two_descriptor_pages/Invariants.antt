@@ -1,4 +1,0 @@
-use Rattle.call_tests.proofs.extent_map_tests.reads_two_descriptor_pages.Given as goal
-
-abbrev pub ghosts-read : goal.ghosts-read
-ghosts-read g a = record { name = a.blank.name; parts = a.blank.parts }

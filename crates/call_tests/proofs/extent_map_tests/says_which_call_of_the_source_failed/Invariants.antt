@@ -1,4 +1,0 @@
-use Rattle.call_tests.proofs.extent_map_tests.says_which_call_of_the_source_failed.Given as goal
-
-abbrev pub ghosts-read : goal.ghosts-read
-ghosts-read g a = record { name = a.blank.name; parts = a.blank.parts }

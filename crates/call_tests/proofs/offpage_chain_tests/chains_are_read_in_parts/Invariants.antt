@@ -1,4 +1,0 @@
-use Rattle.call_tests.proofs.offpage_chain_tests.chains_are_read_in_parts.Given as goal
-
-abbrev pub ghosts-read : goal.ghosts-read
-ghosts-read g a = record { name = a.blank.name; parts = a.blank.parts }

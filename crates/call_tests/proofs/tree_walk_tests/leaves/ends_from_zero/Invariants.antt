@@ -1,7 +1,0 @@
-use Rattle.call_tests.proofs.tree_walk_tests.leaves.ends_from_zero.Given as goal
-
-abbrev pub ghosts-audited : goal.ghosts-audited
-ghosts-audited g a = record { name = a.blank.name; parts = a.blank.parts }
-
-abbrev pub ghosts-walked : goal.ghosts-walked
-ghosts-walked g a = record { name = a.blank.name; parts = a.blank.parts }

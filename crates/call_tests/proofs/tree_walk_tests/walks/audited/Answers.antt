@@ -1,4 +1,0 @@
-use Rattle.call_tests.proofs.tree_walk_tests.walks.audited.Goals as goal
-
-pub returns : goal.returns
-returns g c = rw c.audit.ensures.over.same c.audit.ensures.audited

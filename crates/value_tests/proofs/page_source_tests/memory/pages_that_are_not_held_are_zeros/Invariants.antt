@@ -1,0 +1,4 @@
+use Rattle.value_tests.proofs.page_source_tests.memory.pages_that_are_not_held_are_zeros.Given as goal
+
+abbrev pub ghosts-last_byte : goal.ghosts-last_byte
+ghosts-last_byte g a = record { name = a.blank.name; parts = a.blank.parts }
