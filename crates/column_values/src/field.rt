@@ -45,7 +45,7 @@ pub struct Storage {
     pub big: bool,
     /// Whether a part of its value may stand on pages of its own.
     pub may_leave: bool,
-    /// Its length where it isn't variable.
+    /// The length of the field, if it isn't variable.
     pub length: usize,
 }
 

@@ -78,7 +78,7 @@ pub(crate) fn put_hex_number<O: ByteSink>(sink: &mut O, bytes: &[u8]) -> Result<
     put_hex(sink, bytes)
 }
 
-/// The same, where no bytes are an empty text.
+/// Puts bytes in hexadecimal digits, and an empty text for no bytes.
 pub(crate) fn put_bytes<O: ByteSink>(sink: &mut O, bytes: &[u8]) -> Result<(), Failed>
     ensures { Puts O.ByteSink sink.old sink.new (hex_or_empty bytes.now) result }
 {

@@ -45,7 +45,7 @@ pub(crate) fn is_escaped(byte: u8) -> bool
     letter_of(byte) != 0
 }
 
-/// The same, by comparisons alone, so that a compiler can make it of many bytes at once.
+/// Whether a byte is escaped, by comparisons alone, so that a compiler can make it of many bytes at once.
 pub(crate) fn is_special(byte: u8) -> bool
     ensures { result ≡ is_escaped byte }
 {

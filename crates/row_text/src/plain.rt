@@ -46,7 +46,7 @@ fn front_by(size: usize, text: &[u8]) -> usize
     front
 }
 
-/// The same, where so many were found before.
+/// How many bytes in front need no escape, if so many were found before.
 #[inline(always)]
 fn front_behind(size: usize, text: &[u8], found: usize) -> usize
     requires some { 1 ≤ size }
@@ -77,7 +77,7 @@ pub(crate) fn first_by_bytes(text: &[u8]) -> Option<usize>
     text.iter().position(|byte| is_escaped(*byte))
 }
 
-/// The same, by whole runs up to it.
+/// The place of the first byte that is escaped, found by whole runs up to it.
 fn first_escaped(text: &[u8]) -> Option<usize>
     ensures place { result ≡ position is_escaped text.now }
     ensures none { IsNone result → IsPlain text.now }
@@ -90,7 +90,7 @@ fn first_escaped(text: &[u8]) -> Option<usize>
     }
 }
 
-/// The same, with the letter that stands for that byte.
+/// The place of the first byte that is escaped, with the letter that stands for that byte.
 pub(crate) fn first_escape(text: &[u8]) -> Option<(usize, u8)>
     ensures found { IfSome result (λ found. (found.0 < length text.now)
         × (position is_escaped text.now ≡ Some found.0)

@@ -22,7 +22,7 @@ fn is_unsigned(text: &[u8], number: u64) -> bool
     Buffer::new().format(number).as_bytes() == text
 }
 
-/// The same of numbers below 2^128.
+/// The number below 2^128 that a text spells.
 pub(crate) fn wide(text: &[u8]) -> Option<u128>
     ensures found { IfSome result (λ n. text.now ≡ decimal n) }
     ensures only { (n : ℕ) → n < 2 ^ 128 → text.now ≡ decimal n → result ≡ Some n }

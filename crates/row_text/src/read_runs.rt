@@ -99,7 +99,8 @@ fn write_plain(text: &[u8], at: usize, room: &mut [u8], n: usize, most: usize) -
     most
 }
 
-/// The same of a vector of bytes. All of them are written, and those behind the answer will be written over.
+/// Writes a vector of bytes, up to the first that is escaped. All of them are written, and those past the answer will be
+/// written over.
 #[inline(always)]
 fn write_lanes(text: &[u8], at: usize, room: &mut [u8], n: usize) -> usize
     requires written { IsWritten text.now room.old n at }
@@ -115,7 +116,7 @@ fn write_lanes(text: &[u8], at: usize, room: &mut [u8], n: usize) -> usize
     plain_length(run)
 }
 
-/// The same of a few bytes one by one, and then of a vector of them.
+/// Writes a few bytes one by one, and then a vector of them, up to the first that is escaped.
 #[inline(always)]
 fn write_step(text: &[u8], at: usize, room: &mut [u8], n: usize) -> usize
     requires written { IsWritten text.now room.old n at }

@@ -32,7 +32,7 @@ pub fn sound_files_lose_nothing()
     whole_rows_are_read();
 }
 
-/// And there is such a salvage: each page, each row and each value of a sound file has what comes of it.
+/// Of a sound file there is a salvage: each page, each row and each value has what comes of it.
 pub fn sound_files_have_outcomes()
     ensures { SoundFilesHaveOutcomes }
 {

@@ -8,7 +8,7 @@ pub fn whole_lines_are_lines()
     ensures { WholeLinesAreLines }
 {}
 
-/// And its values are those that are read of it.
+/// The values of a row that is whole are those that are read of it.
 #[tactic(auto, using(crate::proofs::WholeRows::whole_rows))]
 pub fn whole_rows_are_read()
     ensures { WholeRowsAreRead }

@@ -8,7 +8,7 @@ ghost use Rattle.salvage_model.specs.Saved.{IsComplete};
 pub struct Saved {
     /// The rows that were written whole.
     pub rows: u64,
-    /// Those that were written as a comment, since a value is lost.
+    /// The rows that were written as a comment, since a value is lost.
     pub partial: u64,
     /// The leaves that stand whole by themselves.
     pub leaves: u32,

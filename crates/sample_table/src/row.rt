@@ -33,7 +33,7 @@ fn tag(alloc: Global, i: u32) -> Result<Value, NoMemory>
     Ok(Value::Text(text))
 }
 
-/// So many letters.
+/// A text of so many letters.
 fn letters(alloc: Global, count: u32) -> Result<ByteList, NoMemory>
     ensures { IfOk result (λ text. text ≡ letters count) }
 {

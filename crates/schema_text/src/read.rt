@@ -48,7 +48,7 @@ fn check_table<'a>(line: &Words<'a>) -> Result<(&'a [u8], Format), SchemaWhy>
     Ok((name, format))
 }
 
-/// These bytes as a list of its own.
+/// A list of its own with these bytes.
 fn owned(alloc: Global, bytes: &[u8]) -> Result<ByteList, NoMemory>
     ensures { IfOk result (λ list. list ≡ bytes.now) }
 {

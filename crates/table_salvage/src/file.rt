@@ -65,7 +65,7 @@ pub fn salvage<S: PageSource, O: ByteSink, E: ByteSink, L: Ledger>(
     save_file(alloc, source, schema, wish, sink, losses, steps)
 }
 
-/// The same, but a report that fails ends nothing: it gets nothing more.
+/// Salvages as `salvage` does, but a report that fails ends nothing: it gets nothing more.
 pub fn salvage_regardless<S: PageSource, O: ByteSink, E: ByteSink, L: Ledger>(
     alloc: Global,
     source: &mut S,
