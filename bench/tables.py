@@ -17,7 +17,6 @@ With --server the same rows are loaded into a server (MariaDB, started by tests/
 import argparse
 import contextlib
 import functools
-import importlib.machinery
 import itertools
 import os
 import pathlib
@@ -28,12 +27,14 @@ import subprocess
 import sys
 import tempfile
 import time
-import types
 import typing
 
 from tablespace import PAGE_SIZE, Tablespace
 
 TOP = pathlib.Path(__file__).resolve().parent.parent
+sys.path.insert(0, str(TOP / "tests"))
+import mariadb  # noqa: E402
+
 TICKS = os.sysconf("SC_CLK_TCK")
 KEYED = "table t dynamic\ncolumn id int notnull\n{columns}clustered root 3 id\n{index}"
 VALUE_SIZE = 60_000
@@ -202,11 +203,8 @@ def server_of(wanted, folder):
     if not wanted:
         yield None
         return
-    module = types.ModuleType("server")
-    module.__file__ = str(TOP / "tests/server")
-    importlib.machinery.SourceFileLoader("server", module.__file__).exec_module(module)
-    module.install()
-    server = module.Server(folder)
+    mariadb.install()
+    server = mariadb.Server(folder)
     try:
         server.run("CREATE DATABASE bench")
         yield server

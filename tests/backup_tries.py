@@ -1,16 +1,15 @@
 """What the tests of tools/check-backup share: folders, programs in the place of the real ones, and counts."""
 
 import os
-import pathlib
 import shlex
 import subprocess
-import sys
 
-TOP = pathlib.Path(__file__).resolve().parent.parent
+from scripts import TOP
+from tally import Tally
+
+import innodb_layout
+
 TOOL = TOP / 'tools/check-backup'
-sys.path.insert(0, str(TOP / 'tools'))
-import innodb_layout  # noqa: E402
-
 EXAMPLE = (TOP / 'examples/numbers.ibd').read_bytes()
 LINES = ('INSERT INTO `%s` VALUES (-1);\nINSERT INTO `%s` VALUES (0);\n'
          'INSERT INTO `%s` VALUES (2147483647);\n')
@@ -44,14 +43,10 @@ def rows_of(table):
     return LINES % (table, table, table)
 
 
-class Tries:
+class Tries(Tally):
     def __init__(self, place):
-        self.place, self.passed, self.failed, self.number = place, 0, 0, 0
-
-    def check(self, name, good, found):
-        self.passed, self.failed = self.passed + good, self.failed + (not good)
-        if not good:
-            print('FAILED %s: %r' % (name, found))
+        super().__init__()
+        self.place, self.number = place, 0
 
     def folder(self, files):
         """A new folder of these files."""

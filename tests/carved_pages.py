@@ -1,5 +1,7 @@
 """What stands in the image of a disk, read slowly: each place is looked at by itself, with the checksums of tools/."""
 
+import scripts  # It has the modules of tools/ found.  # noqa: F401
+
 from innodb_layout import (
     BLOB, FSP_HDR, IBUF_BITMAP, INDEX, INODE, LSN_END, MOST_PAGES, PAGE_LSN, PAGE_NUMBER, PAGE_SIZE, PAGE_SPACE, XDES,
     checksum_kinds, level_and_id, number_at, type_of)

@@ -1,30 +1,17 @@
 """Reads lines of crates/cases/stdin: texts, bytes, and the files and schemas that lines name, as crates/cases/README.md
 says. The pages of a file are made of the named files of a reference."""
 
-import importlib.machinery
-import importlib.util
 import io
-import os
 import re
 
-HERE = os.path.dirname(os.path.abspath(__file__))
-TOP = os.path.dirname(HERE)
-CASES = os.path.join(TOP, 'crates', 'cases', 'stdin')
-RULES = os.path.join(TOP, 'docs', 'RULES.md')
-PAGE = 16384
+from case_texts import decoded, rows_of
+from scripts import TOP
+
+from innodb_layout import PAGE_SIZE as PAGE
+
+CASES = TOP / 'crates/cases/stdin'
+RULES = TOP / 'docs/RULES.md'
 ZEROS = bytes(PAGE)
-
-
-def script(name):
-    """A script beside this one, as a module."""
-    loader = importlib.machinery.SourceFileLoader(name.replace('-', '_'), os.path.join(HERE, name))
-    module = importlib.util.module_from_spec(importlib.util.spec_from_loader(loader.name, loader))
-    loader.exec_module(module)
-    return module
-
-
-BUILDS = script('make-builds')
-decoded = BUILDS.decoded
 
 
 def bytes_of(word):
@@ -91,7 +78,7 @@ class Shelf:
         if items:
             return None
         table = self.ibd.read_schema(self.schemas[schema], 'full')
-        layout = self.ibd.build(table, io.BytesIO(BUILDS.rows_of(rows)))
+        layout = self.ibd.build(table, io.BytesIO(rows_of(rows)))
         return File(dict(layout.held), layout.pages * PAGE, self.schemas[schema])
 
     def file(self, words):

@@ -2,12 +2,11 @@
 read them. They have no checksums, so they aren't sound."""
 
 import collections
-import pathlib
 import struct
-import sys
 
-sys.path.insert(0, str(pathlib.Path(__file__).resolve().parent.parent / 'tools'))
-from innodb_layout import (  # noqa: E402
+import scripts  # It has the modules of tools/ found.  # noqa: F401
+
+from innodb_layout import (
     EXTENT_BITMAP, EXTENT_PAGES, FIL_NULL, FSP_HDR, HEAP_START, INDEX, INFIMUM, INODE, INODES_FREE, INODE_LIST_NODE,
     INODE_MAGIC, LEAF_SEGMENT, LEVEL, LIST_BASE, LIST_NODE, NEW_FORMAT, NEXT_RECORD, PAGE_SIZE, PAGE_TYPE, RECORDS,
     RECORD_HEADER, SEGMENT_MAGIC, SLOTS, SLOTS_PLACE, SLOT_COUNT, SPACE_ID, SUPREMUM, TOP_SEGMENT, descriptor_place,
