@@ -19,10 +19,10 @@ import sys
 import tempfile
 import time
 
-sys.path.insert(0, str(pathlib.Path(__file__).resolve().parent.parent / "tools"))
+sys.path.insert(0, str(pathlib.Path(__file__).resolve().parent.parent / "tests"))
+from page_writer import put_frame, put_sums  # noqa: E402
 from innodb_layout import (  # noqa: E402
-    BODY_END, CHECKSUM, CRC_START, FLUSH_LSN, INDEX, LEVEL, LSN_END, PAGE_LSN, PAGE_NUMBER, PAGE_SIZE, PAGE_SPACE,
-    PAGE_TYPE, SUMMED_BODY, SUMMED_HEAD, carry, crc_state, folds)
+    CHECKSUM, CRC_START, FLUSH_LSN, INDEX, LEVEL, PAGE_SIZE, SUMMED_BODY, SUMMED_HEAD, carry, crc_state, folds)
 
 SPACE, INDEX_ID, LSN = 58, 131, 0x100000000
 BLOCK = 1 << 20
@@ -34,8 +34,6 @@ def one_page():
     """A page without number, LSN and checksums, with a body of any bytes."""
     page = bytearray(random.Random(1).randbytes(PAGE_SIZE))
     page[:SUMMED_BODY.start] = bytes(SUMMED_BODY.start)
-    struct.pack_into(">H", page, PAGE_TYPE, INDEX)
-    struct.pack_into(">I", page, PAGE_SPACE, SPACE)
     struct.pack_into(">HQ", page, LEVEL, 0, INDEX_ID)
     return page
 
@@ -51,14 +49,12 @@ class Pages:
     def made(self, numbers):
         heads = []
         for number in numbers:
-            struct.pack_into(">I", self.page, PAGE_NUMBER, number)
-            struct.pack_into(">Q", self.page, PAGE_LSN, LSN + number)
+            put_frame(self.page, number, INDEX, SPACE, LSN + number)
             heads.append(bytes(self.page[:SUMMED_BODY.start]))
-        for number, head, sums in zip(numbers, heads, self.sums(heads)):
+        for head, sums in zip(heads, self.sums(heads)):
             page = bytearray(self.page)
             page[:len(head)] = head
-            struct.pack_into(">I", page, CHECKSUM, sums[0])
-            struct.pack_into(">II", page, BODY_END, sums[1], (LSN + number) & 0xFFFFFFFF)
+            put_sums(page, *sums)
             yield bytes(page)
 
     def sums(self, heads):

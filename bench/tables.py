@@ -29,11 +29,10 @@ import tempfile
 import time
 import typing
 
-from tablespace import PAGE_SIZE, Tablespace
-
 TOP = pathlib.Path(__file__).resolve().parent.parent
 sys.path.insert(0, str(TOP / "tests"))
 import mariadb  # noqa: E402
+from tablespace import PAGE_SIZE, Tablespace  # noqa: E402
 
 TICKS = os.sysconf("SC_CLK_TCK")
 KEYED = "table t dynamic\ncolumn id int notnull\n{columns}clustered root 3 id\n{index}"

@@ -7,9 +7,10 @@ import itertools
 import os
 import struct
 
+import page_writer
+import tablespace
 from scripts import TOP
 
-import tablespace
 from innodb_layout import (
     BITMAP_SIZE, BLOB, BODY_END, CHECKSUM, CRC_START, DESCRIBED_EXTENTS, EXTENT_BITMAP, EXTENT_NODE, EXTENT_SEGMENT,
     EXTENT_STATE, FIL_NULL, FLAGS, FLUSH_LSN, FRAGMENTS_USED, FREE_LIMIT, FSP_HDR, HEAP_START, HEAP_STATUS, HEAP_TOP,
@@ -17,8 +18,8 @@ from innodb_layout import (
     LEAF_SEGMENT, LEVEL, LIST_FREE, LIST_FREE_FRAG, LIST_FULL_FRAG, LSN_END, MARKS, MAX_TRANSACTION, NEXT_PART,
     NEXT_RECORD, NEXT_SEGMENT, NOT_FULL_USED, PAGE_AFTER, PAGE_BEFORE, PAGE_LSN, PAGE_NUMBER, PAGE_SPACE,
     PAGE_TYPE, PART, PART_LENGTH, PART_ROOM, RECORD_HEADER, REFERENCE_SIZE, SEGMENT_FREE, SEGMENT_FULL, SEGMENT_ID,
-    SEGMENT_MAGIC, SEGMENT_NOT_FULL, SIZE, SLOTS, SLOTS_PLACE, SLOT_COUNT, SLOT_SIZE, SPACE_ID, SUMMED_BODY,
-    SUMMED_HEAD, SUPREMUM, TOP_SEGMENT, XDES, descriptor_place, inode_place, number_at)
+    SEGMENT_MAGIC, SEGMENT_NOT_FULL, SIZE, SLOTS, SLOTS_PLACE, SLOT_COUNT, SLOT_SIZE, SPACE_ID, SUMMED_BODY, SUPREMUM,
+    TOP_SEGMENT, XDES, carry, descriptor_place, inode_place, number_at)
 from innodb_layout import PAGE_SIZE as PAGE
 
 Base = collections.namedtuple('Base', 'name schema data key')
@@ -148,7 +149,7 @@ def some_number(page, pages, old, width, rng):
 
 def after_zeros():
     """Tables that carry a state over 1, 2, 4 .. bytes that are 0, by the four bytes of the state."""
-    tables = [[tablespace.carry(byte << 8 * place, b'\0') for byte in range(256)] for place in range(4)]
+    tables = [[carry(byte << 8 * place, b'\0') for byte in range(256)] for place in range(4)]
     while True:
         yield tables
         tables = [[over(tables, state) for state in table] for table in tables]
@@ -163,7 +164,7 @@ ZEROS = list(itertools.islice(after_zeros(), 14))
 
 @functools.lru_cache(maxsize=4096)
 def state_of_body(body):
-    return tablespace.carry(CRC_START, body)
+    return carry(CRC_START, body)
 
 
 def state_behind(old, new):
@@ -171,7 +172,7 @@ def state_behind(old, new):
     change = int.from_bytes(old, 'big') ^ int.from_bytes(new, 'big')
     behind = ((change & -change).bit_length() - 1) // 8 if change else 0
     change >>= 8 * behind
-    state = tablespace.carry(0, change.to_bytes((change.bit_length() + 7) // 8, 'big'))
+    state = carry(0, change.to_bytes((change.bit_length() + 7) // 8, 'big'))
     for place, tables in enumerate(ZEROS):
         if behind >> place & 1:
             state = over(tables, state)
@@ -180,10 +181,7 @@ def state_behind(old, new):
 
 def seal(page, old):
     """Gives a page its CRC-32C again, by the page that it was."""
-    struct.pack_into('>I', page, LSN_END, number_at(page, PAGE_LSN + 4, 4))
-    total = tablespace.carry(CRC_START, page[SUMMED_HEAD]) ^ state_behind(bytes(old[SUMMED_BODY]), page[SUMMED_BODY])
-    struct.pack_into('>I', page, CHECKSUM, total)
-    struct.pack_into('>I', page, LAST_CHECKSUM, total)
+    page_writer.seal(page, state_behind(bytes(old[SUMMED_BODY]), page[SUMMED_BODY]))
 
 
 def used_pages(data):

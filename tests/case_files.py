@@ -2,10 +2,10 @@
 
 import sys
 
-import scripts  # It has the modules of tools/ found.  # noqa: F401
 from case_texts import bytes_of, text_of
+from page_writer import put_frame
 
-from innodb_layout import BODY_END, CHECKSUM, PAGE_LSN, PAGE_NUMBER, PAGE_SIZE as PAGE, PAGE_SPACE, PAGE_TYPE
+from innodb_layout import BODY_END, CHECKSUM, PAGE_NUMBER, PAGE_SIZE as PAGE, type_of
 
 LONGEST = 5000              # letters of the lines of a file and its schema
 
@@ -38,13 +38,10 @@ class Pages:
             return
         items = []
         if not any(old) and new[CHECKSUM:PAGE_NUMBER] != old[CHECKSUM:PAGE_NUMBER]:
-            kind = int.from_bytes(new[PAGE_TYPE:PAGE_TYPE + 2], 'big')
+            kind = type_of(new)
             items.append('%d:page=%d' % (n, kind))
             old = bytearray(PAGE)
-            old[PAGE_NUMBER:PAGE_NUMBER + 4] = n.to_bytes(4, 'big')
-            old[PAGE_LSN:PAGE_LSN + 8] = self.files.LSN.to_bytes(8, 'big')
-            old[PAGE_TYPE:PAGE_TYPE + 2] = kind.to_bytes(2, 'big')
-            old[PAGE_SPACE:PAGE_SPACE + 4] = self.files.SPACE.to_bytes(4, 'big')
+            put_frame(old, n, kind, self.files.SPACE, self.files.LSN)
         for kind in ('crc32', 'innodb', 'none'):
             if self.files.seal(new, kind) == new:
                 items += edits(n, old, new, PAGE_NUMBER, BODY_END)

@@ -3,11 +3,13 @@ says. The pages of a file are made of the named files of a reference."""
 
 import io
 import re
+import struct
 
 from case_texts import decoded, rows_of
+from page_writer import NOWHERE, address, put_frame
 from scripts import TOP
 
-from innodb_layout import PAGE_SIZE as PAGE
+from innodb_layout import BITMAP_SIZE, EXTENT_NODE, FREE, PAGE_SIZE as PAGE, descriptor_place
 
 CASES = TOP / 'crates/cases/stdin'
 RULES = TOP / 'docs/RULES.md'
@@ -113,9 +115,7 @@ class Shelf:
         page = bytearray(page)
         if edit.startswith('page='):
             page[:] = ZEROS
-            page[4:8], page[24:26] = n.to_bytes(4, 'big'), int(edit[5:]).to_bytes(2, 'big')
-            page[16:24] = self.files.LSN.to_bytes(8, 'big')
-            page[34:38] = self.files.SPACE.to_bytes(4, 'big')
+            put_frame(page, n, int(edit[5:]), self.files.SPACE, self.files.LSN)
         elif edit.startswith('free='):
             put_free_extents(page, n, *map(int, edit[5:].split('-')))
         elif edit:
@@ -130,8 +130,7 @@ class Shelf:
 def put_free_extents(page, n, first, last):
     """Makes these extents free, and links them in their order."""
     def node(extent):
-        is_there = first <= extent <= last
-        return (n.to_bytes(4, 'big') + (158 + 40 * extent).to_bytes(2, 'big')) if is_there else b'\xff' * 4 + b'\0\0'
+        return address(n, descriptor_place(extent) + EXTENT_NODE) if first <= extent <= last else NOWHERE
     for extent in range(first, last + 1):
-        at = 150 + 40 * extent
-        page[at:at + 40] = bytes(8) + node(extent - 1) + node(extent + 1) + b'\0\0\0\1' + b'\xff' * 16
+        struct.pack_into('>Q6s6sI16s', page, descriptor_place(extent), 0, node(extent - 1), node(extent + 1), FREE,
+                         b'\xff' * BITMAP_SIZE)

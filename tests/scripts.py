@@ -1,4 +1,4 @@
-"""Has the modules of tools/ and bench/ found, and makes modules of scripts, which have no ending."""
+"""Has the modules of tools/ found, and makes modules of scripts, which have no ending."""
 
 import importlib.machinery
 import importlib.util
@@ -6,7 +6,7 @@ import pathlib
 import sys
 
 TOP = pathlib.Path(__file__).resolve().parent.parent
-sys.path[1:1] = [str(TOP / 'tools'), str(TOP / 'bench')]
+sys.path.insert(1, str(TOP / 'tools'))
 
 
 def script(place):

@@ -69,9 +69,9 @@ RECORD_HEADER, NEXT_RECORD, HEAP_STATUS, MARKS = 5, 2, 4, 5
 DELETED, MINIMUM_MARK = 0x20, 0x10
 ORDINARY, NODE_POINTER = 0, 1
 
-# A page of a long value, and the reference to the first one.
+# A page of a long value, and the reference to the first one, with the place of its number.
 PART_LENGTH, NEXT_PART, PART, PART_ROOM = 38, 42, 46, 16330
-REFERENCE_SIZE = 20
+REFERENCE_SIZE, REFERENCED_PAGE = 20, 4
 
 # Checksums: what both numbers are where there are none, and of which parts of a page the first one is.
 NO_CHECKSUM = 0xDEADBEEF

@@ -6,21 +6,20 @@ of the trees above their leaves, too. The leaves and the pages of long values fi
 import dataclasses
 import functools
 import itertools
-import pathlib
 import struct
-import sys
 
-sys.path.insert(0, str(pathlib.Path(__file__).resolve().parent.parent / "tools"))
-from innodb_layout import (  # noqa: E402
-    ADDRESS_SIZE, BITMAP_SIZE, BLOB, BODY, BODY_END, CHECKSUM, CRC_START, DESCRIBED_EXTENTS, DYNAMIC, EXTENT_NODE,
-    EXTENT_PAGES, FIL_NULL, FREE_FRAG, FSEG, FSP_HDR, HEAP_START, IBUF_BITMAP, INDEX, INFIMUM, INODE, INODE_LIST_NODE,
-    INODE_MAGIC, LAST_CHECKSUM, LAST_SLOT, LEAF_SEGMENT, LIST_FREE, MINIMUM_MARK, NEW_FORMAT, NEXT_RECORD,
-    NODE_POINTER, ORDINARY, PAGE_BEFORE, PAGE_ENDS, PAGE_LSN, PAGE_NUMBER, PAGE_SIZE, PAGE_SPACE, PART, PART_LENGTH,
-    PART_ROOM, RECORD_HEADER, SLOTS, SLOTS_PLACE, SLOT_COUNT, SLOT_SIZE, SPACE_ID, SUMMED_BODY, SUMMED_HEAD, SUPREMUM,
-    TOP_SEGMENT, XDES, carry, crc_state, descriptor_place, inode_place)
+from page_writer import (
+    INODE_PAGE, NOWHERE, address, base, put_frame, put_inode, put_records, put_segment, seal)
+
+from innodb_layout import (
+    ADDRESS_SIZE, BITMAP_SIZE, BLOB, BODY, BODY_END, CRC_START, DESCRIBED_EXTENTS, DYNAMIC, EXTENT_NODE, EXTENT_PAGES,
+    FIL_NULL, FREE_FRAG, FSEG, FSP_HDR, HEAP_START, IBUF_BITMAP, INDEX, INFIMUM, INODE, INODE_LIST_NODE, LAST_SLOT,
+    LEAF_SEGMENT, LIST_FREE, MARKS, MINIMUM_MARK, NEW_FORMAT, NODE_POINTER, ORDINARY, PAGE_BEFORE, PAGE_ENDS, PAGE_SIZE,
+    PART, PART_LENGTH, PART_ROOM, RECORD_HEADER, SLOT_COUNT, SLOT_SIZE, SPACE_ID, SUPREMUM, TOP_SEGMENT, XDES, carry,
+    descriptor_place)
 
 THIS_SPACE = LSN = 1
-ROOT, INODE_PAGE = 3, 2
+ROOT = 3
 
 
 @functools.lru_cache(maxsize=8)
@@ -36,19 +35,6 @@ def carry_over_end(state, data):
         if state >> bit & 1:
             sum_of_bits ^= bits[bit]
     return sum_of_bits
-
-
-def address(page, offset):
-    return struct.pack(">IH", page, offset)
-
-
-NOWHERE = address(FIL_NULL, 0)
-
-
-def base(members):
-    """The base of a list of these addresses."""
-    ends = (members[0], members[-1]) if members else (NOWHERE, NOWHERE)
-    return struct.pack(">I6s6s", len(members), *ends)
 
 
 def extent_address(extent):
@@ -133,15 +119,8 @@ class Tablespace:
         return number + 1 + number // (DESCRIBED_EXTENTS - 1)
 
     def write(self, number, kind, page, state_of_body=None):
-        struct.pack_into(">I", page, PAGE_NUMBER, number)
-        struct.pack_into(">QH", page, PAGE_LSN, LSN, kind)
-        struct.pack_into(">I", page, PAGE_SPACE, THIS_SPACE)
-        if state_of_body is None:
-            state_of_body = crc_state(page[SUMMED_BODY])
-        # The two sums are the inverted states, so that the inversions cancel out.
-        total = crc_state(page[SUMMED_HEAD]) ^ state_of_body
-        struct.pack_into(">I", page, CHECKSUM, total)
-        struct.pack_into(">II", page, LAST_CHECKSUM, total, LSN)
+        put_frame(page, number, kind, THIS_SPACE, LSN)
+        seal(page, state_of_body)
         self.file.seek(number * PAGE_SIZE)
         self.file.write(page)
 
@@ -176,29 +155,24 @@ class Tablespace:
         page = bytearray(PAGE_SIZE)
         count, slots = len(records), slots_of(len(records))
         page[PAGE_ENDS:HEAP_START] = b"\1\0\2\0\0infimum\0" + b"\0\0\x0b\0\0supremum"
-        origins, directory, at = [INFIMUM], [INFIMUM], HEAP_START
-        for place, (front, body) in enumerate(records, 1):
+        origins, end = put_records(page, records)
+        directory = [INFIMUM]
+        for place, origin in enumerate(origins, 1):
             owned = 4 if place % 4 == 0 and place // 4 <= slots - 2 else 0
             minimum = MINIMUM_MARK if level > 0 and place == 1 and siblings[0] == FIL_NULL else 0
-            page[at:at + len(front)] = front
-            struct.pack_into(">BH", page, at + len(front), minimum + owned,
+            struct.pack_into(">BH", page, origin - MARKS, minimum + owned,
                              (place + 1) * 8 + (ORDINARY if level == 0 else NODE_POINTER))
-            origins.append(at + len(front) + RECORD_HEADER)
             if owned:
-                directory.append(origins[-1])
-            at = origins[-1] + len(body)
-            page[origins[-1]:at] = body
-        page[SUPREMUM - RECORD_HEADER] = count - 4 * (slots - 2) + 1
-        for here, there in zip(origins, [*origins[1:], SUPREMUM]):
-            struct.pack_into(">H", page, here - NEXT_RECORD, (there - here) % 65536)
+                directory.append(origin)
+        page[SUPREMUM - MARKS] = count - 4 * (slots - 2) + 1
         for place, origin in enumerate([*directory, SUPREMUM]):
             struct.pack_into(">H", page, LAST_SLOT - SLOT_SIZE * place, origin)
         struct.pack_into(">II", page, PAGE_BEFORE, *siblings)
-        struct.pack_into(">HHHIHHHHQHQ", page, SLOT_COUNT, slots, at, NEW_FORMAT + count + 2, 0, 0, 5, 0, count, 0,
+        struct.pack_into(">HHHIHHHHQHQ", page, SLOT_COUNT, slots, end, NEW_FORMAT + count + 2, 0, 0, 5, 0, count, 0,
                          level, tree.number)
         if number == tree.root:
             for at, segment in ((LEAF_SEGMENT, tree.leaf_segment), (TOP_SEGMENT, tree.top_segment)):
-                struct.pack_into(">IIH", page, at, THIS_SPACE, INODE_PAGE, inode_place(segment - 1))
+                put_segment(page, at, THIS_SPACE, segment - 1)
         self.write(number, INDEX, page)
 
     def put_space(self):
@@ -247,14 +221,7 @@ class Tablespace:
         page = bytearray(PAGE_SIZE)
         page[INODE_LIST_NODE:INODE_LIST_NODE + 2 * ADDRESS_SIZE] = NOWHERE + NOWHERE
         for tree in self.trees:
-            self.put_inode(page, tree.top_segment, tree.top_pages, [], [], 0)
-            self.put_inode(page, tree.leaf_segment, [], *self.leaf_lists(tree), tree.last_used)
+            put_inode(page, tree.top_segment - 1, tree.top_segment, tree.top_pages)
+            full, not_full = (list(map(extent_address, members)) for members in self.leaf_lists(tree))
+            put_inode(page, tree.leaf_segment - 1, tree.leaf_segment, [], full, not_full, tree.last_used)
         self.write(INODE_PAGE, INODE, page)
-
-    @staticmethod
-    def put_inode(page, segment, slots, full, not_full, not_full_used):
-        at = inode_place(segment - 1)
-        full, not_full = (base(list(map(extent_address, members))) for members in (full, not_full))
-        struct.pack_into(">QI16s16s16sI", page, at, segment, not_full_used, base([]), not_full, full, INODE_MAGIC)
-        slots = slots + [FIL_NULL] * (SLOTS - len(slots))
-        struct.pack_into(f">{SLOTS}I", page, at + SLOTS_PLACE, *slots)
