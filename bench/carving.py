@@ -9,6 +9,7 @@ one is made. `dd`, `list` and `take` are run in turn, N times each (5 without th
 system's cache; printed are the least times by the clock, of a processor, and the ratios of those by the clock. What
 `list` and `take` say is compared with what was put into the image.
 """
+
 import argparse
 import os
 import pathlib
@@ -19,7 +20,7 @@ import sys
 import tempfile
 import time
 
-sys.path.insert(0, str(pathlib.Path(__file__).resolve().parent.parent / "tests"))
+sys.path.insert(0, str(pathlib.Path(__file__).resolve().parent.parent / 'tests'))
 from page_writer import put_frame, put_sums  # noqa: E402
 from innodb_layout import (  # noqa: E402
     CHECKSUM, CRC_START, FLUSH_LSN, INDEX, LEVEL, PAGE_SIZE, SUMMED_BODY, SUMMED_HEAD, carry, crc_state, folds)
@@ -34,7 +35,7 @@ def one_page():
     """A page without number, LSN and checksums, with a body of any bytes."""
     page = bytearray(random.Random(1).randbytes(PAGE_SIZE))
     page[:SUMMED_BODY.start] = bytes(SUMMED_BODY.start)
-    struct.pack_into(">HQ", page, LEVEL, 0, INDEX_ID)
+    struct.pack_into('>HQ', page, LEVEL, 0, INDEX_ID)
     return page
 
 
@@ -44,7 +45,7 @@ class Pages:
     def __init__(self, kind):
         self.kind, self.page = kind, one_page()
         body = bytes(self.page[SUMMED_BODY])
-        self.body_sum = crc_state(body) if kind == "crc32" else folds([body])[0]
+        self.body_sum = crc_state(body) if kind == 'crc32' else folds([body])[0]
 
     def made(self, numbers):
         heads = []
@@ -58,12 +59,12 @@ class Pages:
             yield bytes(page)
 
     def sums(self, heads):
-        if self.kind == "crc32":
+        if self.kind == 'crc32':
             # Two states that are inverted, so that the inversions cancel out.
             sums = [carry(CRC_START, head[SUMMED_HEAD]) ^ self.body_sum for head in heads]
             return [(each, each) for each in sums]
         first = [(each + self.body_sum) & 0xFFFFFFFF for each in folds([head[SUMMED_HEAD] for head in heads])]
-        fronts = [struct.pack(">I", each) + head[CHECKSUM + 4:FLUSH_LSN] for each, head in zip(first, heads)]
+        fronts = [struct.pack('>I', each) + head[CHECKSUM + 4:FLUSH_LSN] for each, head in zip(first, heads)]
         return list(zip(first, folds(fronts)))
 
 
@@ -75,11 +76,11 @@ def filled(blocks, size):
 def sparse_image(file, size):
     """Random bytes, text and zeros, and a page here and there, not always at a multiple of its length."""
     random_block = random.Random(2).randbytes(BLOCK)
-    text_block = (b"a page of a text that somebody wrote into a file, " * (BLOCK // 50 + 1))[:BLOCK]
+    text_block = (b'a page of a text that somebody wrote into a file, ' * (BLOCK // 50 + 1))[:BLOCK]
     for block in filled([random_block, text_block, bytes(BLOCK), random_block], size):
         file.write(block)
     count = size // PAGE_SIZE // FEW
-    for number, page in enumerate(Pages("crc32").made(range(count))):
+    for number, page in enumerate(Pages('crc32').made(range(count))):
         file.seek(number * FEW * PAGE_SIZE + number % 8 * 512)
         file.write(page)
     return count
@@ -88,7 +89,7 @@ def sparse_image(file, size):
 def zero_image(file, size):
     for block in filled([bytes(BLOCK)], size - BLOCK):
         file.write(block)
-    for page in Pages("crc32").made([0]):
+    for page in Pages('crc32').made([0]):
         file.write(page)
     return 1
 
@@ -105,10 +106,10 @@ def full_image(kind):
 
 
 IMAGES = {
-    "few pages": sparse_image,
-    "zeros": zero_image,
-    "all pages, crc32": full_image("crc32"),
-    "all pages, innodb": full_image("innodb"),
+    'few pages': sparse_image,
+    'zeros': zero_image,
+    'all pages, crc32': full_image('crc32'),
+    'all pages, innodb': full_image('innodb'),
 }
 
 
@@ -120,48 +121,48 @@ def run(words):
     _, status, used = os.wait4(child.pid, 0)
     child.returncode = os.waitstatus_to_exitcode(status)
     if child.returncode:
-        sys.exit(f"{words} ends with {child.returncode}")
+        sys.exit('%s ends with %d' % (words, child.returncode))
     return time.monotonic() - start, used.ru_utime + used.ru_stime, out.decode()
 
 
 def measure(name, put, program, size, runs, folder):
-    image, made = (os.path.join(folder, word) for word in ("image", "made"))
-    with open(image, "wb") as file:
+    image, made = (os.path.join(folder, word) for word in ('image', 'made'))
+    with open(image, 'wb') as file:
         count = put(file, size)
     newest = LSN + count - 1
     said = {
-        "dd": "",
-        "list": f"space {SPACE} pages {count} newest {newest}\n"
-        f"space {SPACE} index {INDEX_ID} leaves {count} pages {count} newest {newest}\n",
-        "take": f"pages={count} of={count} newest={newest}\n",
+        'dd': '',
+        'list': 'space %d pages %d newest %d\n' % (SPACE, count, newest)
+                + 'space %d index %d leaves %d pages %d newest %d\n' % (SPACE, INDEX_ID, count, count, newest),
+        'take': 'pages=%d of=%d newest=%d\n' % (count, count, newest),
     }
     words = {
-        "dd": ["dd", "bs=1M", f"if={image}", "of=/dev/null"],
-        "list": [program, "list", image],
-        "take": [program, "take", str(SPACE), image, made],
+        'dd': ['dd', 'bs=1M', 'if=%s' % image, 'of=/dev/null'],
+        'list': [program, 'list', image],
+        'take': [program, 'take', str(SPACE), image, made],
     }
     took = {command: [] for command in words}
-    run(words["dd"])
+    run(words['dd'])
     for _ in range(runs):
         for command, each in words.items():
             *times, out = run(each)
             if out != said[command]:
-                sys.exit(f"{each} writes {out!r}, and not {said[command]!r}")
+                sys.exit('%s writes %r, and not %r' % (each, out, said[command]))
             took[command].append(times)
         os.remove(made)
-    print(f"{name}: {os.path.getsize(image) / 1e6:.0f} MB, {count} pages")
-    base = min(clock for clock, _ in took["dd"])
+    print('%s: %.0f MB, %d pages' % (name, os.path.getsize(image) / 1e6, count))
+    base = min(clock for clock, _ in took['dd'])
     for command, times in took.items():
         clock, processor = (min(each) for each in zip(*times))
-        print(f"  {command}: {clock:.3f} s, {clock / base:.1f} x dd; {processor:.3f} s of a processor", flush=True)
+        print('  %s: %.3f s, %.1f x dd; %.3f s of a processor' % (command, clock, clock / base, processor), flush=True)
     os.remove(image)
 
 
 def main():
     parser = argparse.ArgumentParser(description=__doc__, formatter_class=argparse.RawDescriptionHelpFormatter)
-    parser.add_argument("--runs", type=int, default=5, metavar="N", help="runs of each command (5)")
-    parser.add_argument("--megabytes", type=int, default=1000, metavar="N", help="the size of an image (1,000)")
-    parser.add_argument("program", metavar="PROGRAM", help="the program that is measured")
+    parser.add_argument('--runs', type=int, default=5, metavar='N', help='runs of each command (5)')
+    parser.add_argument('--megabytes', type=int, default=1000, metavar='N', help='the size of an image (1,000)')
+    parser.add_argument('program', metavar='PROGRAM', help='the program that is measured')
     given = parser.parse_args()
     size = given.megabytes * 10**6 // BLOCK * BLOCK
     for name, put in IMAGES.items():
@@ -169,5 +170,5 @@ def main():
             measure(name, put, given.program, size, given.runs, folder)
 
 
-if __name__ == "__main__":
+if __name__ == '__main__':
     main()

@@ -1,20 +1,23 @@
 #!/usr/bin/env python3
-"""Times `check`, `cross` and `dump` of large tables against reading the same file with `dd`, and prints the peak memory.
+"""Times `check`, `cross` and `dump` of large tables against reading the same file with `dd`, and prints the peak of
+memory.
 
 usage: bench/tables.py [--server] [--salvage SALVAGE] [--runs N] PROGRAM
 
 PROGRAM is the program that is measured. The tables are made here, by tablespace.py, one after the other in the folder
 for temporary files, which needs 700 MB; that takes half a minute. What `dump` writes is compared with the rows. The
 commands and `dd bs=16384` are run in turn, N times each (5 without the option); printed are the medians of processor
-time, in the kernel and outside of it, and of the time by the clock, and the ratios of the processor times. The memory is
-read from /proc.
+time, in the kernel and outside of it, and of the time by the clock, and the ratios of the processor times. The memory
+is read from /proc.
 
 With --salvage the rows are also saved by SALVAGE, which is `ibd-salvage`.
 
 With --server the same rows are loaded into a server (MariaDB, started by tests/server), and `mariadb-dump
 --skip-extended-insert` and `CHECK TABLE .. EXTENDED` are timed too: client and server together.
 """
+
 import argparse
+import collections
 import contextlib
 import functools
 import itertools
@@ -27,45 +30,26 @@ import subprocess
 import sys
 import tempfile
 import time
-import typing
 
 TOP = pathlib.Path(__file__).resolve().parent.parent
-sys.path.insert(0, str(TOP / "tests"))
+sys.path.insert(0, str(TOP / 'tests'))
 import mariadb  # noqa: E402
 from tablespace import PAGE_SIZE, Tablespace  # noqa: E402
 
-TICKS = os.sysconf("SC_CLK_TCK")
-KEYED = "table t dynamic\ncolumn id int notnull\n{columns}clustered root 3 id\n{index}"
+TICKS = os.sysconf('SC_CLK_TCK')
+KEYED = 'table t dynamic\ncolumn id int notnull\n%sclustered root 3 id\n%s'
 VALUE_SIZE = 60_000
 
 
-class Took(typing.NamedTuple):
-    """What one run took: seconds of processor time and by the clock."""
-
-    processor: float
-    clock: float
-
-
-class Index(typing.NamedTuple):
-    """Another index, whose entries are as long as their keys."""
-
-    line: str
-    create: str
-    entry: typing.Callable
-    key_size: int
-
-
-class Table(typing.NamedTuple):
-    rows: int
-    columns: str
-    create: str
-    record: typing.Callable
-    line: typing.Callable
-    index: typing.Optional[Index] = None
+# What one run took: seconds of processor time and by the clock.
+Took = collections.namedtuple('Took', 'processor clock')
+Table = collections.namedtuple('Table', 'rows columns create record line index', defaults=[None])
+# Another index of a table, whose entries are as long as their keys.
+Index = collections.namedtuple('Index', 'line create entry key_size')
 
 
 def stored_int(number):
-    return struct.pack(">I", number ^ 0x80000000)
+    return struct.pack('>I', number ^ 0x80000000)
 
 
 def stored_key(number):
@@ -78,7 +62,7 @@ def scattered(number):
 
 
 def short_record(_, number):
-    text = b"row %d" % number
+    text = b'row %d' % number
     return bytes([len(text)]), stored_key(number) + stored_int(scattered(number)) + text
 
 
@@ -97,13 +81,13 @@ def long_table(rows, kind, create, value_of, text_of):
         return bytes([20, 0xC0]), stored_key(number) + space.put_value(value_of(number))
 
     def line(number):
-        return b"INSERT INTO `t` VALUES (%d,%s);\n" % (number, text_of(value_of(number)))
+        return b'INSERT INTO `t` VALUES (%d,%s);\n' % (number, text_of(value_of(number)))
 
-    return Table(rows, f"column b {kind} notnull\n", f"b {create} NOT NULL", record, line)
+    return Table(rows, 'column b %s notnull\n' % kind, 'b %s NOT NULL' % create, record, line)
 
 
 def plain_value(_):
-    return b"x" * VALUE_SIZE
+    return b'x' * VALUE_SIZE
 
 
 @functools.lru_cache
@@ -124,36 +108,36 @@ def quoted(value):
 
 
 def hexadecimal(value):
-    return b"0x" + value.hex().encode()
+    return b'0x' + value.hex().encode()
 
 
 SHORT = Table(
     1_000_000,
-    "column a int notnull\ncolumn b varchar 40 notnull\n",
-    "a int NOT NULL, b varchar(40) CHARACTER SET latin1 COLLATE latin1_bin NOT NULL",
+    'column a int notnull\ncolumn b varchar 40 notnull\n',
+    'a int NOT NULL, b varchar(40) CHARACTER SET latin1 COLLATE latin1_bin NOT NULL',
     short_record,
     short_line,
 )
 TABLES = {
-    "1,000,000 short rows": SHORT,
-    "1,000,000 short rows with an index": SHORT._replace(
-        index=Index("index i root 4 a\n", ", KEY i (a)", scattered_entry, 8)
+    '1,000,000 short rows': SHORT,
+    '1,000,000 short rows with an index': SHORT._replace(
+        index=Index('index i root 4 a\n', ', KEY i (a)', scattered_entry, 8)
     ),
-    "5,000 long texts": long_table(5_000, "longtext", "longtext CHARACTER SET latin1", plain_value, quoted),
-    "2,500 long binary values": long_table(2_500, "longblob", "longblob", binary_value, hexadecimal),
-    "2,500 long texts with an escape in 13 bytes": long_table(
-        2_500, "longtext", "longtext CHARACTER SET latin1", escaped_value, quoted
+    '5,000 long texts': long_table(5_000, 'longtext', 'longtext CHARACTER SET latin1', plain_value, quoted),
+    '2,500 long binary values': long_table(2_500, 'longblob', 'longblob', binary_value, hexadecimal),
+    '2,500 long texts with an escape in 13 bytes': long_table(
+        2_500, 'longtext', 'longtext CHARACTER SET latin1', escaped_value, quoted
     ),
 }
 
 
 def make(path, table):
-    with open(path, "wb") as file:
+    with open(path, 'wb') as file:
         space = Tablespace(file, (4, table.index.key_size) if table.index else (4,))
         space.put_tree([table.record(space, number) for number in range(table.rows)])
         if table.index:
             entries = sorted(table.index.entry(number) for number in range(table.rows))
-            space.put_tree([(b"", entry) for entry in entries], space.trees[1])
+            space.put_tree([(b'', entry) for entry in entries], space.trees[1])
         space.put_space()
 
 
@@ -162,7 +146,7 @@ def compare(words, table):
     with subprocess.Popen(words, stdout=subprocess.PIPE) as child:
         expected = (table.line(number) for number in range(table.rows))
         if any(given != row for given, row in itertools.zip_longest(child.stdout, expected)):
-            sys.exit(f"{words} writes other rows")
+            sys.exit('%s writes other rows' % words)
 
 
 def run(words):
@@ -172,7 +156,7 @@ def run(words):
     _, status, used = os.wait4(child.pid, 0)
     child.returncode = os.waitstatus_to_exitcode(status)
     if child.returncode:
-        sys.exit(f"{words} ends with {child.returncode}")
+        sys.exit('%s ends with %d' % (words, child.returncode))
     return Took(used.ru_utime + used.ru_stime, time.monotonic() - start)
 
 
@@ -190,8 +174,8 @@ def peak(words):
     most = 0
     with subprocess.Popen(words, stdout=subprocess.DEVNULL) as child:
         while child.poll() is None:
-            with open(f"/proc/{child.pid}/status") as status:
-                most = max([most, *(int(line.split()[1]) for line in status if line.startswith("VmHWM:"))])
+            with open('/proc/%d/status' % child.pid) as status:
+                most = max([most, *(int(line.split()[1]) for line in status if line.startswith('VmHWM:'))])
             time.sleep(0.001)
     return most
 
@@ -205,7 +189,7 @@ def server_of(wanted, folder):
     mariadb.install()
     server = mariadb.Server(folder)
     try:
-        server.run("CREATE DATABASE bench")
+        server.run('CREATE DATABASE bench')
         yield server
     finally:
         server.stop()
@@ -213,7 +197,7 @@ def server_of(wanted, folder):
 
 def processor_of(server):
     """The processor time of the server so far."""
-    fields = pathlib.Path(f"/proc/{server.process.pid}/stat").read_text().rsplit(")", 1)[1].split()
+    fields = pathlib.Path('/proc/%d/stat' % server.process.pid).read_text().rsplit(')', 1)[1].split()
     return (int(fields[11]) + int(fields[12])) / TICKS
 
 
@@ -225,60 +209,61 @@ def with_server(server, words):
 
 def load(server, table):
     """Makes the table in the server, with the same rows."""
-    index = table.index.create if table.index else ""
-    create = f"CREATE TABLE t (id int NOT NULL, {table.create}, PRIMARY KEY (id){index})"
-    server.run(f"DROP TABLE IF EXISTS t; {create}", "bench")
-    with subprocess.Popen(server.client("--default-character-set=binary", "bench"), stdin=subprocess.PIPE) as child:
-        child.stdin.write(b"SET autocommit = 0;\n")
+    index = table.index.create if table.index else ''
+    create = 'CREATE TABLE t (id int NOT NULL, %s, PRIMARY KEY (id)%s)' % (table.create, index)
+    server.run('DROP TABLE IF EXISTS t; %s' % create, 'bench')
+    with subprocess.Popen(server.client('--default-character-set=binary', 'bench'), stdin=subprocess.PIPE) as child:
+        child.stdin.write(b'SET autocommit = 0;\n')
         for number in range(table.rows):
             child.stdin.write(table.line(number))
-        child.stdin.write(b"COMMIT;\n")
+        child.stdin.write(b'COMMIT;\n')
         child.stdin.close()
     if child.returncode:
-        sys.exit("the server refuses the rows")
+        sys.exit('the server refuses the rows')
 
 
 def server_commands(server, table):
     load(server, table)
-    socket = f"--socket={server.folder / 'socket'}"
-    dump = ["mariadb-dump", "--no-defaults", "-uroot", socket, "--max-allowed-packet=64M", "--hex-blob"]
+    socket = '--socket=%s' % (server.folder / 'socket')
+    dump = ['mariadb-dump', '--no-defaults', '-uroot', socket, '--max-allowed-packet=64M', '--hex-blob']
     return {
-        "mariadb-dump": lambda: with_server(server, [*dump, "--skip-extended-insert", "bench", "t"]),
-        "CHECK TABLE EXTENDED": lambda: with_server(
-            server, server.client("-e", "CHECK TABLE t EXTENDED", "bench")
+        'mariadb-dump': lambda: with_server(server, [*dump, '--skip-extended-insert', 'bench', 't']),
+        'CHECK TABLE EXTENDED': lambda: with_server(
+            server, server.client('-e', 'CHECK TABLE t EXTENDED', 'bench')
         ),
     }
 
 
 def measure(given, name, table, folder, server):
     program, runs = given.program, given.runs
-    schema, file = (os.path.join(folder, word) for word in ("schema", "file"))
-    with open(schema, "w") as out:
-        out.write(KEYED.format(columns=table.columns, index=table.index.line if table.index else ""))
+    schema, file = (os.path.join(folder, word) for word in ('schema', 'file'))
+    with open(schema, 'w') as out:
+        out.write(KEYED % (table.columns, table.index.line if table.index else ''))
     make(file, table)
-    compare([program, "dump", schema, file], table)
-    words = {command: [program, command, schema, file] for command in ("check", "cross", "dump")}
+    compare([program, 'dump', schema, file], table)
+    words = {command: [program, command, schema, file] for command in ('check', 'cross', 'dump')}
     if given.salvage:
-        words["salvage"] = [given.salvage, "rows", schema, file]
-    commands = {"dd": lambda: run(["dd", f"bs={PAGE_SIZE}", f"if={file}", "of=/dev/null"])}
+        words['salvage'] = [given.salvage, 'rows', schema, file]
+    commands = {'dd': lambda: run(['dd', 'bs=%d' % PAGE_SIZE, 'if=%s' % file, 'of=/dev/null'])}
     commands |= {command: lambda each=each: run(each) for command, each in words.items()}
     if server:
         commands |= server_commands(server, table)
     took = in_turn(commands, runs)
     size = os.path.getsize(file)
-    print(f"{name}: {size // PAGE_SIZE} pages, {size / 1e6:.0f} MB")
+    print('%s: %d pages, %.0f MB' % (name, size // PAGE_SIZE, size / 1e6))
     for command, each in took.items():
-        ratio = each.processor / took["dd"].processor
-        memory = f", {peak(words[command])} KiB at most" if command in words else ""
-        print(f"  {command}: {each.processor:.3f} s of a processor, {ratio:.1f} x dd; {each.clock:.3f} s{memory}", flush=True)
+        ratio = each.processor / took['dd'].processor
+        memory = ', %d KiB at most' % peak(words[command]) if command in words else ''
+        print('  %s: %.3f s of a processor, %.1f x dd; %.3f s%s' % (
+            command, each.processor, ratio, each.clock, memory), flush=True)
 
 
 def main():
     parser = argparse.ArgumentParser(description=__doc__, formatter_class=argparse.RawDescriptionHelpFormatter)
-    parser.add_argument("--server", action="store_true", help="compare with a server's tools")
-    parser.add_argument("--salvage", metavar="SALVAGE", help="the program that saves the rows too")
-    parser.add_argument("--runs", type=int, default=5, metavar="N", help="runs of each command (5)")
-    parser.add_argument("program", metavar="PROGRAM", help="the program that is measured")
+    parser.add_argument('--server', action='store_true', help="compare with a server's tools")
+    parser.add_argument('--salvage', metavar='SALVAGE', help='the program that saves the rows too')
+    parser.add_argument('--runs', type=int, default=5, metavar='N', help='runs of each command (5)')
+    parser.add_argument('program', metavar='PROGRAM', help='the program that is measured')
     given = parser.parse_args()
     with tempfile.TemporaryDirectory() as home, server_of(given.server, home) as server:
         for name, table in TABLES.items():
@@ -286,5 +271,5 @@ def main():
                 measure(given, name, table, folder, server)
 
 
-if __name__ == "__main__":
+if __name__ == '__main__':
     main()

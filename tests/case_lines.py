@@ -33,7 +33,7 @@ def divided(line):
 
 
 class File:
-    """The pages of a file that are not zeros, its number of bytes, and its schema text. It reads as a tablespace does."""
+    """The pages of a file that are not zeros, its number of bytes, and its schema text. It reads like a tablespace."""
 
     stage = 'full'
 

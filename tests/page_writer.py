@@ -1,4 +1,4 @@
-"""Writes the parts of pages that all made tablespaces have: frames with checksums, chained records, inodes, addresses."""
+"""Writes the parts of pages that all made tablespaces have: frames with checksums, chained records, inodes, lists."""
 
 import struct
 

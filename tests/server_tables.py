@@ -309,7 +309,7 @@ CHANGED = [
      [[number, number % 7] for number in range(300)], []),
     ('aux', '(id int NOT NULL, PRIMARY KEY (id))', 'id', [[1], [2]], []),
     ('parts', '(id int NOT NULL, n int, u varchar(20) %s, PRIMARY KEY (id, n), KEY u (u)) PARTITION BY RANGE (n) '
-     "SUBPARTITION BY HASH (id) SUBPARTITIONS 2 (PARTITION `low-1` VALUES LESS THAN (3), PARTITION p2 VALUES LESS THAN "
+     'SUBPARTITION BY HASH (id) SUBPARTITIONS 2 (PARTITION `low-1` VALUES LESS THAN (3), PARTITION p2 VALUES LESS THAN '
      'MAXVALUE)' % UTF8_3, 'id, n, u', [[number, number % 9, text('u%d' % number)] for number in range(1000)],
      ['DELETE FROM parts WHERE id % 4 = 1']),
 ]

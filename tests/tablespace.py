@@ -3,13 +3,12 @@
 The extents whose first page is one of descriptors hold the pages of the space itself, and the first of them the pages
 of the trees above their leaves, too. The leaves and the pages of long values fill whole extents of the leaf segments.
 """
-import dataclasses
+
 import functools
 import itertools
 import struct
 
-from page_writer import (
-    INODE_PAGE, NOWHERE, address, base, put_frame, put_inode, put_records, put_segment, seal)
+from page_writer import INODE_PAGE, NOWHERE, address, base, put_frame, put_inode, put_records, put_segment, seal
 
 from innodb_layout import (
     ADDRESS_SIZE, BITMAP_SIZE, BLOB, BODY, BODY_END, CRC_START, DESCRIBED_EXTENTS, DYNAMIC, EXTENT_NODE, EXTENT_PAGES,
@@ -47,15 +46,12 @@ def slots_of(count):
     return 1 + max(1, (count + 1) // 4)
 
 
-@dataclasses.dataclass
 class Tree:
     """The pages of a tree so far: its root and what stands above the leaves, and the extents of its leaves."""
 
-    number: int
-    top_pages: list
-    key_size: int = 4
-    extents: list = dataclasses.field(default_factory=list)
-    leaf_pages: int = 0
+    def __init__(self, number, root, key_size):
+        self.number, self.key_size = number, key_size
+        self.top_pages, self.extents, self.leaf_pages = [root], [], 0
 
     @property
     def root(self):
@@ -89,12 +85,12 @@ def pages_of(records):
 
 
 class Tablespace:
-    """A record is the pair of its bytes in front of the header and behind it; the key is the first bytes behind it: four
-    in the tree of the rows, as many as its `key_size` in the tree of an index."""
+    """A record is the pair of its bytes in front of the header and behind it; the key is the first bytes behind it:
+    four in the tree of the rows, as many as its `key_size` in the tree of an index."""
 
     def __init__(self, file, key_sizes=(4,)):
         self.file = file
-        self.trees = [Tree(number, [ROOT + number - 1], size) for number, size in enumerate(key_sizes, 1)]
+        self.trees = [Tree(number, ROOT + number - 1, size) for number, size in enumerate(key_sizes, 1)]
         self.extents = 0
 
     @property
@@ -130,11 +126,11 @@ class Tablespace:
         numbers = [self.new_leaf_page(self.trees[0]) for _ in parts]
         for number, following, part in zip(numbers, [*numbers[1:], FIL_NULL], parts):
             page = bytearray(PAGE_SIZE)
-            struct.pack_into(">II", page, PART_LENGTH, len(part), following)
+            struct.pack_into('>II', page, PART_LENGTH, len(part), following)
             page[PART:PART + len(part)] = part
             front = carry(CRC_START, page[BODY:PART])
             self.write(number, BLOB, page, carry_over_end(front, bytes(page[PART:BODY_END])))
-        return struct.pack(">IIIQ", THIS_SPACE, numbers[0], BODY, len(value))
+        return struct.pack('>IIIQ', THIS_SPACE, numbers[0], BODY, len(value))
 
     def put_tree(self, records, tree=None):
         """Writes the levels of a tree, that of the rows where none is named, from its leaves up to the root."""
@@ -149,26 +145,26 @@ class Tablespace:
             if numbers == [tree.root]:
                 return
             keys = [page[0][1][:tree.key_size] for page in pages]
-            records = [(b"", key + struct.pack(">I", number)) for key, number in zip(keys, numbers)]
+            records = [(b'', key + struct.pack('>I', number)) for key, number in zip(keys, numbers)]
 
     def put_index_page(self, tree, number, level, records, siblings):
         page = bytearray(PAGE_SIZE)
         count, slots = len(records), slots_of(len(records))
-        page[PAGE_ENDS:HEAP_START] = b"\1\0\2\0\0infimum\0" + b"\0\0\x0b\0\0supremum"
+        page[PAGE_ENDS:HEAP_START] = b'\1\0\2\0\0infimum\0' + b'\0\0\x0b\0\0supremum'
         origins, end = put_records(page, records)
         directory = [INFIMUM]
         for place, origin in enumerate(origins, 1):
             owned = 4 if place % 4 == 0 and place // 4 <= slots - 2 else 0
             minimum = MINIMUM_MARK if level > 0 and place == 1 and siblings[0] == FIL_NULL else 0
-            struct.pack_into(">BH", page, origin - MARKS, minimum + owned,
+            struct.pack_into('>BH', page, origin - MARKS, minimum + owned,
                              (place + 1) * 8 + (ORDINARY if level == 0 else NODE_POINTER))
             if owned:
                 directory.append(origin)
         page[SUPREMUM - MARKS] = count - 4 * (slots - 2) + 1
         for place, origin in enumerate([*directory, SUPREMUM]):
-            struct.pack_into(">H", page, LAST_SLOT - SLOT_SIZE * place, origin)
-        struct.pack_into(">II", page, PAGE_BEFORE, *siblings)
-        struct.pack_into(">HHHIHHHHQHQ", page, SLOT_COUNT, slots, end, NEW_FORMAT + count + 2, 0, 0, 5, 0, count, 0,
+            struct.pack_into('>H', page, LAST_SLOT - SLOT_SIZE * place, origin)
+        struct.pack_into('>II', page, PAGE_BEFORE, *siblings)
+        struct.pack_into('>HHHIHHHHQHQ', page, SLOT_COUNT, slots, end, NEW_FORMAT + count + 2, 0, 0, 5, 0, count, 0,
                          level, tree.number)
         if number == tree.root:
             for at, segment in ((LEAF_SEGMENT, tree.leaf_segment), (TOP_SEGMENT, tree.top_segment)):
@@ -206,14 +202,14 @@ class Tablespace:
             for extent in range(first, min(first + DESCRIBED_EXTENTS, extents)):
                 bits = sum((2 if place < used[extent] else 3) << 2 * place for place in range(EXTENT_PAGES))
                 owner, state = (owners[extent], FSEG) if extent in owners else (0, FREE_FRAG)
-                struct.pack_into(">Q6s6sI16s", page, descriptor_place(extent), owner, *around[extent_address(extent)],
-                                 state, bits.to_bytes(BITMAP_SIZE, "little"))
+                struct.pack_into('>Q6s6sI16s', page, descriptor_place(extent), owner, *around[extent_address(extent)],
+                                 state, bits.to_bytes(BITMAP_SIZE, 'little'))
             if first == 0:
                 fragment_used = sum(used[extent] for extent in range(0, extents, DESCRIBED_EXTENTS))
                 pages = extents * EXTENT_PAGES
-                struct.pack_into(">IIIIII", page, SPACE_ID, THIS_SPACE, 0, pages, pages, DYNAMIC, fragment_used)
+                struct.pack_into('>IIIIII', page, SPACE_ID, THIS_SPACE, 0, pages, pages, DYNAMIC, fragment_used)
                 inodes = base([address(INODE_PAGE, INODE_LIST_NODE)])
-                struct.pack_into(">16s16s16sQ16s16s", page, LIST_FREE, base([]), base(lists[0]), base([]),
+                struct.pack_into('>16s16s16sQ16s16s', page, LIST_FREE, base([]), base(lists[0]), base([]),
                                  self.trees[-1].leaf_segment + 1, base([]), inodes)
             self.write(first * EXTENT_PAGES, XDES if first > 0 else FSP_HDR, page)
 
