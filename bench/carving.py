@@ -1,18 +1,12 @@
-#!/usr/bin/env python3
 """Times `ibd-carve list` and `take` over made images against reading the same image with `dd bs=1M`.
 
-usage: bench/carving.py [--runs N] [--megabytes N] PROGRAM
-
-PROGRAM is the program that is measured. The images have 1,000 MB without the option, and are made here, one after the
-other, in the folder for temporary files, which needs room for twice as much; each of them is removed before the next
-one is made. `dd`, `list` and `take` are run in turn, N times each (5 without the option), over an image that is in the
-system's cache; printed are the least times by the clock, of a processor, and the ratios of those by the clock. What
-`list` and `take` say is compared with what was put into the image.
+The images are made here, one after the other, in the folder for temporary files, which needs room for twice as much as
+an image; each of them is removed before the next one is made. `dd`, `list` and `take` are run in turn, N times each,
+over an image that is in the system's cache; printed are the least times by the clock, of a processor, and the ratios of
+those by the clock. What `list` and `take` say is compared with what was put into the image.
 """
 
-import argparse
 import os
-import pathlib
 import random
 import struct
 import subprocess
@@ -20,9 +14,9 @@ import sys
 import tempfile
 import time
 
-sys.path.insert(0, str(pathlib.Path(__file__).resolve().parent.parent / 'tests'))
-from page_writer import put_frame, put_sums  # noqa: E402
-from innodb_layout import (  # noqa: E402
+from page_writer import put_frame, put_sums
+
+from innodb_layout import (
     CHECKSUM, CRC_START, FLUSH_LSN, INDEX, LEVEL, PAGE_SIZE, SUMMED_BODY, SUMMED_HEAD, carry, crc_state, folds)
 
 SPACE, INDEX_ID, LSN = 58, 131, 0x100000000
@@ -158,17 +152,14 @@ def measure(name, put, program, size, runs, folder):
     os.remove(image)
 
 
-def main():
-    parser = argparse.ArgumentParser(description=__doc__, formatter_class=argparse.RawDescriptionHelpFormatter)
+def add_words(parser):
     parser.add_argument('--runs', type=int, default=5, metavar='N', help='runs of each command (5)')
     parser.add_argument('--megabytes', type=int, default=1000, metavar='N', help='the size of an image (1,000)')
     parser.add_argument('program', metavar='PROGRAM', help='the program that is measured')
-    given = parser.parse_args()
+
+
+def measure_all(given):
     size = given.megabytes * 10**6 // BLOCK * BLOCK
     for name, put in IMAGES.items():
         with tempfile.TemporaryDirectory() as folder:
             measure(name, put, given.program, size, given.runs, folder)
-
-
-if __name__ == '__main__':
-    main()

@@ -1,22 +1,17 @@
-#!/usr/bin/env python3
 """Times `check`, `cross` and `dump` of large tables against reading the same file with `dd`, and prints the peak of
 memory.
 
-usage: bench/tables.py [--server] [--salvage SALVAGE] [--runs N] PROGRAM
-
-PROGRAM is the program that is measured. The tables are made here, by tablespace.py, one after the other in the folder
-for temporary files, which needs 700 MB; that takes half a minute. What `dump` writes is compared with the rows. The
-commands and `dd bs=16384` are run in turn, N times each (5 without the option); printed are the medians of processor
-time, in the kernel and outside of it, and of the time by the clock, and the ratios of the processor times. The memory
-is read from /proc.
+The tables are made here, by tests/tablespace.py, one after the other in the folder for temporary files, which needs
+700 MB; that takes half a minute. What `dump` writes is compared with the rows. The commands and `dd bs=16384` are run
+in turn, N times each; printed are the medians of processor time, in the kernel and outside of it, and of the time by
+the clock, and the ratios of the processor times. The memory is read from /proc.
 
 With --salvage the rows are also saved by SALVAGE, which is `ibd-salvage`.
 
-With --server the same rows are loaded into a server (MariaDB, started by tests/server), and `mariadb-dump
+With --server the same rows are loaded into a server (MariaDB, started as by tests/server), and `mariadb-dump
 --skip-extended-insert` and `CHECK TABLE .. EXTENDED` are timed too: client and server together.
 """
 
-import argparse
 import collections
 import contextlib
 import functools
@@ -31,15 +26,12 @@ import sys
 import tempfile
 import time
 
-TOP = pathlib.Path(__file__).resolve().parent.parent
-sys.path.insert(0, str(TOP / 'tests'))
-import mariadb  # noqa: E402
-from tablespace import PAGE_SIZE, Tablespace  # noqa: E402
+import mariadb
+from tablespace import PAGE_SIZE, Tablespace
 
 TICKS = os.sysconf('SC_CLK_TCK')
 KEYED = 'table t dynamic\ncolumn id int notnull\n%sclustered root 3 id\n%s'
 VALUE_SIZE = 60_000
-
 
 # What one run took: seconds of processor time and by the clock.
 Took = collections.namedtuple('Took', 'processor clock')
@@ -258,18 +250,15 @@ def measure(given, name, table, folder, server):
             command, each.processor, ratio, each.clock, memory), flush=True)
 
 
-def main():
-    parser = argparse.ArgumentParser(description=__doc__, formatter_class=argparse.RawDescriptionHelpFormatter)
+def add_words(parser):
     parser.add_argument('--server', action='store_true', help="compare with a server's tools")
     parser.add_argument('--salvage', metavar='SALVAGE', help='the program that saves the rows too')
     parser.add_argument('--runs', type=int, default=5, metavar='N', help='runs of each command (5)')
     parser.add_argument('program', metavar='PROGRAM', help='the program that is measured')
-    given = parser.parse_args()
+
+
+def measure_all(given):
     with tempfile.TemporaryDirectory() as home, server_of(given.server, home) as server:
         for name, table in TABLES.items():
             with tempfile.TemporaryDirectory() as folder:
                 measure(given, name, table, folder, server)
-
-
-if __name__ == '__main__':
-    main()
