@@ -184,8 +184,8 @@ class Survey:
         return self.segments.get(fault.segment)
 
     def clustered(self):
-        """The index that was made first of those with a root."""
-        return min(self.roots, default=None)
+        """The index that was made first; its root may be lost."""
+        return min(self.indexes, default=None)
 
 
 def fill_of(page):
