@@ -59,6 +59,7 @@ fn check_page<S: PageSource, L: Ledger>(
     ensures within { OnOk result (due.page < length marks.now) }
     ensures new { OnOk result (is_set marks.now due.page ≡ false) }
     ensures cost { steps.new ≤ steps.old + 1 }
+    ensures step { OnOk result (steps.new ≡ steps.old + 1) }
     ensures over { HaltsOver S.PageSource source.old source.new steps.old steps.new result }
 {
     chain.pages.fetch(source, due, marks, page, steps)?;
@@ -93,7 +94,7 @@ fn check_pages<S: PageSource, L: Ledger>(
     ensures fewer { IfOk result (λ count. count + unmarked marks.new ≤ unmarked marks.old) }
     ensures told { OfFile S.PageSource source.old (λ file.
         steps.new ≤ steps.old + length (pages_in file chain.now)) }
-    ensures spent { OnOk result (steps.new + unmarked marks.new ≤ steps.old + unmarked marks.old) }
+    ensures exactly { IfOk result (λ count. steps.new ≡ steps.old + count) }
     ensures over { HaltsOver S.PageSource source.old source.new steps.old steps.new result }
 {
     let mut due = chain.first();
@@ -140,7 +141,7 @@ pub fn check_chain_in<S: PageSource, L: Ledger>(
     ensures fewer { IfOk result (λ count. count + unmarked marks.new ≤ unmarked marks.old) }
     ensures told { OfFile S.PageSource source.old (λ file.
         steps.new ≤ steps.old + length (chain_pages file reference.now)) }
-    ensures spent { OnOk result (steps.new + unmarked marks.new ≤ steps.old + unmarked marks.old) }
+    ensures exactly { IfOk result (λ count. steps.new ≡ steps.old + count) }
     ensures over { HaltsOver S.PageSource source.old source.new steps.old steps.new result }
 {
     if reference.length == 0 {
@@ -187,7 +188,7 @@ pub fn check_chain<S: PageSource, L: Ledger>(
     ensures members { length marks.new ≡ length marks.old }
     ensures cost { steps.new + unmarked marks.new ≤ steps.old + unmarked marks.old + 1 }
     ensures fewer { IfOk result (λ count. count + unmarked marks.new ≤ unmarked marks.old) }
-    ensures spent { OnOk result (steps.new + unmarked marks.new ≤ steps.old + unmarked marks.old) }
+    ensures exactly { IfOk result (λ count. steps.new ≡ steps.old + count) }
     ensures over { HaltsOver S.PageSource source.old source.new steps.old steps.new result }
 {
     let pages = ChainPages::Audited { space, segment };

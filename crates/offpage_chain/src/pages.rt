@@ -108,6 +108,7 @@ impl ChainPages<'_> {
         ensures within { OnOk result (due.page < length marks.now) }
         ensures new { OnOk result (is_set marks.now due.page ≡ false) }
         ensures cost { steps.new ≤ steps.old + 1 }
+        ensures step { OnOk result (steps.new ≡ steps.old + 1) }
         ensures over { HaltsOver S.PageSource source.old source.new steps.old steps.new result }
     {
         let fault = Rule::ChainPlace.at(due.holder);

@@ -7,6 +7,7 @@ mod LiveSteps
 mod RowSteps
 mod RowMarks
 mod WholeRows
+mod LeafPass
 mod TreeSteps
 mod UnreachedSteps
 mod WholeSteps

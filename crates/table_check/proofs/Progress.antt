@@ -3,7 +3,6 @@ use Rattle.std.proofs.Common.{◌≡◌, ◌==◌, IfSome, ℕ, ◌+◌, ◌≤�
 use Rattle.std.proofs.Common.{Option, None, Result, Ok, Err, refl, sym, ap, ◌∙◌, subst, arith, length-append}
 use Rattle.std.specs.Prelude.{not}
 use Rattle.std.proofs.lemmas.List.Sums.{count_by-le-length}
-use Rattle.std.proofs.lemmas.Result.{on_ok_weaker}
 use Rattle.page_source.specs.declared.objects.PageSource.{Ghosts as FileOf}
 use Rattle.page_source.specs.declared.rule.Fault.{Fault}
 use Rattle.page_source.specs.declared.checks.Halt.{Halt}
@@ -23,14 +22,14 @@ unmarked_most marks = count_by-le-length not marks
 pub rose_before : (first old new : ℕ) → first ≤ old → Rose old new → Rose first new
 rose_before first old new later rose = omega (arith, later, rose)
 
--- so many pages were counted, and these ones marked, in as many steps at the most
+-- so many pages were counted, and these ones marked, in as many steps
 pub record HasMarked {S : Type 0} (g : FileOf S) (old new : S) (before after : List Bool) (steps spent count : ℕ)
     (pages : List ℕ → List ℕ) : Type 0 where
   pub same : g.content new ≡ g.content old
   pub later : g.faults old ≤ g.faults new
   pub members : length after ≡ length before
   pub fewer : count + unmarked after ≤ unmarked before
-  pub cost : spent + unmarked after ≤ steps + unmarked before
+  pub exactly : spent ≡ steps + count
   pub counted : OfFile g old (λ file. count ≡ length (pages file))
   pub grew : OfFile g old (λ file. Marked (is_set before) after (pages file))
 
@@ -49,7 +48,7 @@ none_marked g old marks steps pages none = record {
   later = omega arith;
   members = refl;
   fewer = omega arith;
-  cost = omega arith;
+  exactly = omega arith;
   counted = told0 (g.content old) (λ file. sym (ap length (none file)));
   grew = told0 (g.content old) (λ file. subst (λ (list : List ℕ). Marked (is_set marks) marks list) (sym (none file))
       (marked_none marks));
@@ -99,7 +98,7 @@ module _ {S : Type 0} (g : FileOf S) (first old new : S) (start before after : L
       → HasMarked g first new start after steps spent (count + n) all
   more_marked n all splits call =
       let fewer = call.fewer in
-      let at_ok = call.at_ok in
+      let exactly = call.exactly in
       let counted = subst (λ (o : Option (List ℕ)). IfSome o (λ file. n ≡ length (more file))) has.same call.count in
       let grew = subst (λ (o : Option (List ℕ)). IfSome o (λ file. Marked (is_set before) after
       (more file))) has.same call.grew in
@@ -108,7 +107,7 @@ module _ {S : Type 0} (g : FileOf S) (first old new : S) (start before after : L
         later = omega (arith, has.later, call.cause.later);
         members = call.members ∙ has.members;
         fewer = omega (arith, has.fewer, fewer);
-        cost = omega (arith, has.cost, at_ok);
+        exactly = omega (arith, has.exactly, exactly);
         counted =
             told3 (g.content first)
             (λ file e a b. omega (arith, a, b, ap length e, length-append (pages file) (more file)))
@@ -131,8 +130,8 @@ module _ {S : Type 0} (g : FileOf S) (first old new : S) (start before after : L
     grew = tt;
     members = call.members ∙ has.members;
     fewer = tt;
-    cost = omega (arith, has.cost, has.fewer, call.cost);
-    at_ok = tt;
+    cost = omega (arith, has.exactly, has.fewer, call.cost);
+    exactly = tt;
     same = call.same ∙ has.same;
     cause = cause_both (Err halt) has.later (λ is. is) call.cause;
   }
@@ -149,24 +148,24 @@ all_marked g old new before after steps spent count pages all All same holds has
       same has.grew;
   members = has.members;
   fewer = has.fewer;
-  cost = omega (arith, has.cost);
-  at_ok = has.cost;
+  cost = omega (arith, has.exactly, has.fewer);
+  exactly = has.exactly;
   same = has.same;
   cause = record { later = has.later; source = λ is. absurd (cc) };
 }
 
 -- a call between that marks nothing
 pub moved : {S A : Type 0} (g : FileOf S) (first old new : S) (start marks : List Bool) (steps mid spent count : ℕ)
-    {before after : ℕ} (pages : List ℕ → List ℕ) (result : Result A Halt) → spent ≤ mid
+    {before after : ℕ} (pages : List ℕ → List ℕ) (result : Result A Halt) → spent ≡ mid
     → HaltsOver g old new before after result
     → HasMarked g first old start marks steps mid count pages
     → HasMarked g first new start marks steps spent count pages
-moved g first old new start marks steps mid spent count pages result less over has = record {
+moved g first old new start marks steps mid spent count pages result as_many over has = record {
   same = over.same ∙ has.same;
   later = omega (arith, has.later, over.cause.later);
   members = has.members;
   fewer = has.fewer;
-  cost = omega (arith, less, has.cost);
+  exactly = as_many ∙ has.exactly;
   counted = has.counted;
   grew = has.grew;
 }
@@ -191,25 +190,44 @@ between_breaks {A = A} spent halt All all has over less exact = record {
   grew = tt;
   members = has.members;
   fewer = tt;
-  cost = omega (arith, less, has.cost);
-  at_ok = tt;
+  cost = omega (arith, less, has.exactly, has.fewer);
+  exactly = tt;
   same = over.same ∙ has.same;
   cause = cause_both {A = A} (Err halt) has.later (halt_as halt) over.cause;
 }
 
--- the same call, counted from other steps, of which it takes no more
-pub recounted : {S : Type 0} {g : FileOf S} {old new : S} {before after : List Bool} {steps spent : ℕ}
-    {result : Result ℕ Halt} {Checks : List ℕ → Option Fault → Type 0} {pages : List ℕ → List ℕ} (first last : ℕ)
-    → ChecksPages g old new before after steps spent result Checks pages → last + steps ≤ first + spent
-    → ChecksPages g old new before after first last result Checks pages
-recounted {result = result} first last call no_more = record {
+-- the same call, counted from other steps
+pub recounted : {S : Type 0} {g : FileOf S} {old new : S} {before after : List Bool} {steps spent n : ℕ}
+    {Checks : List ℕ → Option Fault → Type 0} {pages : List ℕ → List ℕ} (first last : ℕ)
+    → ChecksPages g old new before after steps spent (Ok n) Checks pages → last + steps ≡ first + spent
+    → ChecksPages g old new before after first last (Ok n) Checks pages
+recounted first last call as_many =
+    let exactly = call.exactly in
+    record {
+      exact = call.exact;
+      count = call.count;
+      grew = call.grew;
+      members = call.members;
+      fewer = call.fewer;
+      cost = omega (arith, as_many, call.cost);
+      exactly = omega (arith, as_many, exactly);
+      same = call.same;
+      cause = call.cause;
+    }
+
+-- one that breaks off, of which it takes no more
+pub recounted_break : {S : Type 0} {g : FileOf S} {old new : S} {before after : List Bool} {steps spent : ℕ}
+    {halt : Halt} {Checks : List ℕ → Option Fault → Type 0} {pages : List ℕ → List ℕ} (first last : ℕ)
+    → ChecksPages g old new before after steps spent (Err halt) Checks pages → last + steps ≤ first + spent
+    → ChecksPages g old new before after first last (Err halt) Checks pages
+recounted_break first last call no_more = record {
   exact = call.exact;
   count = call.count;
   grew = call.grew;
   members = call.members;
   fewer = call.fewer;
   cost = omega (arith, no_more, call.cost);
-  at_ok = on_ok_weaker result (λ few. omega (arith, no_more, few)) call.at_ok;
+  exactly = tt;
   same = call.same;
   cause = call.cause;
 }

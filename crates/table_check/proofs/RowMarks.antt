@@ -20,6 +20,7 @@ use Rattle.table_check.specs.Live.{LiveView, FindsLive, HasGivenLive, GivesAll}
 use Rattle.table_check.specs.Marking.{ChecksPages}
 use Rattle.table_check.specs.Values.{RecordChecks, RowCheck, RowChecks, pages_of_record, all_chain_pages, live_rows}
 use Rattle.table_check.proofs.Progress.{HasMarked, none_marked, more_marked, all_marked, breaks_off, moved, recounted}
+use Rattle.table_check.proofs.Progress.{recounted_break}
 use Rattle.table_check.proofs.RecordMarks.{halts_as}
 use Rattle.table_check.proofs.RowSteps.{NextExact, pages_before, no_rows, before_more, each_of_breaks, each_of_holds}
 use Rattle.table_check.proofs.RowSteps.{row_checked, row_more, row_readable, all_pages, finds}
@@ -62,17 +63,17 @@ pub searched : {S : Type 0} {g : FileOf S} {first old new : S} {start marks : Li
     (rows : LiveView) (segment spent : ℕ)
     (found : Option ℕ)
     → OfFile g first (λ file. GivesAll (clustered_tree file table) rows segment)
-    → HaveHeld g first old start marks steps mid count table before j → result ≡ found → spent ≤ mid
+    → HaveHeld g first old start marks steps mid count table before j → result ≡ found → spent ≡ mid
     → HaltsOver {A = Option ℕ} g old new asked asked_now (Ok result)
     → OfFile g old (λ file. NextExact file before (Ok result) after)
     → HaveFound g first new start marks steps spent count table after j found
 searched {g = g} {first = first} {old = old} {new = new} {start = start} {marks = marks} {steps = steps} {mid = mid}
     {count = count} {j = j} {table = table} {before = before} {after = after} {result = result}
-    rows segment spent found told have is less over exact =
+    rows segment spent found told have is as_many over exact =
     let first_exact = subst (λ (o : Option (List ℕ)). IfSome o (λ file. NextExact file before (Ok result) after))
     have.has.same exact in
     record {
-      has = moved g first old new start marks steps mid spent count (λ file. pages_before file table j) (Ok result) less
+      has = moved g first old new start marks steps mid spent count (λ file. pages_before file table j) (Ok result) as_many
           over have.has;
       held = have.held;
       at_row =
@@ -138,7 +139,7 @@ module _ {S : Type 0} {g : FileOf S} {first old : S} {start before : List Bool} 
     row_breaks halt call =
         let exact = subst (λ (o : Option (List ℕ)). IfSome o (λ file. HaltsAt halt (Here file))) have.has.same
         call.exact in
-        recounted base spent
+        recounted_break base spent
         (breaks_off g first old new start before after base (mid + left) (spent + left) count
         (λ file. pages_before file table j)
         here Here have.has halt
@@ -149,7 +150,7 @@ module _ {S : Type 0} {g : FileOf S} {first old : S} {start before : List Bool} 
         (RowCheck (clustered_tree file table) (is_set start)) j halt (f.0).within below
         (λ d. halts_as halt (Here file) _ (λ v check. checked file t f marked d v check) at))
         told have.at_row have.has.grew have.held exact)
-        (recounted (mid + left) (spent + left) call (omega arith)))
+        (recounted_break (mid + left) (spent + left) call (omega arith)))
         (omega arith)
 
     -- or hold

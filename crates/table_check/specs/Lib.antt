@@ -6,6 +6,7 @@ pub mod Marking
 pub mod Rows
 pub mod First
 pub mod Live
+pub mod Pass
 pub mod Taken
 pub mod Valid
 pub mod Laws

@@ -14,8 +14,8 @@ pub record CanMark {S : Type 0} (g : FileOf S) (source : S) (space : SpaceView) 
   pub audit : OfFile g source (λ file. IsAuditOf file space)
   pub members : length marks ≡ space.size
 
--- the first of these checks that is broken is the answer; these pages were marked and counted, and each page was
--- fetched once
+-- the first of these checks that is broken is the answer; these pages were marked and counted, and at Ok a step was
+-- taken for each, once
 pub record ChecksPages {S : Type 0} (g : FileOf S) (old new : S) (before after : List Bool) (steps spent : ℕ)
     (result : Result ℕ Halt) (Checks : List ℕ → Option Fault → Type 0) (pages : List ℕ → List ℕ) : Type 0 where
   pub exact : OfFile g old (λ file. Halts result (Checks file))
@@ -24,6 +24,6 @@ pub record ChecksPages {S : Type 0} (g : FileOf S) (old new : S) (before after :
   pub members : length after ≡ length before
   pub fewer : IfOk result (λ count. count + unmarked after ≤ unmarked before)
   pub cost : spent + unmarked after ≤ steps + unmarked before + 1
-  pub at_ok : OnOk result (spent + unmarked after ≤ steps + unmarked before)
+  pub exactly : IfOk result (λ count. spent ≡ steps + count)
   pub same : g.content new ≡ g.content old
   pub cause : HaltsWithCause (g.faults old) (g.faults new) result

@@ -19,8 +19,8 @@ ghost use Rattle.table_check.specs.Leaf.{RecordChecksOn, pages_of_record_on};
 
 use crate::any_bytes::need_no_look;
 use crate::leaf::{Leaf, Leaves};
+use crate::pass::pass_leaves;
 use crate::record::check_record;
-use crate::refetch::fetch_leaves;
 use crate::rows::LiveRows;
 use compact_record::Located;
 use page_source::{Halt, PAGE_SIZE, Page, PageSource, Rule, Steps, Stop};
@@ -28,8 +28,8 @@ use schema_text::Schema;
 use space_audit::{Marks, Space};
 use std::alloc::Global;
 use std::sync::ledger::Ledger;
-use tree_walk::TreeEnds;
 use tree_walk::laws::rows_can_be_read;
+use tree_walk::{LeafCursor, TreeEnds};
 
 /// Checks the values of the record at this origin of a leaf. Marks the pages that they go on in, and answers how many
 /// there are. A record that can't be read breaks rule 40; in a file that tells its bytes none is met.
@@ -101,8 +101,9 @@ pub(crate) fn check_rows<S: PageSource, L: Ledger>(
     Ok(count)
 }
 
-/// Checks the values of all rows of a table whose trees are these pages. Where all values lie whole on their leaves, and
-/// any bytes spell one, none can be wrong: the leaves are fetched, and not looked at.
+/// Checks the values of all rows of a table whose trees are these pages. Marks the pages that they go on in, and answers
+/// how many there are. At Ok it took a step for each leaf and one for each of these pages. If all values lie whole on
+/// their leaves, and any bytes spell one, none can be wrong: the leaves are taken in their order, and not looked at.
 pub(crate) fn check_values<S: PageSource, L: Ledger>(
     alloc: Global,
     source: &mut S,
@@ -122,18 +123,18 @@ pub(crate) fn check_values<S: PageSource, L: Ledger>(
     ensures members { length marks.new ≡ length marks.old }
     ensures fewer { IfOk result (λ count. count + unmarked marks.new ≤ unmarked marks.old) }
     ensures cost { steps.new ≤ steps.old + clustered.now.leaves + unmarked marks.old + 1 }
-    ensures at_ok { OnOk result
-        (steps.new + unmarked marks.new ≤ steps.old + clustered.now.leaves + unmarked marks.old) }
+    ensures exactly { IfOk result (λ count. steps.new ≡ steps.old + clustered.now.leaves + count) }
     ensures over { StopsOver S.PageSource source.old source.new steps.old steps.new result }
 {
     let _ = schema.indexes();
     let fields = schema.fields(alloc, 0, true)?;
-    let mut page = Page::zeroed(alloc)?;
     rows_can_be_read();
     if need_no_look(clustered, &fields) {
-        fetch_leaves(source, space, clustered, &mut page, steps)?;
+        let mut cursor = LeafCursor::start(alloc, clustered)?;
+        pass_leaves(source, &mut cursor, steps)?;
         return Ok(0);
     }
+    let mut page = Page::zeroed(alloc)?;
     let leaves = Leaves {
         space,
         segment: clustered.leaf_segment,

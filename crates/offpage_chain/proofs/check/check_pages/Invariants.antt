@@ -14,8 +14,7 @@ invariant-loop-due g l =
       later : g.S.PageSource.faults l.fn.source ≤ g.S.PageSource.faults l.source;
       asked : AsksNoMore g.S.PageSource l.fn.source l.source l.fn.steps l.steps;
       members : length l.marks ≡ length l.fn.marks;
-      spent : l.steps + unmarked l.marks ≤ l.fn.steps + unmarked l.fn.marks;
-      taken : l.steps ≤ l.fn.steps + l.count;
+      taken : l.steps ≡ l.fn.steps + l.count;
       few : l.count + l.due.left ≤ l.chain.reference.now.length;
       marked : l.count + unmarked l.marks ≤ unmarked l.fn.marks;
       counts : CountsUpTo (16384 + (l.chain.reference.now.length - l.due.left)) l.text;

@@ -87,11 +87,21 @@ pub returns-in_err-unreached-clause-steps : goal.returns-in_err-unreached-clause
 returns-in_err-unreached-clause-steps g c =
     let sized = c.in_ok-space.ensures.sized in
     let leaves = c.in_ok-trees.ensures.leaves in
-    let at_ok = c.in_ok-chain_pages.ensures.at_ok in
+    let exactly = c.in_ok-chain_pages.ensures.exactly in
+    let fewer = c.in_ok-chain_pages.ensures.fewer in
     takes_steps
     (told1 (g.S.PageSource.content c.args.source.now) (λ file audit. (c.size-pages.ensures.told file audit).within)
     c.in_ok-space.ensures.audited) c.size-pages.ensures.most
-    (omega (arith, sized, leaves.fewer, leaves.cost, c.in_ok-trees.ensures.least, at_ok, c.size-pages.ensures.is))
+    (omega (
+      arith,
+      sized,
+      leaves.fewer,
+      leaves.cost,
+      c.in_ok-trees.ensures.least,
+      exactly,
+      fewer,
+      c.size-pages.ensures.is,
+    ))
 
 pub returns-clause-exact : goal.returns-clause-exact
 returns-clause-exact g c =

@@ -61,7 +61,7 @@ returns-clause-checks g c =
       members = c.check_chain_in.ensures.members;
       fewer = c.check_chain_in.ensures.fewer;
       cost = c.check_chain_in.ensures.cost;
-      at_ok = c.check_chain_in.ensures.spent;
+      exactly = c.check_chain_in.ensures.exactly;
       same = c.check_chain_in.ensures.over.same;
       cause = c.check_chain_in.ensures.over.cause;
     }

@@ -1,4 +1,4 @@
-use Rattle.std.proofs.Common.{◌+◌, ◌-◌, Err, Some, None, refl, ◌∙◌, arith}
+use Rattle.std.proofs.Common.{ℕ, ◌+◌, ◌-◌, Ok, Err, Option, Some, None, refl, ap, ◌∙◌, arith}
 use Rattle.std.proofs.lemmas.Result.{err_from_is_err_and}
 use Rattle.page_source.proofs.Told.{told2, told3}
 use Rattle.space_audit.specs.Marks.{is_set}
@@ -130,7 +130,9 @@ loop-origin-preserved g c =
 
 pub returns-clause-checks : goal.returns-clause-checks
 returns-clause-checks g c =
+    let none = none_found c.in_ok-origin.field-0 c.in_default.not-Some in
+    let come = c.in_ok-origin.ensures.all (ap (λ (found : Option ℕ). Ok found) none) in
     all_held
     (searched c.args.rows.now c.args.leaves.now.segment c.next.new.steps None c.requires.told
-    c.loop-origin.invariant.have (none_found c.in_ok-origin.field-0 c.in_default.not-Some)
-    (omega (arith, c.in_ok-origin.ensures.steps)) c.in_ok-origin.ensures.over c.in_ok-origin.ensures.exact)
+    c.loop-origin.invariant.have none (omega (arith, c.in_ok-origin.ensures.steps, come.leaves))
+    c.in_ok-origin.ensures.over c.in_ok-origin.ensures.exact)
