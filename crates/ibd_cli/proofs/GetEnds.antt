@@ -1,5 +1,6 @@
 -- How a look-up ends.
-use Rattle.std.proofs.Common.{◌≡◌, ◌⊎◌, ℕ, ◌+◌, ◌≤◌, List, Option, Result, Ok, Err, refl, ap, inl, inr, arith}
+use Rattle.std.proofs.Common.{◌≡◌, ◌⊎◌, ℕ, ◌+◌, ◌≤◌, List, Option, Result, Ok, Err, OnOk, refl, ap, inl, inr}
+use Rattle.std.proofs.Common.{arith}
 use Rattle.page_source.specs.declared.objects.PageSource.{Ghosts as FileOf}
 use Rattle.page_source.specs.declared.objects.ByteSink.{Ghosts as SinkOf}
 use Rattle.page_source.specs.Calls.{OfFile}
@@ -7,6 +8,7 @@ use Rattle.page_source.proofs.Told.{told1}
 use Rattle.column_values.specs.Order.{Key}
 use Rattle.schema_text.specs.TableDef.{TableDef}
 use Rattle.table_check.specs.First.{TakesSteps, AsksAtMost}
+use Rattle.sql_dump.specs.SomeRows.{GrowsByRows}
 use Rattle.key_lookup.specs.declared.stop.GetStop.{GetStop}
 use Rattle.key_lookup.specs.declared.stop.GetStop.TheVariants.{Refused, Absent, Broken, Source, Sink, Memory}
 use Rattle.key_lookup.specs.KeyOfText.{SpellsKey, IsNoKey}
@@ -84,10 +86,11 @@ stop_unkeyed Source ends = tt
 stop_unkeyed Sink ends = tt
 stop_unkeyed Memory ends = tt
 
--- what the three contracts of a look-up say of one
+-- what the clauses of a look-up say of one
 pub record Got {F O : Type 0} (f : FileOf F) (o : SinkOf O) (key : List ℕ) (file file_now : F) (table : TableDef)
     (out out_now : O) (steps steps_now : ℕ) (result : Result (Unit {0}) GetStop) : Type 0 where
   pub told : OfFile f file (λ content. Gets o content table key result out out_now)
+  pub some : OnOk result (GrowsByRows table (o.written out) (o.written out_now) 1)
   pub refused : result ≡ Err Refused → IsNoKey table key
   pub first : IsNoKey table key → TouchesNothing file file_now out out_now steps steps_now result
   pub over : GetsOver f o file file_now out out_now steps steps_now result
@@ -153,7 +156,7 @@ module _ {F O : Type 0} (f : FileOf F) (o : SinkOf O) (key : List ℕ) (file fil
     silent = told1 (f.content file)
         (λ content gets. done_silent f o key file file_now table out out_now steps steps_now content done gets) got.told;
     unwritten = λ before. absurd before;
-    some = λ is. tt;
+    some = λ is. got.some;
     few = got_few (Ok done) got;
     source = λ is. absurd (cc);
     sink = λ is. absurd (cc);

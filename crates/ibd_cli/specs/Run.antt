@@ -141,12 +141,13 @@ IsOfTask Get KeyRefused = ⊤
 IsOfTask Get Absent = ⊤
 IsOfTask _ _ = ⊥
 
--- what a command that is done has written, whatever the file tells: the line of some numbers, or the lines of some rows
+-- what a command that is done has written, whatever the file tells: the line of some numbers, the lines of some rows,
+-- or that of one
 abbrev pub WritesSome : Task → TableDef → Option (List ℕ) → Option (List ℕ) → Type 0
 WritesSome Check table old new = (checked : Checked) × GrowsBy old new (checked_line checked)
 WritesSome Dump table old new = (checked : Checked) × GrowsByRows table old new checked.rows
 WritesSome Cross table old new = (crossed : Crossed) × GrowsBy old new (crossed_line crossed)
-WritesSome Get table old new = ⊤
+WritesSome Get table old new = GrowsByRows table old new 1
 
 -- how many steps were counted, and pages fetched
 pub record Spent : Type 0 where

@@ -20,3 +20,4 @@ mod Sound
 mod KeyCells
 mod GetKey
 mod OneLine
+mod OneRow

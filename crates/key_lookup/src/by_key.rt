@@ -10,6 +10,7 @@ ghost use Rattle.row_text.specs.Line.{line_of};
 ghost use Rattle.tree_walk.specs.Records.{IsRecord};
 ghost use Rattle.table_check.specs.First.{TakesSteps, AsksAtMost};
 ghost use Rattle.sql_dump.specs.Stops.{Writes, WritesOver};
+ghost use Rattle.sql_dump.specs.SomeRows.{GrowsByRows};
 ghost use Rattle.sql_dump.specs.Cells.{ReadsRow, CanReadRow, BreaksRow, row_on};
 ghost use Rattle.key_lookup.specs.KeyOfText.{SpellsKey, IsNoKey};
 ghost use Rattle.key_lookup.specs.LookUp.{row_found};
@@ -45,6 +46,7 @@ fn write_row<S: PageSource, O: ByteSink, L: Ledger>(
     ensures puts { OfFile S.PageSource source.old (λ file. (row_values : List Value)
         → ReadsRow file (row_on reader.old.table leaf.now found.origin) row_values
         → Writes result (O.written sink.old) (O.written sink.new) (line_of reader.old.table row_values)) }
+    ensures some { OnOk result (GrowsByRows reader.old.table (O.written sink.old) (O.written sink.new) 1) }
     ensures broken { (fault : Fault) → result ≡ Err (WriteStop.Broken fault)
         → BreaksRow (row_found reader.old.table leaf.now found) fault }
     ensures cost { steps.new + room.new.left ≡ steps.old + room.old.left }
@@ -68,6 +70,7 @@ pub(crate) fn get_by_key<S: PageSource, O: ByteSink, L: Ledger>(
     requires same { length key.now ≡ (leaf_fields schema.now 0).keys }
     ensures told { OfFile S.PageSource source.old (λ file.
         GetsByKey O.ByteSink file schema.now key.now result sink.old sink.new) }
+    ensures some { OnOk result (GrowsByRows schema.now (O.written sink.old) (O.written sink.new) 1) }
     ensures knows { result ≢ Err GetStop.Refused }
     ensures over { GetsOver S.PageSource O.ByteSink source.old source.new sink.old sink.new
         steps.old steps.new result }
@@ -123,6 +126,7 @@ pub fn get<S: PageSource, O: ByteSink, L: Ledger>(
 ) -> Result<(), GetStop>
     ensures told { OfFile S.PageSource source.old (λ file.
         Gets O.ByteSink file schema.now key.now result sink.old sink.new) }
+    ensures some { OnOk result (GrowsByRows schema.now (O.written sink.old) (O.written sink.new) 1) }
     ensures refused { result ≡ Err GetStop.Refused → IsNoKey schema.now key.now }
     ensures first { IsNoKey schema.now key.now
         → TouchesNothing source.old source.new sink.old sink.new steps.old steps.new result }

@@ -7,6 +7,7 @@ returns-in-Ok g c =
     c.args.out.now c.get.new.sink c.args.steps.now c.get.new.steps c.in-Ok.field-0
     (record {
       told = c.in-Ok.ensures.told;
+      some = c.in-Ok.ensures.some;
       refused = c.in-Ok.ensures.refused;
       first = c.in-Ok.ensures.first;
       over = c.in-Ok.ensures.over;
@@ -22,6 +23,7 @@ returns-in-Err g c =
     c.args.out.now c.get.new.sink c.args.steps.now c.get.new.steps c.in-Err.stop
     (record {
       told = c.in-Err.ensures.told;
+      some = tt;
       refused = c.in-Err.ensures.refused;
       first = c.in-Err.ensures.first;
       over = c.in-Err.ensures.over;

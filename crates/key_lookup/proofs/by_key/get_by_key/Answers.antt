@@ -9,6 +9,7 @@ use Rattle.schema_text.specs.TableDef.{TableDef}
 use Rattle.schema_text.specs.IndexFields.{leaf_fields}
 use Rattle.tree_walk.specs.Records.{IsRecord}
 use Rattle.sql_dump.specs.Stops.{Writes}
+use Rattle.sql_dump.specs.SomeRows.{GrowsByRows}
 use Rattle.sql_dump.specs.Cells.{ReadsRow, CanReadRow, row_on}
 use Rattle.key_lookup.proofs.GetSteps.{stopped, readable, written, cut_off, takes_fewer}
 use Rattle.key_lookup.proofs.GetSteps.{not_refused, write_refused, over_stop, over_absent, over_cut, over_done}
@@ -128,6 +129,11 @@ returns-clause-told g c =
     → GrowsBy (g.O.ByteSink.written c.args.sink.now)
     (g.O.ByteSink.written c.write_row.new.sink) (line_of t row_values)) c.in_ok-leaf.ensures.reader puts) tt)
     c.in_ok-found.ensures.exact found puts
+
+pub returns-clause-some : goal.returns-clause-some
+returns-clause-some g c =
+    subst (λ (t : TableDef). GrowsByRows t (g.O.ByteSink.written c.args.sink.now)
+    (g.O.ByteSink.written c.write_row.new.sink) 1) c.in_ok-leaf.ensures.reader c.in_ok-write_row.ensures.some
 
 pub returns-clause-over : goal.returns-clause-over
 returns-clause-over g c =
