@@ -168,13 +168,15 @@ impl RowWriter {
         &mut self,
         sink: &mut O,
         kind: &ColumnType,
-        _length: u64,
+        length: u64,
     ) -> Result<(), Failed>
         requires long { is_long kind.now ≡ true }
         requires whole { self.old.lacks ≡ 0 }
         ensures puts { Puts O.ByteSink sink.old sink.new (long_close kind.now) result }
         ensures counts { OnOk result (self.new ≡ self.old) }
     {
+        // What stands there doesn't depend on how many bytes came.
+        let _ = length;
         let end: &[u8] = if is_text(kind) { b"'" } else { b"" };
         put_pieces(sink, &[end])
     }
