@@ -6,7 +6,7 @@ use Rattle.std.specs.Option.{is_some}
 use Rattle.std.specs.Ordering.{nat_cmp}
 use Rattle.page_source.specs.Faults.{Rose}
 use Rattle.page_source.specs.Objects.{PageMap, Store, IsFresh, GrowsBy, GrowsByPart}
-use Rattle.page_source.proofs.Told.{told1}
+use Rattle.page_source.proofs.Told.{told1, told2}
 use Rattle.schema_text.specs.TableDef.{TableDef}
 use Rattle.schema_text.specs.Grammar.{IsTextOf}
 use Rattle.schema_text.specs.declared.errors.SchemaWhy.{SchemaWhy}
@@ -167,7 +167,14 @@ module _ (once : BuildsOnce) {Q R O T : Type 0} (g : Meanings Q R O T) (old now 
       record { out = out; target = reached.untouched tt },
     )
     stop_ends (stops.RowsRefused line why) reached out = (
-      (table, of_schema (Err (stops.RowsRefused line why)) reached, (reached.builds.0, reached.builds.1)),
+      (
+        table,
+        of_schema (Err (stops.RowsRefused line why)) reached,
+        (
+          reached.builds.0,
+          told2 (g.rows.left old.rows) (λ text bad near. (bad, near)) reached.builds.1 reached.reads,
+        ),
+      ),
       record { out = out; target = reached.untouched tt },
     )
     stop_ends stops.Full reached out = (

@@ -1,5 +1,6 @@
 -- What the command `build` answers, and what it leaves.
-use Rattle.std.specs.Prelude.{◌≡◌, ℕ, ◌<◌, ◌⊎◌, ⊤, List, [], ◌++◌, length, codes, Option, Some, None, IfSome, Ok, Err}
+use Rattle.std.specs.Prelude.{◌≡◌, ℕ, ◌-◌, ◌<◌, ◌⊎◌, ⊤, List, [], ◌++◌, length, codes, Option, Some, None, IfSome}
+use Rattle.std.specs.Prelude.{Ok, Err}
 use Rattle.page_source.specs.declared.objects.ByteSource.{Ghosts as SourceOf}
 use Rattle.page_source.specs.declared.objects.ByteSink.{Ghosts as SinkOf}
 use Rattle.page_source.specs.declared.objects.PageStore.{Ghosts as StoreOf}
@@ -12,6 +13,7 @@ use Rattle.schema_text.specs.Grammar.{IsTextOf}
 use Rattle.space_builder.specs.declared.built.BuildStop.TheVariants as stops
 use Rattle.space_builder.specs.layout.Layout.{Rows, FitsSpace, layout_extents, layout_size}
 use Rattle.space_builder.specs.build.BadLine.{RootOrderChecks, RowsChecks}
+use Rattle.space_builder.specs.build.ReadRows.{ReadsNear}
 use Rattle.space_builder.specs.build.Build.{HoldsLayout, HoldsPart, LacksHead, IsSizedFor, OfRows}
 use Rattle.space_builder.specs.build.Outcome.{ComesTo}
 use Rattle.ibd_cli.specs.declared.status.Status.{Status}
@@ -116,7 +118,8 @@ EndsBuild g old now (SchemaRefused line why) =
     × WritesNothing old now
 EndsBuild g old now (RowsRefused line why) =
     OfSchema (g.schema.left old.schema) (λ table. RootOrderChecks table None
-    × IfSome (g.rows.left old.rows) (λ text. RowsChecks table text (Some (record { line = line; why = why }))))
+    × IfSome (g.rows.left old.rows) (λ text. RowsChecks table text (Some (record { line = line; why = why }))
+    × ReadsNear text (g.rows.left now.rows) (line - 1)))
     × WritesNothing old now
 EndsBuild g old now Full = OfBuilt g old (λ table rows. 256 < layout_extents table rows) × WritesNothing old now
 EndsBuild g old now SourceFault = WritesNothing old now
