@@ -66,27 +66,6 @@ is_sink (Err stops.Losses) status ends is = absurd ends
 is_sink (Err stops.Memory) status ends is = absurd (let e : statuses.Memory ≡ statuses.SinkFault = sym ends ∙ is in cc)
 is_sink (Err (stops.Changed f)) status ends is = absurd (let e : statuses.Changed f ≡ statuses.SinkFault = sym ends ∙ is in cc)
 
-same_change : (f fault : Fault) → statuses.Changed f ≡ statuses.Changed fault → f ≡ fault
-same_change f fault e = cc
-
-is_changed : (answer : Result Saved SalvageStop) (status : SalvageStatus) (fault : Fault) → Ends answer status
-    → status ≡ statuses.Changed fault → answer ≡ Err (stops.Changed fault)
-is_changed (Ok saved) statuses.Done fault ends is = absurd (cc)
-is_changed (Ok saved) statuses.Lost fault ends is = absurd (cc)
-is_changed (Ok saved) statuses.Usage fault ends is = absurd ends
-is_changed (Ok saved) (statuses.SchemaRefused l w) fault ends is = absurd ends
-is_changed (Ok saved) (statuses.Changed f) fault ends is = absurd ends
-is_changed (Ok saved) statuses.SourceFault fault ends is = absurd ends
-is_changed (Ok saved) statuses.SinkFault fault ends is = absurd ends
-is_changed (Ok saved) statuses.Memory fault ends is = absurd ends
-is_changed (Ok saved) statuses.RootLost fault ends is = absurd ends
-is_changed (Err stops.Root) status fault ends is = absurd (let e : statuses.RootLost ≡ statuses.Changed fault = sym ends ∙ is in cc)
-is_changed (Err stops.Source) status fault ends is = absurd (let e : statuses.SourceFault ≡ statuses.Changed fault = sym ends ∙ is in cc)
-is_changed (Err stops.Sink) status fault ends is = absurd (let e : statuses.SinkFault ≡ statuses.Changed fault = sym ends ∙ is in cc)
-is_changed (Err stops.Losses) status fault ends is = absurd ends
-is_changed (Err stops.Memory) status fault ends is = absurd (let e : statuses.Memory ≡ statuses.Changed fault = sym ends ∙ is in cc)
-is_changed (Err (stops.Changed f)) status fault ends is = ap (λ (g : Fault). Err (stops.Changed g)) (same_change f fault (sym ends ∙ is))
-
 -- it ended before the first byte
 is_before : (answer : Result Saved SalvageStop) (status : SalvageStatus) → Ends answer status → ComesBefore status
     → (answer ≡ Err stops.Root) ⊎ (answer ≡ Err stops.Memory)
@@ -105,23 +84,3 @@ is_before (Err stops.Sink) status ends before = absurd (subst ComesBefore ends b
 is_before (Err stops.Losses) status ends before = absurd ends
 is_before (Err stops.Memory) status ends before = inr refl
 is_before (Err (stops.Changed f)) status ends before = absurd (subst ComesBefore ends before)
-
-pub saves_over : {F O E : Type 0} (f : FileOf F) (o : SinkOf O) (e : SinkOf E) (file file_now : F) (out out_now : O)
-    (err err_now : E) (steps steps_now : ℕ) (answer : Result Saved SalvageStop) (status : SalvageStatus)
-    → Ends answer status → SalvagesOver f o e file file_now out out_now err err_now steps steps_now answer
-    → TakesSteps f file salvage_steps steps steps_now → AsksAtMost f file file_now salvage_steps
-    → SavesOver f o e file file_now out out_now err err_now steps steps_now status
-saves_over f o e file file_now out out_now err err_now steps steps_now answer status ends over cost fetches = record {
-  of_file = of_file answer status ends;
-  content = over.same;
-  source = λ is. over.source_rose (is_source answer status ends is);
-  sink = λ is. over.sink_rose (is_sink answer status ends is);
-  heard = over.losses_later;
-  unwritten = λ before. elim (is_before answer status ends before) [
-    | inl root ↦ over.rootless root
-    | inr memory ↦ over.unwritten memory
-  ];
-  changed = λ fault is. over.changed fault (is_changed answer status fault ends is);
-  cost = cost;
-  fetches = fetches;
-}

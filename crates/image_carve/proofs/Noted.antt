@@ -182,10 +182,6 @@ numbers_of_tally lsns taken tally some size = record {
   };
 }
 
-pub none_of_tally : (lsns : List (Option ℕ)) (pages newest : ℕ) → IsTally (known lsns) pages newest → pages ≡ 0
-    → known lsns ≡ []
-none_of_tally lsns pages newest tally none = nil_from_length (known lsns) (sym tally.counts ∙ none)
-
 pub tally_all : (lsns : List (Option ℕ)) (n count greatest : ℕ) → length lsns ≤ n
     → IsTally (known (take n lsns)) count greatest → IsTally (known lsns) count greatest
 tally_all lsns n count greatest all tally =

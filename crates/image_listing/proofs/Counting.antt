@@ -84,9 +84,6 @@ tally_step pages None page true is =
 tally_step pages (Some tally) page true is = tally_more pages tally page is
 tally_step pages found page false is = subst (λ (all : List Kept). IsTally all found) (sym (append-nil pages)) is
 
-pub tallies_at_start : (tallies : BTreeMap (ℕ × Option ℕ) Tally) → IsEmpty tallies → AreTallies [] tallies
-tallies_at_start tallies empty key = rw empty refl
-
 pub tallies_more : (pages : List Kept) (page : Kept) (old now : BTreeMap (ℕ × Option ℕ) Tally) → AreTallies pages old
     → CountsPage old now page.0.0 page.1 → AreTallies (pages ++ page ∷ []) now
 tallies_more pages page old now are counted key =

@@ -25,13 +25,6 @@ pub record IsKeptBelow (image : List ℕ) (p space n : ℕ) (kept : Option Versi
 abbrev pub AreKeptBelow : List ℕ → ℕ → BTreeMap (ℕ × ℕ) Version → Type 0
 AreKeptBelow image p pages = (space n : ℕ) → IsKeptBelow image p space n (get page_cmp pages (space, n))
 
-pub kept_at_start : (image : List ℕ) (pages : BTreeMap (ℕ × ℕ) Version) → IsEmpty pages → AreKeptBelow image 0 pages
-kept_at_start image pages empty space n = rw empty (record {
-  page = None;
-  newest = newest_at_start image space n;
-  same = refl;
-})
-
 -- the versions are compared as the pages are
 newer_same : (kept : Option (List ℕ)) (page : List ℕ)
     → newer (option_map version_of kept) (version_of page) ≡ version_of (newer_page kept page)
@@ -103,15 +96,6 @@ pub record ScanStands (image : List ℕ) (rest : Option (List ℕ)) (pages : BTr
   pub rest_is : rest ≡ Some (drop p image)
   pub kept : AreKeptBelow image p pages
 
-pub stands_at_start : (image : List ℕ) (rest : Option (List ℕ)) (pages : BTreeMap (ℕ × ℕ) Version)
-    → rest ≡ Some image → IsEmpty pages → ScanStands image rest pages
-stands_at_start image rest pages is empty = record {
-  p = 0;
-  sector = refl;
-  rest_is = is;
-  kept = kept_at_start image pages empty;
-}
-
 -- a page is found next
 pub stands_next : (image : List ℕ) (rest rest_now : Option (List ℕ)) (found : FoundPage) (page : List ℕ)
     (old now : BTreeMap (ℕ × ℕ) Version) → ScanStands image rest old
@@ -149,13 +133,6 @@ catalogue_of_all image rest rest_now page pages stands few scans space n =
     kept_of_all image space n (get page_cmp pages (space, n)) kept.page
     (newest_of_all image p space n kept.page kept.newest
     (λ q after it. told.2 (q - p) space n (found_in_rest image p q space n stands.sector after it))) kept.same
-
--- the same of an image whose bytes are told
-pub told_at_start : (told rest : Option (List ℕ)) (pages : BTreeMap (ℕ × ℕ) Version)
-    → ((image : List ℕ) → told ≡ Some image → rest ≡ Some image) → IsEmpty pages
-    → IfSome told (λ image. length image < 2 ^ 64 → ScanStands image rest pages)
-told_at_start None rest pages is empty = tt
-told_at_start (Some image) rest pages is empty = λ few. stands_at_start image rest pages (is image refl) empty
 
 pub told_next : (told rest rest_now : Option (List ℕ)) (met : Option FoundPage) (found : FoundPage) (page : List ℕ)
     (old now : BTreeMap (ℕ × ℕ) Version) → IfSome told (λ image. length image < 2 ^ 64 → ScanStands image rest old)

@@ -156,13 +156,6 @@ module _ (index : Index) (key : Key) where
     root_in_hand page fields level id None p l i f x,
   )
 
--- the checks of all pages break at a depth, or hold
-pub all_break : (index : Index) (key : Key) (depth : ℕ) (halt : Halt) → depth ≤ root_level index
-    → AllBelow (WayChecks index key) depth → HaltsAt halt (WayChecks index key depth)
-    → HaltsAt halt (AllWayChecks index key)
-all_break index key depth (Broken fault) within held x = (depth, omega arith, held, x)
-all_break index key depth Source within held x = tt
-
 pub below_more : (check : ℕ → Option Fault → Type 0) (i : ℕ) → AllBelow check i → check i None → AllBelow check (i + 1)
 below_more check i before here j below = elim (cases_lt j i) [
   | inl less ↦ before j less

@@ -210,9 +210,7 @@ slots_least n = omega arith
 pub slots_middle : (n : ℕ) → 4 * (slots_for n - 2) ≤ n
 slots_middle n = omega arith
 
-pub supremum_least : (n : ℕ) → 1 ≤ owned_by_supremum n
 unfolding owned_by_supremum
-supremum_least n = omega arith
 
 pub supremum_most : (n : ℕ) → owned_by_supremum n ≤ 7
 unfolding owned_by_supremum

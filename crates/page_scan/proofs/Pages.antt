@@ -15,17 +15,6 @@ with_all page bytes whole size =
     let end : drop (0 + length bytes) page ≡ [] = drop_all (0 + length bytes) page (omega arith) in
     ap (λ (rest : List ℕ). bytes ++ rest) end ∙ append-nil bytes
 
-pub looks_from_page : (bytes : List ℕ) (space n : ℕ) → IsPageOf bytes space n → LooksLikePage bytes
-looks_from_page bytes space n is = record {
-  has_kind = is.has_kind;
-  echo = is.stands.echo;
-  below = omega (arith, is.below, is.stands.has_number);
-  some_space = λ none. is.some_space (sym is.has_space ∙ none);
-}
-
-pub no_page_by_looks : (bytes : List ℕ) → ¬ (LooksLikePage bytes) → IsNoPage bytes
-no_page_by_looks bytes not = λ space n is. not (looks_from_page bytes space n is)
-
 pub no_page_by_frame : (bytes : List ℕ) → ¬ (Stands bytes (num bytes 4 4)) → IsNoPage bytes
 no_page_by_frame bytes not =
     λ space n is. not (subst (λ (k : ℕ). Stands bytes k) (sym is.stands.has_number) is.stands)

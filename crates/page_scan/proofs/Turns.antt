@@ -49,19 +49,6 @@ passes_rest rest o q first second = record {
 pub nothing_below : (rest : List ℕ) (o : ℕ) → Passes rest o → NothingBelow rest o
 nothing_below rest o passes = λ p space n below found. (passes.each p below found.place.sector).1 space n found.page
 
-pub passed_none : (rest : Option (List ℕ)) → PassedTold rest rest 0
-passed_none None = refl
-passed_none (Some rest) = (
-  rest,
-  refl,
-  record {
-    o = 0;
-    passes = record { sector = omega arith; each = λ p below at. absurd (omega arith) };
-    after = refl;
-    least = omega arith;
-  },
-)
-
 -- a read failed
 pub failed_told : {E : Type 0} (start before now : Option (List ℕ)) (turns : ℕ) (page : List ℕ)
     (result : Result (Option FoundPage) E) (P : E → Type 0) → IsErrAnd result P

@@ -45,14 +45,6 @@ hexed_more digits list longer count byte is lt below high low grown =
           ∙ sym (encode_append lower_digits list (byte ∷ [])) ∙ ap encode_lower (sym grown);
     }
 
-pub hexed_all : (digits list : List ℕ) (count : ℕ) → AreHexed digits count (take count list) → length digits ≡ 2 * length list
-    → length list ≤ count → AreBytes list × (digits ≡ encode_lower list)
-hexed_all digits list count is size all =
-    let whole = take_all count list all in (
-      subst AreBytes whole is.are,
-      sym (take_all (2 * count) digits (omega (arith, size, all))) ∙ is.same ∙ ap encode_lower whole,
-    )
-
 -- nothing was read yet
 pub takes_none : (list text : List ℕ) → TakesBytes list list text text
 unfolding encode_with

@@ -14,7 +14,3 @@ rose_by_one f g rose = omega (arith, rose)
 -- the causes of two calls, one after the other
 pub rose_by_then : (f g h a b : ℕ) → RoseBy f g a → RoseBy g h b → RoseBy f h (a + b)
 rose_by_then f g h a b first second = omega (arith, first, second)
-
--- a cause for many is one for fewer, also after further calls
-pub rose_by_fewer : (f g h a b : ℕ) → a ≤ b → g ≤ h → RoseBy f g b → RoseBy f h a
-rose_by_fewer f g h a b few later rose = omega (arith, few, later, rose)

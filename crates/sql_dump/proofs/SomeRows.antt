@@ -87,13 +87,6 @@ pub row_kept : (table : TableDef) (old now : List ℕ) → PutsSomeRow {A = Unit
     → KeepsSomeRow table (Ok true) old now
 row_kept table old now puts = (puts.0, puts.1, ap (λ (o : Option (List ℕ)). unwrap_or o []) puts.2)
 
-pub cut_back : (table : TableDef) (old now : List ℕ) (size : ℕ) (stop : WriteStop) → size ≡ length old
-    → PutsSomeRow {A = Unit {0}} table (Err stop) (Some old) (Some now) → take size now ≡ old
-cut_back table old now size stop is puts =
-    let grown : now ≡ old ++ puts.text = ap (λ (o : Option (List ℕ)). unwrap_or o []) puts.grown in
-    ap (λ (t : List ℕ). take size t) grown ∙ ap (λ n. take n (old ++ puts.text)) is
-    ∙ take-append_seam old puts.text
-
 -- a line behind what was held: in the buffer, or put behind it
 pub moves_kept : (table : TableDef) (o p : Option (List ℕ)) (held kept now : List ℕ) → IsSent o p held kept
     → KeepsSomeRow table (Ok true) kept now → MovesSomeRow table o p held now

@@ -94,25 +94,6 @@ module _ (list : Fields) (fields : List ℕ) (a b : List Stored) (few : list.key
       ∙ ap (cell_cmp kind (get_or first i None)) (cell b i field y below is read_y))
       says left
 
--- a key has a value of each kind
-pub picks_whole : (keys : Picking) (r : ℕ) → PicksKeys keys.list keys.fields
-    → length ((table_of keys).key r) ≡ length (table_of keys).kinds
-picks_whole keys r picks = size keys.list keys.fields [] [] picks.few picks.each (stored_in keys.rows r)
-
--- its first value, and the kind of that
-pub first_value : (keys : Picking) (r field : ℕ) (value : Option (List ℕ)) → PicksKeys keys.list keys.fields
-    → 0 < length keys.fields → field ≡ get_or keys.fields 0 0
-    → value ≡ value_of (stored_at (stored_in keys.rows r) field) → value ≡ get_or ((table_of keys).key r) 0 None
-first_value keys r field value picks some is read =
-    cell keys.list keys.fields [] [] picks.few picks.each (stored_in keys.rows r) 0 field value some is read
-
-pub first_kind : (keys : Picking) (kind d : FieldType) → PicksKeys keys.list keys.fields
-    → kind ≡ (field_at keys.list 0).kind → 0 < length (table_of keys).kinds
-    → kind ≡ get_or (table_of keys).kinds 0 d
-first_kind keys kind d picks is some =
-    is ∙ kind_of_field keys.list 0 picks.few (omega (arith, some, kinds_size keys.list picks.few))
-    ∙ get_or_default (key_kinds keys.list) 0 Child d some
-
 -- rows in the order of these keys
 pub order_from_rows : (list : Fields) (fields : List ℕ) (rows : List (List Stored)) (count : ℕ) (found order : List ℕ)
     → count ≡ length rows → order ≡ found
