@@ -210,8 +210,6 @@ slots_least n = omega arith
 pub slots_middle : (n : ℕ) → 4 * (slots_for n - 2) ≤ n
 slots_middle n = omega arith
 
-unfolding owned_by_supremum
-
 pub supremum_most : (n : ℕ) → owned_by_supremum n ≤ 7
 unfolding owned_by_supremum
 supremum_most n = omega arith
