@@ -7,7 +7,7 @@ ghost use Rattle.page_source.specs.Checks.{Halts};
 ghost use Rattle.page_source.specs.Calls.{OfFile, HaltsOver};
 ghost use Rattle.column_values.specs.Utf8Reader.{CountsUpTo, WasFed, TakesText, IsFed};
 ghost use Rattle.space_audit.specs.Space.{IsAuditOf};
-ghost use Rattle.space_audit.specs.Marks.{is_set, Marked};
+ghost use Rattle.space_audit.specs.Marks.{is_set, Marked, StaysMarked};
 ghost use Rattle.offpage_chain.specs.Chain.{chain_pages, part_length, bytes_on};
 ghost use Rattle.offpage_chain.specs.ChainChecks.{ChainChecks, ChainChecksBy, IsChainPart};
 ghost use Rattle.offpage_chain.specs.Places.{CanCheck, PlaceIn};
@@ -90,6 +90,7 @@ fn check_pages<S: PageSource, L: Ledger>(
     ensures fed { OnOk result (OfFile S.PageSource source.old (λ file.
         IsFed text.old text.new (bytes_on file (pages_in file chain.now)))) }
     ensures members { length marks.new ≡ length marks.old }
+    ensures marked { StaysMarked marks.old marks.new }
     ensures cost { steps.new + unmarked marks.new ≤ steps.old + unmarked marks.old + 1 }
     ensures fewer { IfOk result (λ count. count + unmarked marks.new ≤ unmarked marks.old) }
     ensures told { OfFile S.PageSource source.old (λ file.
@@ -137,6 +138,7 @@ pub fn check_chain_in<S: PageSource, L: Ledger>(
     ensures grew { OnOk result (OfFile S.PageSource source.old (λ file.
         Marked (is_set marks.old) marks.new (chain_pages file reference.now))) }
     ensures members { length marks.new ≡ length marks.old }
+    ensures marked { StaysMarked marks.old marks.new }
     ensures cost { steps.new + unmarked marks.new ≤ steps.old + unmarked marks.old + 1 }
     ensures fewer { IfOk result (λ count. count + unmarked marks.new ≤ unmarked marks.old) }
     ensures told { OfFile S.PageSource source.old (λ file.
@@ -186,6 +188,7 @@ pub fn check_chain<S: PageSource, L: Ledger>(
     ensures grew { OnOk result (OfFile S.PageSource source.old (λ file.
         Marked (is_set marks.old) marks.new (chain_pages file reference.now))) }
     ensures members { length marks.new ≡ length marks.old }
+    ensures marked { StaysMarked marks.old marks.new }
     ensures cost { steps.new + unmarked marks.new ≤ steps.old + unmarked marks.old + 1 }
     ensures fewer { IfOk result (λ count. count + unmarked marks.new ≤ unmarked marks.old) }
     ensures exactly { IfOk result (λ count. steps.new ≡ steps.old + count) }

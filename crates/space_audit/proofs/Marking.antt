@@ -32,6 +32,13 @@ marked_more taken marks list y h m n =
           (neither (taken n) (is_in list n))
     ])
 
+pub marked_still : (marks : List Bool) (y n : ℕ) → y < length marks → is_set marks n ≡ true
+    → is_set (set marks y true) n ≡ true
+marked_still marks y n h m = elim (cases_eq n y) [
+  | inl e ↦ rw (e, get_or-set_same marks y true false h) refl
+  | inr e ↦ rw (get_or-set_other marks y n true false e) m
+]
+
 pub unmarked_fewer : (marks : List Bool) (n : ℕ) → n < length marks → is_set marks n ≡ false
     → unmarked (set marks n true) + 1 ≡ unmarked marks
 unmarked_fewer marks n h new = fewer marks n h new

@@ -17,3 +17,7 @@ seen taken list n = cond (taken n) true (is_in list n)
 -- the marks are what was taken at the start and a list
 abbrev pub Marked : (ℕ → Bool) → List Bool → List ℕ → Type 0
 Marked taken marks list = (n : ℕ) → is_set marks n ≡ seen taken list n
+
+-- each number that was marked is marked still
+abbrev pub StaysMarked : List Bool → List Bool → Type 0
+StaysMarked old new = (n : ℕ) → is_set old n ≡ true → is_set new n ≡ true

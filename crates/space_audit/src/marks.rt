@@ -3,7 +3,7 @@
 ghost use Rattle.std.specs.Prelude.{◌≡◌, ◌<◌, ◌+◌, ◌++◌, ◌∷◌, [], ℕ, List, Bool, length, replicate};
 ghost use Rattle.std.specs.Prelude.{slice_set, true, false, IfOk};
 ghost use Rattle.page_source.specs.Lists.{unmarked};
-ghost use Rattle.space_audit.specs.Marks.{is_set, Marked};
+ghost use Rattle.space_audit.specs.Marks.{is_set, Marked, StaysMarked};
 
 use page_source::NoMemory;
 use std::alloc::Global;
@@ -40,11 +40,12 @@ impl Marks {
     }
 
     /// Marks a number below the count; it may be marked already.
-    #[tactic(auto, using(crate::proofs::Marking::marked_more, crate::proofs::Marking::unmarked_fewer))]
+    #[tactic(auto, using(crate::proofs::Marking::marked_more, crate::proofs::Marking::marked_still, crate::proofs::Marking::unmarked_fewer))]
     pub fn mark(&mut self, n: u32)
         requires { n < length self.old }
         ensures exact { self.new ≡ slice_set self.old n true }
         ensures members { length self.new ≡ length self.old }
+        ensures stays { StaysMarked self.old self.new }
         ensures more { (taken : ℕ → Bool) (list : List ℕ) → Marked taken self.old list
             → Marked taken self.new (list ++ n ∷ []) }
         ensures fewer { is_set self.old n ≡ false → unmarked self.new + 1 ≡ unmarked self.old }

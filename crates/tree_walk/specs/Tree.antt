@@ -3,6 +3,7 @@ use Rattle.std.specs.Prelude.{◌≡◌, Bool, List, ℕ, length, Result}
 use Rattle.page_source.specs.declared.objects.PageSource.{Ghosts as FileOf}
 use Rattle.page_source.specs.declared.checks.Halt.{Halt}
 use Rattle.page_source.specs.Calls.{OfFile, HaltsOver}
+use Rattle.space_audit.specs.Marks.{StaysMarked}
 use Rattle.space_audit.specs.Space.{IsAuditOf}
 use Rattle.tree_walk.specs.declared.index.Tree.{Tree}
 use Rattle.tree_walk.specs.declared.walk.Walk.{Walk}
@@ -24,9 +25,11 @@ pub record IsReady {S : Type 0} (g : FileOf S) (source : S) (tree : Tree) (walk 
   pub members : length marks ≡ tree.space.now.size
   pub room : CanWalk walk tree.leaf.now tree.node.now
 
--- so it stays: there are as many marks as before, the room is the same, and the file is as a call leaves it that halts
+-- so it stays: there are as many marks as before, what was marked is marked still, the room is the same, and the file is
+-- as a call leaves it that halts
 pub record StaysReady {S A : Type 0} (g : FileOf S) (old new : S) (steps steps_now : ℕ) (walk walk_now : Walk)
     (marks marks_now : List Bool) (result : Result A Halt) : Type 0 where
   pub members : length marks_now ≡ length marks
+  pub marked : StaysMarked marks marks_now
   pub room : HasSameRoom walk walk_now
   pub over : HaltsOver g old new steps steps_now result

@@ -4,7 +4,7 @@ ghost use Rattle.std.specs.Prelude.{◌≡◌, ◌==◌, if◌then◌else◌, �
 ghost use Rattle.page_source.specs.Lists.{unmarked};
 ghost use Rattle.page_source.specs.Calls.{OfFile, HaltsOver};
 ghost use Rattle.page_source.specs.Checks.{Halts};
-ghost use Rattle.space_audit.specs.Marks.{is_set, Marked};
+ghost use Rattle.space_audit.specs.Marks.{is_set, Marked, StaysMarked};
 ghost use Rattle.space_audit.specs.Space.{IsAuditOf};
 ghost use Rattle.tree_walk.specs.Index.{index_of, tree_pages};
 ghost use Rattle.tree_walk.specs.Room.{CanWalk, HasRoom, HasSameRoom};
@@ -65,6 +65,8 @@ pub fn walk_tree<S: PageSource, L: Ledger>(
         Marked (is_set named.old) named.new (named_segments (index_of file root leaf.now node.now)))) }
     ensures members { length marks.new ≡ length marks.old }
     ensures segments { length named.new ≡ length named.old }
+    ensures marked { StaysMarked marks.old marks.new }
+    ensures named { StaysMarked named.old named.new }
     ensures room { HasSameRoom walk.old walk.new }
     ensures stays { (members : ℕ) → HasRoom walk.old members → HasRoom walk.new members }
     ensures keeps { HaltsOver S.PageSource source.old source.new steps.old steps.new result }

@@ -3,7 +3,7 @@
 ghost use Rattle.std.specs.Prelude.{◌≡◌, ◌+◌, ◌<◌, ◌≤◌, ◌↔◌, [], ◌∷◌, ℕ, List, length, IsTrue, IfOk};
 ghost use Rattle.page_source.specs.Lists.{unmarked};
 ghost use Rattle.page_source.specs.Checks.{Halts};
-ghost use Rattle.space_audit.specs.Marks.{is_set, Marked};
+ghost use Rattle.space_audit.specs.Marks.{is_set, Marked, StaysMarked};
 ghost use Rattle.space_audit.specs.Owners.{IsUsedBy};
 ghost use Rattle.space_audit.specs.Space.{IsAuditOf};
 ghost use Rattle.tree_walk.specs.Segments.{segment_in, AreNewSegments};
@@ -99,6 +99,7 @@ pub(crate) fn check_root<S: PageSource, L: Ledger>(
     ensures marked { IfOk result (λ _. Marked (is_set marks.old) marks.new (tree.now.root ∷ [])) }
     ensures named { IfOk result (λ top. Marked (is_set named.old) named.new (top.leaf ∷ top.upper ∷ [])) }
     ensures segments { length named.new ≡ length named.old }
+    ensures kept { StaysMarked named.old named.new }
     ensures fewer { IfOk result (λ _. unmarked marks.new + 1 ≡ unmarked marks.old) }
     ensures stays { StaysReady S.PageSource source.old source.new steps.old steps.new walk.old walk.new
         marks.old marks.new result }

@@ -2,6 +2,7 @@ use Rattle.std.proofs.Common.{◌≡◌, ◌≤◌, ◌+◌, ◌-◌, length}
 use Rattle.page_source.specs.Lists.{unmarked}
 use Rattle.page_source.specs.Calls.{OfFile, AsksNoMore}
 use Rattle.column_values.specs.Utf8Reader.{CountsUpTo}
+use Rattle.space_audit.specs.Marks.{StaysMarked}
 use Rattle.offpage_chain.proofs.Alongs.{IsAlong, walk_of}
 use Rattle.offpage_chain.proofs.check.check_pages.Given as goal
 
@@ -14,6 +15,7 @@ invariant-loop-due g l =
       later : g.S.PageSource.faults l.fn.source ≤ g.S.PageSource.faults l.source;
       asked : AsksNoMore g.S.PageSource l.fn.source l.source l.fn.steps l.steps;
       members : length l.marks ≡ length l.fn.marks;
+      stays : StaysMarked l.fn.marks l.marks;
       taken : l.steps ≡ l.fn.steps + l.count;
       few : l.count + l.due.left ≤ l.chain.reference.now.length;
       marked : l.count + unmarked l.marks ≤ unmarked l.fn.marks;

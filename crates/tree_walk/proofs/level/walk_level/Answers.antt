@@ -25,6 +25,7 @@ places-init g c =
     record {
       same = c.in_ok-fetch.ensures.same;
       members = refl;
+      marked = λ n was. was;
       later = c.in_ok-fetch.ensures.cause.later;
       asked = omega (arith, c.in_ok-fetch.ensures.asked.most, c.in_ok-fetch.ensures.step);
       spent = omega (arith, c.in_ok-fetch.ensures.step, c.requires.some);
@@ -132,6 +133,7 @@ places-preserved g c =
     record {
       same = c.in_ok-found.ensures.stays.over.same ∙ i.same;
       members = c.in_ok-found.ensures.stays.members ∙ i.members;
+      marked = λ n was. c.in_ok-found.ensures.stays.marked n (i.marked n was);
       later = omega (arith, k, i.later);
       asked = omega (arith, i.asked, c.in_ok-found.ensures.stays.over.asked);
       spent = omega (arith, n, i.spent, c.in_ok-found.ensures.spent, c.in-Some.ensures.more);

@@ -20,6 +20,7 @@ pub loop-depth-init : goal.loop-depth-init
 loop-depth-init g c = record {
   same = c.in_ok-top.ensures.stays.over.same;
   members = c.in_ok-top.ensures.stays.members;
+  marked = c.in_ok-top.ensures.stays.marked;
   later = c.in_ok-top.ensures.stays.over.cause.later;
   asked = c.in_ok-top.ensures.stays.over.asked;
   spent = let a = c.in_ok-top.ensures.fewer in let b = c.in_ok-top.ensures.steps in omega arith;
@@ -64,6 +65,7 @@ loop-depth-preserved g c =
     record {
       same = c.in_ok-row.ensures.stays.over.same ∙ c.loop-depth.invariant.same;
       members = c.in_ok-row.ensures.stays.members ∙ c.loop-depth.invariant.members;
+      marked = λ n was. c.in_ok-row.ensures.stays.marked n (c.loop-depth.invariant.marked n was);
       later = let a = c.in_ok-row.ensures.stays.over.cause.later in let b = c.loop-depth.invariant.later in omega arith;
       asked = let a = c.in_ok-row.ensures.stays.over.asked in let b = c.loop-depth.invariant.asked in omega arith;
       spent = let a = c.in_ok-row.ensures.spent in let b = c.loop-depth.invariant.spent in omega arith;

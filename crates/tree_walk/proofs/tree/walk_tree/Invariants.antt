@@ -1,6 +1,7 @@
 use Rattle.std.proofs.Common.{◌≡◌, ◌≤◌, ◌+◌, ◌*◌, length, IfSome}
 use Rattle.page_source.specs.Lists.{unmarked}
 use Rattle.page_source.specs.Calls.{AsksNoMore}
+use Rattle.space_audit.specs.Marks.{StaysMarked}
 use Rattle.tree_walk.specs.Index.{index_of}
 use Rattle.tree_walk.specs.Room.{HasSameRoom}
 use Rattle.tree_walk.proofs.States.{TreeState}
@@ -12,6 +13,7 @@ invariant-loop-depth g l =
     record {
       same : content l.source ≡ content l.fn.source;
       members : length l.marks ≡ length l.fn.marks;
+      marked : StaysMarked l.fn.marks l.marks;
       later : g.S.PageSource.faults l.fn.source ≤ g.S.PageSource.faults l.source;
       asked : AsksNoMore g.S.PageSource l.fn.source l.source l.fn.steps l.steps;
       spent : l.steps + 2 * unmarked l.marks + l.row.pages ≤ l.fn.steps + 2 * unmarked l.fn.marks;
