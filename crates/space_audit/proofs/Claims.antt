@@ -146,7 +146,7 @@ slot_use file h place n p c =
     (elim (eqb_tells n fil_null) [ inl q ↦ absurd (false≢true (ap not (sym q.0) ∙ r.1)) | inr q ↦ q.1 ])
 
 -- what is claimed by itself is a used page of a fragment extent
-system_or_inode_use : (file : List ℕ) → HasClaims file → (n : ℕ)
+pub system_or_inode_use : (file : List ℕ) → HasClaims file → (n : ℕ)
     → Contains (system_pages file ++ inode_pages file) n → IsFragmentUse file n
 unfolding system_pages
 system_or_inode_use file h n c = elim (Contains-append_cases (system_pages file) (inode_pages file) n c) [

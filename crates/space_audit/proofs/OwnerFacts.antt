@@ -10,24 +10,26 @@ use Rattle.std.proofs.lemmas.Bool.Decides.{Decides-eqb, eqb_tells}
 use Rattle.std.proofs.lemmas.List.Sums.{sum_by-cons, get_or-le-sum_by, position_or_len_is, passes_at_first}
 use Rattle.std.proofs.lemmas.List.Elements.{Contains-get_or, Contains-append_cases, Contains-append_left}
 use Rattle.std.proofs.lemmas.List.Elements.{Contains-append_right}
+use Rattle.std.proofs.lemmas.Option.{slice_get_read}
 use Rattle.page_source.specs.Lists.{AreDistinct, times_in}
 use Rattle.page_source.proofs.Members.{contains_none, contains_here, contains_there, contains_cases, contains_filter}
-use Rattle.page_source.proofs.Members.{filter_contains, contains_range, contains_flat_map, flat_map_contains}
-use Rattle.page_source.proofs.Times.{times_append, times_flat_map, times_some}
+use Rattle.page_source.proofs.Members.{filter_contains, contains_range, Piece, contains_flat_map, flat_map_contains}
+use Rattle.page_source.proofs.Times.{times_append, times_flat_map, times_some, contains_times}
 use Rattle.space_header.specs.declared.address.Address.{Address}
 use Rattle.space_header.specs.Header.{limit_of}
 use Rattle.extent_map.specs.Extents.{extent_of, extent_count, extent_state, is_used, IsUsed, used_in}
 use Rattle.extent_map.specs.Extents.{is_fragment_extent, is_system_page}
-use Rattle.space_audit.proofs.Fragments.{and_left, and_right, both_true, used_below, used_extent, fragment_not_own}
+use Rattle.space_audit.proofs.Fragments.{and_left, and_right, used_below, fragment_not_own}
 use Rattle.inode_segments.specs.Inodes.{inode_pages, segments, segment_id, slot_pages}
 use Rattle.space_audit.specs.declared.owner.Owner.{Owner}
 use Rattle.space_audit.specs.declared.owner.Owner.TheVariants.{System, InodePage, Used, Spare, FragmentFree, FreeExtent}
 use Rattle.space_audit.specs.declared.owner.Owner.TheVariants.{Beyond}
 use Rattle.space_audit.specs.Lists.{is_extent_of, segment_extents}
-use Rattle.space_audit.specs.Owners.{system_pages, claim_of, owner_of, owner_in_segment, owner_in_fragment}
-use Rattle.space_audit.specs.Owners.{segment_with_id, segment_with_slot, IsUsedBy}
+use Rattle.space_audit.specs.Owners.{system_pages, claim_of, claims, owner_of, owner_in_segment, owner_in_fragment}
+use Rattle.space_audit.specs.Owners.{segment_with_id, segment_with_slot, IsUsedBy, IsClaimedBy}
+use Rattle.space_audit.specs.Laws.{UseClaims}
 use Rattle.space_audit.specs.Audit.{IsFragmentUse, IsUsedFragment, fragment_claims}
-use Rattle.space_audit.proofs.Claims.{HasClaims, fragment_use, used_in_has, used_in_only}
+use Rattle.space_audit.proofs.Claims.{HasClaims, fragment_use, system_or_inode_use, claimed_once, used_in_only}
 
 -- the member at a place
 pub get_at : {X : Type 0} (xs : List X) (s : ℕ) (x : X) → slice_get xs s ≡ Some x
@@ -87,6 +89,14 @@ slot_branch true false true p s h = cc
 slot_branch true false false p s h = let e : p ≡ s = cc in (refl, e)
 slot_branch false system inode p s h = cc
 
+slot_alone : (used system inode : Bool) (p s : ℕ)
+    → cond used (cond system System (cond inode InodePage (Used p))) FragmentFree ≡ Used s
+    → (system ≡ false) × (inode ≡ false)
+slot_alone true true inode p s h = cc
+slot_alone true false true p s h = cc
+slot_alone true false false p s h = (refl, refl)
+slot_alone false system inode p s h = cc
+
 -- the member at the first place that passes
 pub passes_there : {X : Type 0} (p : X → Bool) (xs : List X) (s : ℕ) (x : X) → slice_get xs s ≡ Some x
     → position_or_len p xs ≡ s → p x ≡ true
@@ -94,46 +104,6 @@ passes_there p xs s x h e =
     let r = get_at xs s x h in
     let t = passes_at_first p xs x (omega (arith, r.0, e)) in
     subst (λ y. p y ≡ true) (ap (λ k. get_or xs k x) e ∙ r.1 x) t
-
-own_claim : (file : List ℕ) → HasClaims file → (n : ℕ) (place : Address) → IsUsed file n
-    → is_extent_of file (segment_id file place) (n / 64) ≡ true → Contains (claim_of file place) n
-unfolding claim_of segment_extents
-own_claim file h n place u t =
-    let e : n / 64 < extent_count file = used_extent file n h.whole (used_below file n u) in
-    Contains-append_right (slot_pages file place) (flat_map (used_in file) (segment_extents file place)) n
-    (flat_map_contains (used_in file) (segment_extents file place) (n / 64) n
-    (contains_filter (is_extent_of file (segment_id file place)) (range_with_len 0 (extent_count file)) (n / 64)
-    (contains_range (extent_count file) (n / 64) e) t)
-    (used_in_has file h.used_pages n u))
-
-slot_claim : (file : List ℕ) (n : ℕ) (place : Address) → Contains (slot_pages file place) n
-    → Contains (claim_of file place) n
-unfolding claim_of
-slot_claim file n place c = Contains-append_left (slot_pages file place)
-    (flat_map (used_in file) (segment_extents file place)) n c
-
-pub used_is_claimed : (file : List ℕ) → HasClaims file → (n s : ℕ) (place : Address)
-    → slice_get (segments file) s ≡ Some place → IsUsedBy file s n
-    → Contains (claim_of file place) n × IsUsed file n
-unfolding owner_of
-used_is_claimed file h n s place g o =
-    let r = own_branch (nat_lt n (limit_of file)) (extent_state file (n / 64) == 1)
-    (extent_state file (n / 64) == 4) (owner_in_segment file n) (owner_in_fragment file n) s o in
-    elim r.2 [
-      | inl own ↦
-          let b = spare_branch (is_used file n) (segment_with_id file (extent_of file (n / 64)).id) s own.1 in
-          let t = passes_there (λ q. segment_id file q == (extent_of file (n / 64)).id) (segments file) s place g
-          b.1 in (
-            own_claim file h n place b.0 (both_true (extent_state file (n / 64) == 4)
-                (segment_id file place == (extent_of file (n / 64)).id) own.0 t),
-            b.0,
-          )
-      | inr slot ↦
-          let b = slot_branch (is_used file n) (is_system_page n) (list_any (λ m. m == n) (inode_pages file))
-          (segment_with_slot file n) s slot.1 in
-          let t = passes_there (λ q. list_any (λ m. m == n) (slot_pages file q)) (segments file) s place g b.1 in
-          (slot_claim file n place (any_contains n (slot_pages file place) t), b.0)
-    ]
 
 -- the first place that passes is one that passes, where no other does
 only_there : {X : Type 0} (p : X → Bool) (xs : List X) (s : ℕ) (x : X) → slice_get xs s ≡ Some x → p x ≡ true
@@ -255,7 +225,7 @@ unfolding fragment_claims
 slot_in_claims file n place p c = Contains-append_right (system_pages file ++ inode_pages file)
     (flat_map (slot_pages file) (segments file)) n (flat_map_contains (slot_pages file) (segments file) place n p c)
 
-pub claimed_is_used : (file : List ℕ) → HasClaims file
+claimed_is_used : (file : List ℕ) → HasClaims file
     → ((n : ℕ) → n < limit_of file → IsUsedFragment file n → times_in (fragment_claims file) n ≡ 1)
     → (n s : ℕ) (place : Address) → slice_get (segments file) s ≡ Some place → Contains (claim_of file place) n
     → IsUsed file n → IsUsedBy file s n
@@ -274,3 +244,79 @@ claimed_is_used file h c n s place g k u =
           extent_owner file h n s place g u (subst (λ x. is_extent_of file (segment_id file place) x ≡ true) (sym e)
           t)
     ]
+
+-- a page that a segment uses is a used one, and neither a system page nor an inode page
+used_by : (file : List ℕ) (n s : ℕ) → IsUsedBy file s n → IsUsed file n
+unfolding owner_of
+used_by file n s o =
+    let r = own_branch (nat_lt n (limit_of file)) (extent_state file (n / 64) == 1)
+    (extent_state file (n / 64) == 4) (owner_in_segment file n) (owner_in_fragment file n) s o in
+    elim r.2 [
+      | inl own ↦ (spare_branch (is_used file n) (segment_with_id file (extent_of file (n / 64)).id) s own.1).0
+      | inr slot ↦ (slot_branch (is_used file n) (is_system_page n) (list_any (λ m. m == n) (inode_pages file))
+          (segment_with_slot file n) s slot.1).0
+    ]
+
+in_no_slot : (file : List ℕ) (n : ℕ) → Contains (system_pages file ++ inode_pages file) n
+    → (is_system_page n ≡ true) ⊎ (list_any (λ m. m == n) (inode_pages file) ≡ true)
+unfolding system_pages
+in_no_slot file n c = elim (Contains-append_cases (system_pages file) (inode_pages file) n c) [
+  | inl system ↦ inl (filter_contains is_system_page (range_with_len 0 (limit_of file)) n system).1
+  | inr inode ↦ inr (contains_any n (inode_pages file) inode)
+]
+
+not_first : (file : List ℕ) → HasClaims file → (n s : ℕ) → IsUsedBy file s n
+    → ¬ (Contains (system_pages file ++ inode_pages file) n)
+unfolding owner_of
+not_first file h n s o c =
+    let u = system_or_inode_use file h n c in
+    let r = own_branch (nat_lt n (limit_of file)) (extent_state file (n / 64) == 1)
+    (extent_state file (n / 64) == 4) (owner_in_segment file n) (owner_in_fragment file n) s o in
+    elim r.2 [
+      | inl own ↦ fragment_not_own file (n / 64) u.fragment ((Decides-eqb (extent_state file (n / 64)) 4).0 own.0)
+      | inr slot ↦
+          let b = slot_alone (is_used file n) (is_system_page n) (list_any (λ m. m == n) (inode_pages file))
+          (segment_with_slot file n) s slot.1 in
+          elim (in_no_slot file n c) [
+            | inl system ↦ false≢true (sym b.0 ∙ system)
+            | inr inode ↦ false≢true (sym b.1 ∙ inode)
+          ]
+    ]
+
+-- what is claimed otherwise a segment claims
+of_segment : (file : List ℕ) (n : ℕ) → Contains (claims file) n
+    → Contains (system_pages file ++ inode_pages file) n ⊎ Piece (claim_of file) (segments file) n
+unfolding claims
+of_segment file n c = elim (Contains-append_cases (system_pages file ++ inode_pages file)
+    (flat_map (claim_of file) (segments file)) n c)
+    [ inl first ↦ inl first | inr own ↦ inr (contains_flat_map (claim_of file) (segments file) n own) ]
+
+pub used_is_claimed : (file : List ℕ) → HasClaims file
+    → ((n : ℕ) → n < limit_of file → IsUsedFragment file n → times_in (fragment_claims file) n ≡ 1)
+    → (n s : ℕ) → IsUsedBy file s n → IsClaimedBy file s n
+used_is_claimed file h c n s o =
+    let u = used_by file n s o in
+    let once = claimed_once file h c n u in
+    elim (of_segment file n (contains_times (claims file) n (omega (arith, once)))) [
+      | inl first ↦ absurd (not_first file h n s o first)
+      | inr own ↦
+          let k = own.among.0 in
+          let there : slice_get (segments file) k ≡ Some own.piece =
+          slice_get_read (segments file) (length (segments file)) k own.piece refl own.among.1 (sym own.among.2) in
+          let also = claimed_is_used file h c n k own.piece there own.member u in
+          let both : Used k ≡ Used s = sym also ∙ o in
+          let same : k ≡ s = cc in
+          record {
+            place = own.piece;
+            there = subst (λ (t : ℕ). slice_get (segments file) t ≡ Some own.piece) same there;
+            claimed = own.member;
+            used = u;
+          }
+    ]
+
+pub uses_are_claims : (file : List ℕ) → HasClaims file
+    → ((n : ℕ) → n < limit_of file → IsUsedFragment file n → times_in (fragment_claims file) n ≡ 1) → UseClaims file
+uses_are_claims file h c n s = (
+  used_is_claimed file h c n s,
+  λ w. claimed_is_used file h c n s w.place w.there w.claimed w.used,
+)

@@ -1,8 +1,7 @@
 -- The audit finds nothing exactly in a sound space.
-use Rattle.std.proofs.Common.{◌≡◌, ◌↔◌, ℕ, ◌<◌, List, slice_get, All, Contains, Some, None}
+use Rattle.std.proofs.Common.{◌≡◌, ℕ, ◌<◌, List, All, None}
 use Rattle.page_source.specs.Lists.{times_in}
-use Rattle.space_header.specs.declared.address.Address.{Address}
-use Rattle.space_header.specs.Header.{size_of, limit_of}
+use Rattle.space_header.specs.Header.{limit_of}
 use Rattle.extent_map.specs.Extents.{IsUsed, extent_count, is_fragment_page}
 use Rattle.extent_map.specs.Laws.{HeadChecksAreSound, DescriptorChecksAreSound, UsedPagesAreOfExtents}
 use Rattle.inode_segments.specs.Inodes.{segments, inode_of}
@@ -13,12 +12,13 @@ use Rattle.space_audit.specs.Lists.{HomeList, ListChecks, HomeListChecks, ThreeC
 use Rattle.space_audit.specs.Lists.{free_frag_list, full_frag_list, segment_free_list, segment_not_full_list}
 use Rattle.space_audit.specs.Lists.{segment_full_list}
 use Rattle.extent_map.specs.Extents.{extent_nodes}
-use Rattle.space_audit.specs.Owners.{claim_of, IsPartition, IsUsedBy}
+use Rattle.space_audit.specs.Owners.{IsPartition}
+use Rattle.space_audit.specs.Laws.{UseClaims}
 use Rattle.space_audit.specs.Audit.{UseChecks, OwnerChecks, AuditChecks, HasExtents, IsSlot, IsUsedFragment}
 use Rattle.space_audit.specs.Audit.{HasFragmentCount, HasNotFullCount, fragment_claims, IsSoundSpace}
 use Rattle.space_audit.proofs.Fragments.{used_below}
 use Rattle.space_audit.proofs.Claims.{HasClaims, partition, fragment_once, used_within}
-use Rattle.space_audit.proofs.OwnerFacts.{used_is_claimed, claimed_is_used}
+use Rattle.space_audit.proofs.OwnerFacts.{uses_are_claims}
 
 -- the lists and the homes
 three_sound : (nodes : List Node) (a b c : HomeList) → ThreeChecks nodes a b c None → HoldThree nodes a b c
@@ -138,13 +138,10 @@ claims_are_partition laws file flags h =
     let o = owned laws file flags h in
     partition file (has_claims laws file flags o) (claims_sound file o.uses)
 
-pub owners_are_claims : HasLaws → (file : List ℕ) (flags : ℕ) → OwnerChecks file flags None
-    → (n s : ℕ) (place : Address) → n < size_of file → slice_get (segments file) s ≡ Some place
-    → IsUsedBy file s n ↔ (Contains (claim_of file place) n × IsUsed file n)
-owners_are_claims laws file flags h n s place l g =
+pub owners_are_claims : HasLaws → (file : List ℕ) (flags : ℕ) → OwnerChecks file flags None → UseClaims file
+owners_are_claims laws file flags h =
     let o = owned laws file flags h in
-    let c = has_claims laws file flags o in
-    (used_is_claimed file c n s place g, λ w. claimed_is_used file c (claims_sound file o.uses) n s place g w.0 w.1)
+    uses_are_claims file (has_claims laws file flags o) (claims_sound file o.uses)
 
 pub audit_sound : HasLaws → (file : List ℕ) (flags : ℕ) → AuditChecks file flags None
     → IsSoundSpace file flags

@@ -1,14 +1,13 @@
 -- Laws of the definitions, each the contract of a function in a module of laws.
-use Rattle.std.specs.Prelude.{◌≡◌, ℕ, ◌%◌, ◌<◌, ◌↔◌, List, map, slice_get, All, Contains, Some, None}
+use Rattle.std.specs.Prelude.{◌≡◌, ℕ, ◌%◌, ◌<◌, ◌↔◌, List, map, All, None}
 use Rattle.page_source.specs.Lists.{AreDistinct, times_in}
-use Rattle.space_header.specs.declared.address.Address.{Address}
-use Rattle.space_header.specs.Header.{size_of, limit_of}
-use Rattle.extent_map.specs.Extents.{extent_count, is_fragment_page, IsUsed}
+use Rattle.space_header.specs.Header.{limit_of}
+use Rattle.extent_map.specs.Extents.{extent_count, is_fragment_page}
 use Rattle.extent_map.specs.Descriptors.{IsExtent}
 use Rattle.inode_segments.specs.Inodes.{inode_of, full_pages, free_pages, segments, segment_id}
 use Rattle.inode_segments.specs.InodeChecks.{IsInodePage}
 use Rattle.space_audit.specs.Lists.{HasHome}
-use Rattle.space_audit.specs.Owners.{claim_of, owner_of, IsPartition, IsUsedBy}
+use Rattle.space_audit.specs.Owners.{IsPartition, IsUsedBy, IsClaimedBy}
 use Rattle.space_audit.specs.Audit.{OwnerChecks, AuditChecks, IsSlot, IsUsedFragment, fragment_claims, IsSoundSpace}
 
 -- the audit finds nothing exactly in a sound space
@@ -19,12 +18,13 @@ AuditIsSoundness = (file : List ℕ) (flags : ℕ) → AuditChecks file flags No
 abbrev pub ClaimsArePartition : Type 0
 ClaimsArePartition = (file : List ℕ) (flags : ℕ) → OwnerChecks file flags None → IsPartition file
 
--- and a segment uses exactly the used pages that it claims
+-- a segment uses exactly the used pages that it claims, and a number that no segment has uses none
+abbrev pub UseClaims : List ℕ → Type 0
+UseClaims file = (n s : ℕ) → IsUsedBy file s n ↔ IsClaimedBy file s n
+
+-- where the checks of ownership hold, so it is with every segment
 abbrev pub OwnersAreClaims : Type 0
-OwnersAreClaims =
-    (file : List ℕ) (flags : ℕ) → OwnerChecks file flags None
-    → (n s : ℕ) (place : Address) → n < size_of file → slice_get (segments file) s ≡ Some place
-    → IsUsedBy file s n ↔ (Contains (claim_of file place) n × IsUsed file n)
+OwnersAreClaims = (file : List ℕ) (flags : ℕ) → OwnerChecks file flags None → UseClaims file
 
 -- the extents and inode pages are sound, each extent has one home, no two segments have one id, and each used page of a
 -- fragment extent is claimed once
@@ -38,11 +38,10 @@ pub record AreFragmentsClaimed (file : List ℕ) : Type 0 where
   pub slots : All (λ place. All (IsSlot file) (inode_of file place).slots) (segments file)
   pub once : (n : ℕ) → n < limit_of file → IsUsedFragment file n → times_in (fragment_claims file) n ≡ 1
 
--- all claims are a partition, and a segment uses exactly the used pages that it claims
+-- all claims are a partition, and each segment uses exactly the used pages that it claims
 pub record AreAllClaimed (file : List ℕ) : Type 0 where
   pub partition : IsPartition file
-  pub uses : (n s : ℕ) (place : Address) → slice_get (segments file) s ≡ Some place
-      → IsUsedBy file s n ↔ (Contains (claim_of file place) n × IsUsed file n)
+  pub uses : UseClaims file
 
 -- so it is where those on fragment pages are right
 abbrev pub FragmentClaimsAreEnough : Type 0

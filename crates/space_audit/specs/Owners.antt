@@ -1,6 +1,6 @@
 -- What claims each page, and who owns it (fsp0fsp).
 use Rattle.std.specs.Prelude.{◌≡◌, ℕ, ◌-◌, ◌/◌, ◌<◌, ◌≤◌, ⊤, ◌==◌, nat_lt, if◌then◌else◌, List, length, slice_index}
-use Rattle.std.specs.Prelude.{Bool, ◌++◌, filter, flat_map, All}
+use Rattle.std.specs.Prelude.{Bool, ◌++◌, filter, flat_map, All, Contains, slice_get, Some}
 use Rattle.std.specs.List.{range_with_len, list_any, position_or_len}
 use Rattle.page_source.specs.Lists.{times_in}
 use Rattle.space_header.specs.declared.address.Address.{Address}
@@ -61,6 +61,13 @@ owner_of file n =
 -- the segment uses the page
 abbrev pub IsUsedBy : List ℕ → ℕ → ℕ → Type 0
 IsUsedBy file segment n = owner_of file n ≡ Used segment
+
+-- there is a segment with this number, it claims the page, and the page is used
+pub record IsClaimedBy (file : List ℕ) (segment n : ℕ) : Type 0 where
+  pub place : Address
+  pub there : slice_get (segments file) segment ≡ Some place
+  pub claimed : Contains (claim_of file place) n
+  pub used : IsUsed file n
 
 -- the number of its segment, if it has one, is that of a segment of some tablespace
 abbrev pub IsSmall : Owner → Type 0

@@ -76,8 +76,12 @@ page_claimed file sizes flags shape h s i sn inside =
 pub page_owned : (file sizes : List ℕ) (flags : ℕ) → IsShape sizes → KnownHeads file sizes flags → AreAllClaimed file
     → (s i : ℕ) → s < length sizes → i < size_at sizes s → IsUsedBy file s (segment_page sizes s i)
 page_owned file sizes flags shape h claims s i sn inside =
-    (claims.uses (segment_page sizes s i) s (inode_place s) (segment_there file sizes flags shape h s sn)).1
-    (page_claimed file sizes flags shape h s i sn inside, page_used file sizes flags shape h s i sn inside)
+    (claims.uses (segment_page sizes s i) s).1 record {
+      place = inode_place s;
+      there = segment_there file sizes flags shape h s sn;
+      claimed = page_claimed file sizes flags shape h s i sn inside;
+      used = page_used file sizes flags shape h s i sn inside;
+    }
 
 -- a fragment extent is in another state than that of a free extent, or of one of a segment
 other_state : (file : List ℕ) (e state : ℕ) → is_fragment_extent file e ≡ true
