@@ -5,7 +5,7 @@ ghost use Rattle.page_packer.specs.Entries.{entry_at};
 ghost use Rattle.tree_layout.specs.Division.{tree_levels, level_counts, CanDivide};
 ghost use Rattle.tree_layout.specs.Counting.{weight_of, one_more, cut_leaves};
 
-use crate::entries::Leaves;
+use crate::entries::{Leaves, Pointer, pointer_parts};
 use column_values::FieldList;
 use compact_record::record_size;
 use page_packer::laws::pointers_lead_to_their_pages;
@@ -45,9 +45,9 @@ fn pointer_size<E: Leaves>(
         (λ size. size ≡ (weight_of leaf.now node.now (entry_at (E.entries entries.now) k)).pointer) }
 {
     pointers_lead_to_their_pages();
-    let mut pointer = entries.key(alloc, k, node.keys() as usize)?;
-    pointer.push(&0u32.to_be_bytes(), false)?;
-    Ok(record_size(node, &pointer) as u16)
+    let pointer = Pointer { first: k, page: 0 };
+    let parts = pointer_parts(alloc, entries, node.keys() as usize, pointer)?;
+    Ok(record_size(node, &parts) as u16)
 }
 
 /// Adds leaf entry `k`. Only of the first entry of a page the pointer counts.

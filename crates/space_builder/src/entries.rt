@@ -47,6 +47,23 @@ fn pointer_at(pointers: &[Pointer], k: usize) -> Pointer
     pointers[k]
 }
 
+/// The parts of a pointer by the key of one of these leaf entries, so many parts of it.
+pub(crate) fn pointer_parts<E: Leaves>(
+    alloc: Global,
+    leaves: &E,
+    keys: usize,
+    pointer: Pointer,
+) -> Result<Parts, NoMemory>
+    requires { pointer.first < length (E.entries leaves.now) }
+    ensures { IfOk result (λ parts. parts ≡ pointing keys (E.entries leaves.now) pointer) }
+{
+    let mut parts = leaves.key(alloc, pointer.first, keys)?;
+    let mut number = [0; 4];
+    BigEndian::write_u32(&mut number, pointer.page);
+    parts.push(&number, false)?;
+    Ok(parts)
+}
+
 /// The entries of a level above the leaves: the pointers to the pages below it.
 pub(crate) struct Pointers<'a, E: Leaves> {
     leaves: &'a E,
@@ -99,10 +116,7 @@ impl<'a, E: Leaves> Entries for Pointers<'a, E> {
 
     fn parts(&self, alloc: Global, k: usize) -> Result<Parts, NoMemory> {
         let pointer = pointer_at(self.pointers, k);
-        let mut parts = self.leaves.key(alloc, pointer.first, self.keys)?;
-        let mut number = [0; 4];
-        BigEndian::write_u32(&mut number, pointer.page);
-        parts.push(&number, false)?;
+        let parts = pointer_parts(alloc, self.leaves, self.keys, pointer)?;
         Ok(parts)
     }
 }

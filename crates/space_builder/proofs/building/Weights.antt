@@ -2,15 +2,13 @@
 use Rattle.std.proofs.Common.{◌≡◌, ℕ, ◌+◌, ◌<◌, false, List, [], ◌∷◌, ◌++◌, length, map}
 use Rattle.std.proofs.Common.{take, refl, sym, ap, ◌∙◌, arith}
 use Rattle.std.proofs.lemmas.List.{map_more}
-use Rattle.page_source.specs.Pages.{be_bytes}
 use Rattle.column_values.specs.Types.{Fields}
-use Rattle.compact_record.specs.declared.parts.Part.TheVariants as parts
 use Rattle.compact_record.specs.Writing.{FitFields}
 use Rattle.page_packer.specs.Entries.{Entry, entry_at, pointer_to}
 use Rattle.page_packer.specs.Laws.{PointersPoint}
 use Rattle.tree_layout.specs.declared.cuts.Weight.{Weight}
 use Rattle.tree_layout.specs.Division.{CanDivide, pointer_with}
-use Rattle.std.proofs.Common.{Bool, true, not, ◌==◌, ◌||◌}
+use Rattle.std.proofs.Common.{Bool, true, ◌==◌, ◌||◌}
 use Rattle.page_packer.specs.Packing.{sizes_fit}
 use Rattle.tree_layout.specs.Counting.{begins_page}
 use Rattle.tree_layout.specs.Counting.{Cutting, weight_of, nothing_cut, one_more, cut_more}
@@ -36,13 +34,6 @@ unfolding pointer_to
 pointer_fits points leaf node entries can k within =
     let fits = ((points leaf node (entry_at entries k) 0 can.one_index (omega arith)).0 (can.fit k [] within)).fit in
     rw can.one_index.keys fits
-
--- the parts of a pointer
-pub pointer_is : (entry pointer pushed : Entry) (keys n : ℕ) (bytes : List ℕ) → pointer ≡ take n entry → n ≡ keys
-    → bytes ≡ be_bytes 4 0 → pushed ≡ pointer ++ parts.Bytes bytes false ∷ [] → pushed ≡ pointer_with keys entry 0
-pointer_is entry pointer pushed keys n bytes first same number grown =
-    grown ∙ ap (λ (p : Entry). p ++ parts.Bytes bytes false ∷ []) (first ∙ ap (λ (m : ℕ). take m entry) same)
-    ∙ ap (λ (b : List ℕ). take keys entry ++ parts.Bytes b false ∷ []) number
 
 -- the size of a pointer counts only where its entry begins a page
 pub only_first : (cutting : Cutting) (weight here : Weight) → here.size ≡ weight.size
