@@ -1,5 +1,5 @@
 -- What holds of page 0 before anything else is read (fsp0fsp).
-use Rattle.std.specs.Prelude.{◌≡◌, ℕ, ◌+◌, ◌%◌, ◌<◌, ◌≤◌, ◌⊎◌, List, Option}
+use Rattle.std.specs.Prelude.{◌≡◌, ℕ, ◌-◌, ◌*◌, ◌/◌, ◌%◌, ◌<◌, ◌≤◌, List, Option}
 use Rattle.page_source.specs.declared.rule.Rule.TheVariants.{FileSize, HeadFrame, HeadType, HeadSpace, HeadFlags}
 use Rattle.page_source.specs.declared.rule.Rule.TheVariants.{HeadSize, HeadLimit}
 use Rattle.page_source.specs.declared.rule.Fault.{Fault}
@@ -11,9 +11,13 @@ use Rattle.fil_frame.specs.Frame.{IsFramed, Framed, kind_of, space_of}
 use Rattle.space_header.specs.declared.header.SpaceHeader.{SpaceHeader}
 use Rattle.space_header.specs.Header.{header_space, stated_size, free_limit, space_flags, size_of, limit_of, head_of}
 
--- the flags are these, with the bit for DATA DIRECTORY or without it
+-- flags without bit 10, the one for DATA DIRECTORY
+abbrev pub without_data_directory : ℕ → ℕ
+without_data_directory flags = flags - 1024 * (flags / 1024 % 2)
+
+-- without that bit the flags are these
 abbrev pub HasFlags : List ℕ → ℕ → Type 0
-HasFlags page flags = (space_flags page ≡ flags) ⊎ (space_flags page ≡ flags + 1024)
+HasFlags page flags = without_data_directory (space_flags page) ≡ flags
 
 -- the stated size is within the file
 pub record IsSize (size pages : ℕ) : Type 0 where

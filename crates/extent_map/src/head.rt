@@ -1,12 +1,13 @@
 //! The first page of a tablespace: its frame and its space header (fsp0fsp).
 
-ghost use Rattle.std.specs.Prelude.{◌≡◌, ◌+◌, ◌-◌, ◌^◌, ◌≤◌, ◌↔◌, ◌⊎◌, ℕ, min, IsTrue, IfOk};
+ghost use Rattle.std.specs.Prelude.{◌≡◌, ◌+◌, ◌-◌, ◌^◌, ◌≤◌, ◌↔◌, ℕ, min, IsTrue, IfOk};
 ghost use Rattle.page_source.specs.Pages.{num};
 ghost use Rattle.page_source.specs.Checks.{Halts, Finds};
 ghost use Rattle.page_source.specs.Calls.{OfFile, HaltsOver};
 ghost use Rattle.fil_frame.specs.Frame.{space_of};
 ghost use Rattle.space_header.specs.Header.{header_of};
 ghost use Rattle.extent_map.specs.Head.{HeadChecks, HeaderChecks, IsSize, IsLimit, HasBounds, HasHeader};
+ghost use Rattle.extent_map.specs.Head.{without_data_directory};
 
 use fil_frame::kinds::FIL_PAGE_TYPE_FSP_HDR;
 use fil_frame::{frame_fault, kind};
@@ -31,11 +32,11 @@ const LIMIT: usize = 50;
 /// FSP_SPACE_FLAGS.
 const FLAGS: usize = 54;
 
-/// The flag for a table with a DATA DIRECTORY clause, which may stand besides.
+/// The flag for a table with a DATA DIRECTORY clause, bit 10, which may stand besides.
 const DATA_DIRECTORY: u32 = 1024;
 
 /// Reads page 0 by the rules of the head, 1 to 7, and leaves it in `page`. The space has these flags
-/// (FSP_SPACE_FLAGS), with the bit for DATA DIRECTORY or without it. `Broken` names the first broken
+/// (FSP_SPACE_FLAGS), its own taken without the bit for DATA DIRECTORY. `Broken` names the first broken
 /// rule, at page 0; `Source` comes where the size or page 0 couldn't be read.
 pub fn check_head<S: PageSource, L: Ledger>(
     source: &mut S,
@@ -77,7 +78,7 @@ fn check_header(page: &Page, pages: u32, flags: u32) -> Result<SpaceHeader, Faul
     if space != number(page, SPACE) {
         return Err(Rule::HeadSpace.at(0));
     }
-    if !has_flags(number(page, FLAGS), flags) {
+    if without_data_directory(number(page, FLAGS)) != flags {
         return Err(Rule::HeadFlags.at(0));
     }
     if !is_size(size, pages) {
@@ -96,10 +97,10 @@ fn number(page: &Page, at: usize) -> u32
     read_be::<4>(page, at) as u32
 }
 
-fn has_flags(stated: u32, flags: u32) -> bool
-    ensures { IsTrue result ↔ ((stated ≡ flags) ⊎ (stated ≡ flags + 1024)) }
+fn without_data_directory(flags: u32) -> u32
+    ensures { result ≡ without_data_directory flags }
 {
-    stated == flags || stated.checked_sub(DATA_DIRECTORY) == Some(flags)
+    flags - DATA_DIRECTORY * (flags / DATA_DIRECTORY % 2)
 }
 
 fn is_size(size: u32, pages: u32) -> bool

@@ -1,6 +1,6 @@
 -- A file that holds the pages of a built tablespace is a sound space.
 use Rattle.std.proofs.Common.{◌≡◌, ℕ, zero, suc, ◌+◌, ◌*◌, ◌/◌, ◌%◌, ◌<◌, ◌≤◌, List, length, All}
-use Rattle.std.proofs.Common.{inl, inr, refl, sym, ◌∙◌, subst, arith}
+use Rattle.std.proofs.Common.{inl, inr, refl, sym, ◌∙◌, ap, subst, arith}
 use Rattle.std.specs.List.{range_with_len}
 use Rattle.std.proofs.lemmas.Bool.{cases_lt}
 use Rattle.page_source.specs.Pages.{page_of}
@@ -8,7 +8,7 @@ use Rattle.page_source.proofs.Members.{all_members, range_only}
 use Rattle.fil_frame.specs.Kinds.{header_kind, bitmap_kind, inode_kind, blob_kind, index_kind}
 use Rattle.fil_frame.specs.Frame.{IsFramed, Framed, kind_of, space_of}
 use Rattle.space_header.specs.Header.{size_of}
-use Rattle.extent_map.specs.Head.{IsHead}
+use Rattle.extent_map.specs.Head.{without_data_directory, IsHead}
 use Rattle.extent_map.specs.Extents.{extent_count, extent_state, IsUsed, used_count, is_fragment_page}
 use Rattle.extent_map.specs.Descriptors.{IsExtent, FitsUse, HasSystemPages}
 use Rattle.inode_segments.specs.InodeChecks.{IsInodePage, AreInodes}
@@ -25,6 +25,7 @@ use Rattle.space_layout.specs.Numbers.{segment_page, size_at, IsShape}
 use Rattle.space_layout.specs.declared.runs.Run.{Run}
 use Rattle.space_layout.specs.Fields.{full_fragments, open_fragments}
 use Rattle.space_layout.specs.Holds.{IsPage}
+use Rattle.space_layout.specs.Laws.{ArePlain}
 use Rattle.space_layout.proofs.Known.{KnownHeads, KnownSpace}
 use Rattle.space_layout.proofs.Given.{Given, given_state, given_count, given_pages}
 use Rattle.space_layout.proofs.Spaces.{head_space, head_size, head_limit, head_flags, extent_total, full_fragment}
@@ -43,8 +44,9 @@ framed_here : (file sizes : List ℕ) (flags n kind : ℕ) → KnownHeads file s
 framed_here file sizes flags n kind h p =
     subst (λ (space : ℕ). IsFramed (page_of file n) n space) (sym (space_is file sizes flags h)) p.framed
 
-is_head : (file sizes : List ℕ) (flags : ℕ) → IsShape sizes → KnownSpace file sizes flags → IsHead file flags
-is_head file sizes flags shape h =
+is_head : (file sizes : List ℕ) (flags : ℕ) → IsShape sizes → ArePlain flags
+    → KnownSpace file sizes flags → IsHead file flags
+is_head file sizes flags shape plain h =
     let heads = h.heads in
     let pages = h.pages in
     let size = head_size file sizes flags heads in
@@ -55,7 +57,7 @@ is_head file sizes flags shape h =
       framed = framed_here file sizes flags 0 header_kind heads heads.held.head;
       kind = heads.held.head.has_kind;
       space = space_is file sizes flags heads ∙ sym (head_space file sizes flags heads);
-      has_flags = inl (head_flags file sizes flags heads);
+      has_flags = ap without_data_directory (head_flags file sizes flags heads) ∙ plain;
       size = record { least = omega arith; most = omega arith; within = omega arith };
       limit = record {
         whole = omega arith;
@@ -122,12 +124,13 @@ each_extent file sizes flags shape h e l =
       ]
     ]
 
-has_extents : (file sizes : List ℕ) (flags : ℕ) → IsShape sizes → KnownSpace file sizes flags → HasExtents file flags
-has_extents file sizes flags shape h =
+has_extents : (file sizes : List ℕ) (flags : ℕ) → IsShape sizes → ArePlain flags
+    → KnownSpace file sizes flags → HasExtents file flags
+has_extents file sizes flags shape plain h =
     let limit = head_limit file sizes flags h.heads in
     let fits = shape.fits in
     record {
-      head = is_head file sizes flags shape h;
+      head = is_head file sizes flags shape plain h;
       descriptors = λ k some l. absurd (omega arith);
       extents = each_extent file sizes flags shape h.heads;
     }
@@ -224,9 +227,10 @@ each_whole file sizes flags shape h n used = elim (cases_lt n 3) [
 ]
 
 -- the whole space
-pub is_sound : (file sizes : List ℕ) (flags : ℕ) → IsShape sizes → KnownSpace file sizes flags → IsSoundSpace file flags
-is_sound file sizes flags shape h = record {
-  extents = has_extents file sizes flags shape h;
+pub is_sound : (file sizes : List ℕ) (flags : ℕ) → IsShape sizes → ArePlain flags
+    → KnownSpace file sizes flags → IsSoundSpace file flags
+is_sound file sizes flags shape plain h = record {
+  extents = has_extents file sizes flags shape plain h;
   inodes = has_inodes file sizes flags shape h.heads;
   owners = has_owners file sizes flags shape h.heads;
   frames = record {

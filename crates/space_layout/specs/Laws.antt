@@ -2,6 +2,7 @@
 use Rattle.std.specs.Prelude.{◌≡◌, ℕ, ◌^◌, ◌<◌, ◌≤◌, List, length, map, Contains, Some}
 use Rattle.std.specs.FinMap.{get}
 use Rattle.page_source.specs.Objects.{PageMap, file_of}
+use Rattle.extent_map.specs.Head.{without_data_directory}
 use Rattle.space_audit.specs.Audit.{IsSoundSpace}
 use Rattle.space_layout.specs.Numbers.{IsShape, AreNumbers, space_pages, AreIndexes, AreSizesOf, sizes_of}
 use Rattle.space_layout.specs.ValuePlaces.{HavePlaces}
@@ -9,9 +10,13 @@ use Rattle.space_layout.specs.Holds.{HoldsSpace, HasSegments}
 use Rattle.space_layout.specs.NumberedPages.{Numbered, AreSegmentPages, numbered_map}
 use Rattle.space_layout.specs.HeadPages.{HoldsPages, header_page, bitmap_page, inode_page}
 
--- a file that holds the pages of a built tablespace is a sound space
+-- these flags are without the bit for DATA DIRECTORY
+abbrev pub ArePlain : ℕ → Type 0
+ArePlain flags = without_data_directory flags ≡ flags
+
+-- a file that holds the pages of a built tablespace with such flags is a sound space
 abbrev pub HoldsSoundSpace : Type 0
-HoldsSoundSpace = (file sizes : List ℕ) (flags : ℕ) → IsShape sizes → HoldsSpace file sizes flags
+HoldsSoundSpace = (file sizes : List ℕ) (flags : ℕ) → IsShape sizes → ArePlain flags → HoldsSpace file sizes flags
     → IsSoundSpace file flags
 
 -- the segments of such a file have the pages that they are to have, and no others

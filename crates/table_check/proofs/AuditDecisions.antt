@@ -17,7 +17,7 @@ use Rattle.space_header.specs.declared.address.Base.{Base}
 use Rattle.space_header.specs.declared.address.Node.{Node}
 use Rattle.space_header.specs.Header.{IsNull, extent_address, head_of, size_of, space_flags}
 use Rattle.space_header.specs.Linked.{PointsTo, Leads, node_in}
-use Rattle.extent_map.specs.Head.{HasFlags, IsSize, IsLimit}
+use Rattle.extent_map.specs.Head.{without_data_directory, HasFlags, IsSize, IsLimit}
 use Rattle.extent_map.specs.Extents.{is_used, is_fragment_extent, extent_of, extent_state, IsUsed}
 use Rattle.extent_map.specs.Descriptors.{IsState, FitsUse, HasSystemPages}
 use Rattle.inode_segments.specs.InodeChecks.{IsAddress, IsStep, IsFilled, EndsAfter, IsNewId}
@@ -58,8 +58,7 @@ frame_decided page n space =
 
 -- the head
 pub flags_decided : (page : List ℕ) (flags : ℕ) → IsDecided (HasFlags page flags)
-flags_decided page flags =
-    either_decided (number_decided (space_flags page) flags) (number_decided (space_flags page) (flags + 1024))
+flags_decided page flags = number_decided (without_data_directory (space_flags page)) flags
 
 pub size_decided : (size pages : ℕ) → IsDecided (IsSize size pages)
 size_decided size pages =

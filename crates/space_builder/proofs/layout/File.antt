@@ -1,6 +1,6 @@
 -- The file of a built tablespace is a sound space, and has each page at its number.
 use Rattle.std.proofs.Common.{◌≡◌, ℕ, ◌+◌, ◌^◌, ◌<◌, List, length, slice_index}
-use Rattle.std.proofs.Common.{Some, Option, unwrap_or, replicate, sym, ap, ◌∙◌, subst, arith}
+use Rattle.std.proofs.Common.{Some, Option, unwrap_or, replicate, refl, sym, ap, ◌∙◌, subst, arith}
 use Rattle.std.proofs.Common.{inl, inr, lit<}
 use Rattle.std.specs.FinMap.{get}
 use Rattle.std.proofs.lemmas.Bool.Decides.{eqb_tells}
@@ -16,6 +16,7 @@ use Rattle.space_audit.specs.Audit.{IsSoundSpace}
 use Rattle.space_layout.specs.Numbers.{space_pages}
 use Rattle.space_layout.specs.HeadPages.{HoldsPages}
 use Rattle.space_layout.specs.Holds.{HoldsSpace, HasSegments}
+use Rattle.space_layout.specs.Laws.{ArePlain}
 use Rattle.space_layout.specs.ValuePlaces.{value_place, IsPart}
 use Rattle.tree_layout.specs.Places.{segment_for, place_for, leaf_size, IsTreePlace}
 use Rattle.space_builder.specs.layout.Layout.{Rows, tree_counts, value_counts, segment_sizes, value_number}
@@ -31,6 +32,10 @@ use Rattle.space_builder.proofs.layout.Pages.{are_pages}
 pub flags_small : (format : Format) → flags_of format < 2 ^ 32
 flags_small Compact = lit< tt
 flags_small Dynamic = lit< tt
+
+pub flags_plain : (format : Format) → ArePlain (flags_of format)
+flags_plain Compact = refl
+flags_plain Dynamic = refl
 
 module _ (laws : LowerLaws) (table : TableDef) (rows : Rows) (can : CanBuild table rows) where
   abbrev sizes : List ℕ
@@ -60,7 +65,8 @@ module _ (laws : LowerLaws) (table : TableDef) (rows : Rows) (can : CanBuild tab
       held_pages
 
   pub sound_space : IsSoundSpace file flags
-  sound_space = laws.space.sound file sizes flags (shape laws table rows can) holds_space
+  sound_space =
+      laws.space.sound file sizes flags (shape laws table rows can) (flags_plain table.format) holds_space
 
   pub segments_held : HasSegments file sizes
   segments_held = laws.space.segments file sizes flags (shape laws table rows can) holds_space
