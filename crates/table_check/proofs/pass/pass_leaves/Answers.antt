@@ -83,9 +83,11 @@ loop-preserved g c =
           i.reads found;
       told = told2 o
           (λ file t f root fields node j walked has.
-          let some = t root fields node j walked has in
-          (suc some.0, taken_more (index_of file root fields node) c.next_leaf.new.self.leaf c.next_leaf.new.self.last
-          some.0 (f root fields node some.0 walked some.1) last))
+          let some = t root fields node j walked has in (
+            suc some.0,
+            taken_more (index_of file root fields node) c.next_leaf.new.self.leaf c.next_leaf.new.self.last
+                some.0 (f root fields node some.0 walked some.1) last,
+          ))
           i.told found;
       came = λ n is. one_came n c.args.cursor.now.leaf c.loop.cursor.leaf c.next_leaf.new.self.leaf c.loop.cursor.last
           c.next_leaf.new.self.last (i.came n is) hops last;

@@ -31,7 +31,7 @@ pass_leaves-requires-clause-reads g c =
 pub returns-in_err-pass_leaves-clause-exact : goal.returns-in_err-pass_leaves-clause-exact
 returns-in_err-pass_leaves-clause-exact g c =
     let r =
-        err_from_is_err_and c.from_residual-in_err-pass_leaves.result c.from_residual-in_err-pass_leaves.ensures.1 in
+    err_from_is_err_and c.from_residual-in_err-pass_leaves.result c.from_residual-in_err-pass_leaves.ensures.1 in
     rw (r.1, r.2)
     (told2 (g.S.PageSource.content c.args.source.now)
     (λ file is passes. pass_stops file c.args.schema.now (Unit {0}) c.in_err-pass_leaves.field-0.0 c.in_ok-cursor.cursor.leaf
