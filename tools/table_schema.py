@@ -147,19 +147,27 @@ def text_words(column, length):
     return '%s %d' % (column.kind, length * column.width())
 
 
-def type_words(column, as_bytes):
+def is_empty(column):
+    """Whether no value of it but the empty one fits, as of a `char(0)`."""
+    return column.kind in BOUNDED and column.numbers == [0]
+
+
+def type_words(column, as_bytes, rows=False):
     if column.refused is not None:
         raise NotServed(column.refused)
     if column.kind == 'timestamp' and not column.states_null and column.null:
         raise NotServed('%s: a timestamp that says neither NULL nor NOT NULL' % column.what)
-    if column.kind in BOUNDED and column.numbers == [0]:
-        raise NotServed('%s: %s(0)' % (column.what, column.kind))
+    if is_empty(column):
+        if not rows:
+            raise NotServed('%s: %s(0)' % (column.what, column.kind))
+        # A column without a fixed length has the length of each value in the record, also if that is always 0.
+        return 'varbinary 1' if 'binary' in column.kind else 'varchar 1'
     return bytes_words(column) if as_bytes else value_words(column)
 
 
-def is_served(column):
+def is_served(column, rows=False):
     try:
-        return bool(type_words(column, False))
+        return bool(type_words(column, False, rows))
     except NotServed:
         return False
 
@@ -204,7 +212,7 @@ class TableSchema:
             inside = indexes.get(name)
             if name in wanted and inside and not self.choice.rows:
                 self.refused.append('%s: it stands in %s, which is ordered by its values' % (column.what, inside.what))
-            elif name in wanted or column.kind is not None and not is_served(column) and (
+            elif name in wanted or column.kind is not None and not is_served(column, self.choice.rows) and (
                     self.choice.rows or ALL_UNSERVED in self.choice.bytes and not inside):
                 chosen.add(name)
         return chosen
@@ -222,7 +230,7 @@ class TableSchema:
 
     def words_of(self, column):
         """The words of the schema text for its type."""
-        return type_words(column, self.is_bytes(column))
+        return type_words(column, self.is_bytes(column), self.choice.rows)
 
     def text(self, roots=None):
         """The lines; what isn't served is put on the list of what is refused."""
