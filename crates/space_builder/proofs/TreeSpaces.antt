@@ -187,14 +187,14 @@ module _ (laws : LowerLaws) (fitted : FittedRowsAreRows) (space : Space) (rows :
 
 -- and so are the entries of another index
 pub secondary_are : (space : Space) (rows : Rows) (is : IsSpaceOf space rows) → PicksEntries → (j : ℕ) → 0 < j
-    → j < length space.schema.now.indexes → (order : List ℕ) (entries : List Entry)
-    → entries ≡ picked_entries (entry_fields space.schema.now j) space.rows.now order
-    → IsIndexOrder space.schema.now space.rows.now j order → entries ≡ index_entries space.schema.now rows j
+    → j < length space.schema.now.indexes → (fields order : List ℕ) → fields ≡ entry_fields space.schema.now j
+    → IsIndexOrder space.schema.now space.rows.now j order
+    → picked_entries fields space.rows.now order ≡ index_entries space.schema.now rows j
 unfolding index_entries
-secondary_are space rows is picks j second index order entries entries_are in_order =
+secondary_are space rows is picks j second index fields order fields_are in_order =
     let table = space.schema.now in
     let no : j ≢ 0 = omega arith in
-    entries_are
+    ap (λ (f : List ℕ). picked_entries f space.rows.now order) fields_are
     ∙ picks table rows space.rows.now j order
     record {
       is_table = is.can.is_table;

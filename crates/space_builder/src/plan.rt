@@ -12,7 +12,7 @@ ghost use Rattle.space_builder.specs.calls.Plan.{stored_total, FindsPages, Finds
 use crate::clustered::{ClusteredEntries, kept_prefix};
 use crate::counts::count_tree;
 use crate::laws::{laws_below, picked_entries_are_sorted};
-use crate::order::order_of_index;
+use crate::order::{entry_fields, order_of_index};
 use crate::places::pages_above;
 use crate::secondary::SecondaryEntries;
 use crate::stored::StoredRows;
@@ -139,7 +139,12 @@ fn tree_counts(
         };
         return count_tree(alloc, &leaf, &node, &entries);
     }
-    let entries = SecondaryEntries::of(alloc, schema, rows, order, index)?;
+    let fields = entry_fields(alloc, schema, index)?;
+    let entries = SecondaryEntries {
+        rows,
+        order,
+        fields: &fields,
+    };
     count_tree(alloc, &leaf, &node, &entries)
 }
 

@@ -1,107 +1,27 @@
 //! The entries of the indexes that aren't the clustered one.
 
-ghost use Rattle.std.specs.Prelude.{◌≡◌, ◌<◌, ◌≤◌, ◌∷◌, ◌++◌, [], IfOk, OnOk, length, take};
+ghost use Rattle.std.specs.Prelude.{◌≡◌, ◌<◌, ◌≤◌, ◌∷◌, ◌++◌, [], IfOk, OnOk, length, slice_index, take};
 ghost use Rattle.row_layout.specs.StoredRow.{stored_at};
 ghost use Rattle.row_layout.specs.HoldsValues.{stored_in};
-ghost use Rattle.space_builder.specs.calls.Picked.{whole_part, whole_entry, picked_entry, picked_entries, entry_fields};
+ghost use Rattle.space_builder.specs.calls.Picked.{whole_part, picked_entry};
 
 use crate::entries::{Entries, Leaves};
-use crate::order::entry_fields;
-use crate::row_fields::RowFields;
 use crate::stored::StoredRows;
 use compact_record::Parts;
 use page_source::NoMemory;
-use schema_text::Schema;
 use std::alloc::Global;
-use std::marker::Model;
 
-/// The entries of an index, copied into their order: rows in the order of an index lie anywhere in memory.
-#[derive(Debug, Drop)]
-pub(crate) struct SecondaryEntries {
-    /// The fields of each entry.
-    copied: StoredRows,
+/// The entries of an index: some fields of the rows, which are in some order.
+#[derive(Clone, Copy)]
+pub(crate) struct SecondaryEntries<'a> {
+    /// The rows, and their order in the index.
+    pub(crate) rows: &'a StoredRows,
+    pub(crate) order: &'a [u32],
+    /// Which fields of a row an entry has.
+    pub(crate) fields: &'a [usize],
 }
 
-impl Model for SecondaryEntries {
-    ghost use Rattle.std.specs.Prelude.{List};
-    ghost use Rattle.page_packer.specs.Entries.{Entry};
-    ghost use Rattle.space_builder.specs.calls.Picked.{whole_entries};
-
-    ghost Value = { List Entry };
-
-    ghost view = { λ entries. whole_entries entries.copied };
-}
-
-/// Adds a field of a row to an entry.
-fn copy_field(
-    rows: &StoredRows,
-    r: usize,
-    field: usize,
-    entry: &mut RowFields,
-) -> Result<(), NoMemory>
-    ensures { OnOk result (whole_entry entry.new
-        ≡ whole_entry entry.old ++ whole_part (stored_at (stored_in rows.now r) field) ∷ []) }
-{
-    match rows.value(r, field) {
-        Some(bytes) => entry.push(false, bytes),
-        None => entry.push(true, &[]),
-    }
-}
-
-/// Makes `entry` these fields of a row.
-fn copy_fields(
-    rows: &StoredRows,
-    r: usize,
-    fields: &[usize],
-    entry: &mut RowFields,
-) -> Result<(), NoMemory>
-    ensures { OnOk result (whole_entry entry.new ≡ picked_entry fields.now (stored_in rows.now r)) }
-{
-    entry.clear();
-    for field in fields {
-        copy_field(rows, r, *field, entry)?;
-    }
-    Ok(())
-}
-
-/// Copies these fields of the rows in this order.
-fn copy_rows(
-    alloc: Global,
-    rows: &StoredRows,
-    order: &[u32],
-    fields: &[usize],
-) -> Result<SecondaryEntries, NoMemory>
-    ensures { IfOk result (λ entries. entries ≡ picked_entries fields.now rows.now order.now) }
-{
-    let mut entry = RowFields::new(alloc);
-    let mut copied = StoredRows::new(alloc);
-    for r in order {
-        copy_fields(rows, *r as usize, fields, &mut entry)?;
-        entry.store(&mut copied)?;
-    }
-    Ok(SecondaryEntries { copied })
-}
-
-impl SecondaryEntries {
-    /// Copies the entries of index `j` from the rows in its order.
-    pub(crate) fn of(
-        alloc: Global,
-        schema: &Schema,
-        rows: &StoredRows,
-        order: &[u32],
-        j: usize,
-    ) -> Result<SecondaryEntries, NoMemory>
-        requires { j < length schema.now.indexes }
-        ensures { IfOk result
-            (λ entries. entries ≡ picked_entries (entry_fields schema.now j) rows.now order.now) }
-    {
-        let fields = entry_fields(alloc, schema, j)?;
-        let entries = copy_rows(alloc, rows, order, &fields)?;
-        Ok(entries)
-    }
-}
-
-/// Adds a field of an entry, all of it on the page.
+/// Adds a field of a row, all of it on the page.
 fn push_whole(parts: &mut Parts, rows: &StoredRows, r: usize, i: usize) -> Result<(), NoMemory>
     ensures { OnOk result (parts.new ≡ parts.old ++ whole_part (stored_at (stored_in rows.now r) i) ∷ []) }
 {
@@ -111,34 +31,37 @@ fn push_whole(parts: &mut Parts, rows: &StoredRows, r: usize, i: usize) -> Resul
     }
 }
 
-/// So many fields of an entry.
-fn first_fields(alloc: Global, rows: &StoredRows, r: usize, count: usize) -> Result<Parts, NoMemory>
-    requires { count ≤ length (stored_in rows.now r) }
-    ensures { IfOk result (λ parts. parts ≡ take count (whole_entry (stored_in rows.now r))) }
-{
-    let mut parts = Parts::new(alloc);
-    for i in 0..count {
-        push_whole(&mut parts, rows, r, i)?;
+impl SecondaryEntries<'_> {
+    /// So many fields of the entry of row `r`.
+    fn first_fields(&self, alloc: Global, r: usize, count: usize) -> Result<Parts, NoMemory>
+        requires { count ≤ length self.now.fields.now }
+        ensures { IfOk result
+            (λ parts. parts ≡ take count (picked_entry self.now.fields.now (stored_in self.now.rows.now r))) }
+    {
+        let mut parts = Parts::new(alloc);
+        for k in 0..count {
+            push_whole(&mut parts, self.rows, r, self.fields[k])?;
+        }
+        Ok(parts)
     }
-    Ok(parts)
 }
 
-impl Entries for SecondaryEntries {
-    ghost entries = { λ list. list };
+impl Entries for SecondaryEntries<'_> {
+    ghost use Rattle.space_builder.specs.calls.Picked.{picked_entries};
+
+    ghost entries = { λ e. picked_entries e.fields.now e.rows.now e.order.now };
 
     fn count(&self) -> usize {
-        self.copied.count()
+        self.order.len()
     }
 
     fn parts(&self, alloc: Global, k: usize) -> Result<Parts, NoMemory> {
-        let parts = first_fields(alloc, &self.copied, k, self.copied.width(k))?;
-        Ok(parts)
+        self.first_fields(alloc, self.order[k] as usize, self.fields.len())
     }
 }
 
-impl Leaves for SecondaryEntries {
+impl Leaves for SecondaryEntries<'_> {
     fn key(&self, alloc: Global, k: usize, keys: usize) -> Result<Parts, NoMemory> {
-        let parts = first_fields(alloc, &self.copied, k, keys.min(self.copied.width(k)))?;
-        Ok(parts)
+        self.first_fields(alloc, self.order[k] as usize, keys.min(self.fields.len()))
     }
 }

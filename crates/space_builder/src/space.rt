@@ -13,6 +13,7 @@ use crate::clustered::ClusteredEntries;
 use crate::head_pages::{put_head_page, put_system_pages};
 use crate::laws::{laws_below, picked_entries_are_sorted, same_pages_give_records};
 use crate::levels::{PageRoom, put_tree};
+use crate::order::entry_fields;
 use crate::plan::{RowOrder, SpacePlan, leaf_size};
 use crate::secondary::SecondaryEntries;
 use crate::stored::StoredRows;
@@ -84,8 +85,12 @@ impl Space<'_> {
     {
         laws_below();
         picked_entries_are_sorted();
-        let order = &self.orders[j].rows;
-        let entries = SecondaryEntries::of(alloc, self.schema, self.rows, order, j)?;
+        let fields = entry_fields(alloc, self.schema, j)?;
+        let entries = SecondaryEntries {
+            rows: self.rows,
+            order: &self.orders[j].rows,
+            fields: &fields,
+        };
         put_tree(alloc, store, room, &entries, tree)
     }
 

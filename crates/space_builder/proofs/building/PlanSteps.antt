@@ -94,11 +94,11 @@ clustered_given table stored j format first same rows are =
     ap (λ (f : Format). clustered_entries f (first_page_in [] []) stored) same ∙ clustered_leaves table stored rows are
     ∙ ap (entries_with table rows (λ r i k. 0)) (sym first)
 
-pub picked_given : PicksEntries → (table : TableDef) (stored : List (List Stored)) (j : ℕ) (order : List ℕ)
-    (entries : List Entry) → (j ≡ 0 → ⊥) → j < length table.indexes → (0 < j → IsIndexOrder table stored j order)
-    → entries ≡ picked_entries (entry_fields table j) stored order → AreLeaves table stored j entries
-picked_given picks table stored j order entries second inside is same rows are =
-    same
+pub picked_given : PicksEntries → (table : TableDef) (stored : List (List Stored)) (j : ℕ) (order fields : List ℕ)
+    → (j ≡ 0 → ⊥) → j < length table.indexes → (0 < j → IsIndexOrder table stored j order)
+    → fields ≡ entry_fields table j → AreLeaves table stored j (picked_entries fields stored order)
+picked_given picks table stored j order fields second inside is same rows are =
+    ap (λ (f : List ℕ). picked_entries f stored order) same
     ∙ picked_leaves picks table stored j order (omega (arith, second)) inside (is (omega (arith, second))) rows are
 
 module _ (laws : LowerLaws) (table : TableDef) (stored : List (List Stored)) (j : ℕ) (inside : j < length table.indexes)

@@ -25,13 +25,6 @@ clustered_part format number rows r i = part_of_field format (number r i 0) (sto
 abbrev pub whole_part : Stored → Part
 whole_part field = if field.null then parts.Null else parts.Bytes field.bytes false
 
--- all fields of a row as an entry, and those of each row
-abbrev pub whole_entry : List Stored → Entry
-whole_entry row = map whole_part row
-
-unfoldable pub whole_entries : List (List Stored) → List Entry
-whole_entries rows = map (λ row. whole_entry row) rows
-
 -- the entry that has these fields of a row, and its key
 abbrev pub picked_entry : List ℕ → List Stored → Entry
 picked_entry fields row = map (λ i. whole_part (stored_at row i)) fields

@@ -1,17 +1,33 @@
-use Rattle.std.proofs.Common.{◌∙◌, min, sym, take, ap}
+use Rattle.std.proofs.Common.{◌≡◌, ◌∙◌, min, take, get_or, ap, sym, arith}
 use Rattle.std.proofs.lemmas.List.{length-map}
+use Rattle.std.proofs.lemmas.Result.{IfOk-weaker}
+use Rattle.page_packer.specs.Entries.{Entry, entry_at}
+use Rattle.row_layout.specs.StoredRow.{stored_at}
 use Rattle.row_layout.specs.HoldsValues.{stored_in}
-use Rattle.space_builder.specs.calls.Picked.{whole_part, whole_entry}
-use Rattle.space_builder.proofs.building.PickedParts.{entry_there, entry_is, take_least}
+use Rattle.space_builder.specs.calls.Picked.{whole_part, picked_entry, picked_entries}
+use Rattle.space_builder.proofs.building.PickedParts.{count_picked, picked_at, take_least}
 use Rattle.space_builder.proofs.secondary.SecondaryEntriesLeaves.key.Goals as goal
 
-pub width-requires : goal.width-requires
-width-requires c = entry_there c.self.inside.copied c.args.self.now c.args.k c.self.view_is c.requires
+pub offset_bounds-self-k : goal.offset_bounds-self-k
+offset_bounds-self-k c =
+    let e = c.args.self.now in omega (arith, c.requires, count_picked e.fields.now e.rows.now e.order.now)
+
+pub bounds-self-k : goal.bounds-self-k
+bounds-self-k c =
+    let e = c.args.self.now in omega (arith, c.requires, count_picked e.fields.now e.rows.now e.order.now)
 
 pub returns : goal.returns
 returns c =
-    let row = stored_in c.self.inside.copied c.args.k in
-    c.in_ok-parts.ensures
-    ∙ take_least c.args.keys c.min.result (whole_entry row)
-    (c.min.ensures ∙ ap (min c.args.keys) (c.width.ensures ∙ sym (length-map row whole_part)))
-    ∙ ap (take c.args.keys) (entry_is c.self.inside.copied c.args.self.now c.args.k c.self.view_is)
+    let e = c.args.self.now in
+    let row = stored_in e.rows.now (get_or e.order.now c.args.k 0) in
+    let entry = picked_entry e.fields.now row in
+    let size = length-map e.fields.now (λ i. whole_part (stored_at row i)) in
+    let entries = picked_entries e.fields.now e.rows.now e.order.now in
+    let there : entry_at entries c.args.k ≡ entry =
+    picked_at e.fields.now e.rows.now e.order.now c.args.k
+    (omega (arith, c.requires, count_picked e.fields.now e.rows.now e.order.now)) in
+    let first : take c.min.result entry ≡ take c.args.keys entry =
+    take_least c.args.keys c.min.result entry (c.min.ensures ∙ ap (min c.args.keys) (sym size)) in
+    IfOk-weaker c.first_fields.result (λ (parts : Entry). parts ≡ take c.min.result entry)
+    (λ (parts : Entry). parts ≡ take c.args.keys (entry_at entries c.args.k))
+    (λ parts is. is ∙ first ∙ ap (take c.args.keys) (sym there)) c.first_fields.ensures
