@@ -1,10 +1,13 @@
 """Times `check`, `cross` and `dump` of large tables against reading the same file with `dd`, and prints the peak of
-memory.
+memory. Of several programs, as an older release and the new one, each is timed in turn over the same files.
 
 The tables are made here, by tests/tablespace.py, one after the other in the folder for temporary files, which needs
 700 MB; that takes half a minute. What `dump` writes is compared with the rows. The commands and `dd bs=16384` are run
 in turn, N times each; printed are the medians of processor time, in the kernel and outside of it, and of the time by
 the clock, and the ratios of the processor times. The memory is read from /proc.
+
+With --builds the tables that have no more pages than a build are also built from the lines of their rows; what comes
+out is dumped and compared with them.
 
 With --salvage the rows are also saved by SALVAGE, which is `ibd-salvage`.
 
@@ -32,6 +35,8 @@ from tablespace import PAGE_SIZE, Tablespace
 TICKS = os.sysconf('SC_CLK_TCK')
 KEYED = 'table t dynamic\ncolumn id int notnull\n%sclustered root 3 id\n%s'
 VALUE_SIZE = 60_000
+# A build has at most 256 extents of 64 pages.
+MOST_BUILT = 256 * 64 * PAGE_SIZE
 
 # What one run took: seconds of processor time and by the clock.
 Took = collections.namedtuple('Took', 'processor clock')
@@ -226,21 +231,38 @@ def server_commands(server, table):
     }
 
 
+def words_of(given, table, folder):
+    """The words of each command of each program, by what is printed of it."""
+    schema, file, rows, built = (os.path.join(folder, word) for word in ('schema', 'file', 'rows', 'built'))
+    builds = given.builds and os.path.getsize(file) <= MOST_BUILT
+    if builds:
+        with open(rows, 'wb') as out:
+            out.writelines(map(table.line, range(table.rows)))
+    words = {}
+    for program in given.programs:
+        of = ' of %s' % program if len(given.programs) > 1 else ''
+        compare([program, 'dump', schema, file], table)
+        words |= {command + of: [program, command, schema, file] for command in ('check', 'cross', 'dump')}
+        if builds:
+            words['build' + of] = build = [program, 'build', schema, rows, built]
+            subprocess.run(build, check=True, stdout=subprocess.DEVNULL)
+            compare([program, 'dump', schema, built], table)
+    return words
+
+
 def measure(given, name, table, folder, server):
-    program, runs = given.program, given.runs
     schema, file = (os.path.join(folder, word) for word in ('schema', 'file'))
     with open(schema, 'w') as out:
         out.write(KEYED % (table.columns, table.index.line if table.index else ''))
     make(file, table)
-    compare([program, 'dump', schema, file], table)
-    words = {command: [program, command, schema, file] for command in ('check', 'cross', 'dump')}
+    words = words_of(given, table, folder)
     if given.salvage:
         words['salvage'] = [given.salvage, 'rows', schema, file]
     commands = {'dd': lambda: run(['dd', 'bs=%d' % PAGE_SIZE, 'if=%s' % file, 'of=/dev/null'])}
     commands |= {command: lambda each=each: run(each) for command, each in words.items()}
     if server:
         commands |= server_commands(server, table)
-    took = in_turn(commands, runs)
+    took = in_turn(commands, given.runs)
     size = os.path.getsize(file)
     print('%s: %d pages, %.0f MB' % (name, size // PAGE_SIZE, size / 1e6))
     for command, each in took.items():
@@ -254,7 +276,8 @@ def add_words(parser):
     parser.add_argument('--server', action='store_true', help="compare with a server's tools")
     parser.add_argument('--salvage', metavar='SALVAGE', help='the program that saves the rows too')
     parser.add_argument('--runs', type=int, default=5, metavar='N', help='runs of each command (5)')
-    parser.add_argument('program', metavar='PROGRAM', help='the program that is measured')
+    parser.add_argument('--builds', action='store_true', help='build the tables too')
+    parser.add_argument('programs', metavar='PROGRAM', nargs='+', help='the programs that are measured')
 
 
 def measure_all(given):
