@@ -1,4 +1,5 @@
 pub mod OneAnswer
 pub mod TextPieces
 pub mod SchemaReading
+pub mod SchemaEnds
 pub mod WordLists

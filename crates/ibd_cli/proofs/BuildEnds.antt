@@ -23,7 +23,8 @@ use Rattle.ibd_cli.specs.declared.status.Status.{Status}
 use Rattle.ibd_cli.specs.declared.status.Status.TheVariants as statuses
 use Rattle.ibd_cli.specs.Run.{EndsAs}
 use Rattle.ibd_cli.specs.Build.{Objects, Meanings, Texts, TellsTexts, built_line, IsRefusedForBuild, GivesBuilt}
-use Rattle.ibd_cli.specs.Build.{WritesNothing, ReadsTexts, BuildsWhole, LeavesUncalledOrSized, EndsBuild, HasBuilt, OfStore}
+use Rattle.ibd_cli.specs.Build.{WritesNothing, ReadsTexts, BuildsWhole, LeavesUncalledOrSized, EndsBuild, HasBuilt}
+use Rattle.ibd_cli.specs.Build.{OfStore}
 use Rattle.ibd_cli.specs.Build.{DumpsAsRead, ServesBuild}
 use Rattle.ibd_cli.specs.Laws.{BuiltFilesDumpAsRead}
 use Rattle.command_line.specs.SchemaFile.{ReadsSchema}
@@ -31,7 +32,8 @@ use Rattle.ibd_cli.specs.Answers.{status_of_schema, status_of_build}
 use Rattle.command_line.proofs.OneAnswer.{HasOneAnswer}
 use Rattle.command_line.proofs.OneAnswer.{no_table}
 use Rattle.ibd_cli.proofs.Outcomes.{one_refusal}
-use Rattle.ibd_cli.proofs.Serving.{at_told, Stopped, HasTable, is_source, never_sink}
+use Rattle.command_line.proofs.SchemaEnds.{at_told, Stopped, HasTable}
+use Rattle.ibd_cli.proofs.Serving.{is_source, never_sink}
 use Rattle.ibd_cli.proofs.BuildOutcomes.{status_of_outcome, never_refused, refused_as_root, defines_one}
 use Rattle.ibd_cli.proofs.BuiltDumps.{holds_file}
 

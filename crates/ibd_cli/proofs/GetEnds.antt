@@ -154,7 +154,8 @@ module _ {F O : Type 0} (f : FileOf F) (o : SinkOf O) (key : List ℕ) (file fil
     unkeyed = λ is. absurd (cc);
     unsought = λ none. absurd (done_unkeyed done (got.first none).ends);
     silent = told1 (f.content file)
-        (λ content gets. done_silent f o key file file_now table out out_now steps steps_now content done gets) got.told;
+        (λ content gets. done_silent f o key file file_now table out out_now steps steps_now content done gets)
+        got.told;
     unwritten = λ before. absurd before;
     some = λ is. got.some;
     few = got_few (Ok done) got;
@@ -179,13 +180,15 @@ module _ {F O : Type 0} (f : FileOf F) (o : SinkOf O) (key : List ℕ) (file fil
       → ServesFile f o Get key file file_now table out out_now steps steps_now (status_of_get stop)
   get_stopped stop got = record {
     ends = told1 (f.content file)
-        (λ content gets. stop_ends f o key file file_now table out out_now steps steps_now content stop got gets) got.told;
+        (λ content gets. stop_ends f o key file file_now table out out_now steps steps_now content stop got gets)
+        got.told;
     of_file = stop_of_file stop;
     unkeyed = λ is. got.refused (ap Err (is_refused stop is));
     unsought = λ none.
         let first = got.first none in (first.file, first.steps_same, stop_unkeyed stop first.ends);
     silent = told1 (f.content file)
-        (λ content gets. stop_silent f o key file file_now table out out_now steps steps_now content stop got gets) got.told;
+        (λ content gets. stop_silent f o key file file_now table out out_now steps steps_now content stop got gets)
+        got.told;
     unwritten = unwritten_at stop got;
     some = λ is. absurd (never_done stop is);
     few = got_few (Err stop) got;

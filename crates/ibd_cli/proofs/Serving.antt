@@ -1,12 +1,11 @@
 -- What a command on a table does, by how far it came.
-use Rattle.std.proofs.Common.{◌≡◌, ℕ, List, [], Option, Some, None, Err, IfSome}
+use Rattle.std.proofs.Common.{◌≡◌, ℕ, List, [], Option, Some, None, Err}
 use Rattle.std.proofs.Common.{refl, sym, ap, subst, inl, inr, arith}
 use Rattle.std.proofs.lemmas.List.{append-nil}
 use Rattle.page_source.specs.declared.objects.PageSource.{Ghosts as FileOf}
 use Rattle.page_source.specs.declared.objects.ByteSource.{Ghosts as SourceOf}
 use Rattle.page_source.specs.declared.objects.ByteSink.{Ghosts as SinkOf}
 use Rattle.page_source.specs.declared.rule.Fault.{Fault}
-use Rattle.page_source.specs.Faults.{Rose}
 use Rattle.page_source.specs.Objects.{GrowsByPart}
 use Rattle.page_source.proofs.Told.{told0, told1}
 use Rattle.schema_text.specs.TableDef.{TableDef}
@@ -21,26 +20,17 @@ use Rattle.ibd_cli.specs.declared.status.Status.{Status}
 use Rattle.ibd_cli.specs.declared.status.Status.TheVariants as statuses
 use Rattle.ibd_cli.specs.declared.forms.Task.{Task}
 use Rattle.ibd_cli.specs.declared.forms.Task.TheVariants.{Check, Dump, Cross, Get}
-use Rattle.command_line.specs.Reading.{IsReadUpTo}
 use Rattle.command_line.specs.SchemaFile.{IsRefusedText}
 use Rattle.ibd_cli.specs.Outcome.{FirstOf, IsDone, IsNoKeyOf, Told, Gives}
-use Rattle.ibd_cli.specs.Run.{EndsAs, IsNoKeyIn, ReadsInputs, LeavesPart, LeavesUnread, Leaves, IsOfTask, Spent, TakesFew, Serves}
+use Rattle.ibd_cli.specs.Run.{EndsAs, IsNoKeyIn, ReadsInputs, LeavesPart, LeavesUnread, Leaves, IsOfTask, Spent}
+use Rattle.ibd_cli.specs.Run.{TakesFew, Serves}
 use Rattle.command_line.specs.SchemaFile.{ReadsSchema}
 use Rattle.ibd_cli.specs.Answers.{status_of_schema, HasPart, EndsUnread, Ends, IsOfFile, ServesFile}
+use Rattle.command_line.proofs.SchemaEnds.{at_told, Stopped, HasTable}
 use Rattle.command_line.proofs.OneAnswer.{HasOneAnswer}
 use Rattle.command_line.proofs.OneAnswer.{no_table}
 use Rattle.ibd_cli.proofs.Outcomes.{one_refusal, refused_gives, AnswersOnce, same_key, of_table}
 use Rattle.ibd_cli.proofs.Outcomes.{ends_as, sound_of}
-
--- what holds of a told content holds where it is told
-pub at_told : {X : Type 0} (P : X → Type 0) (o : Option X) (x : X) → o ≡ Some x → IfSome o P → P x
-at_told {X = X} P o x is holds = subst (λ (p : Option X). IfSome p P) is holds
-
--- the schema text was refused, or couldn't be read
-pub record Stopped {Q : Type 0} (q : SourceOf Q) (schema schema_now : Q) (stop : SchemaStop) : Type 0 where
-  pub reads : IfSome (q.left schema) (λ text. ReadsSchema text (q.left schema_now) (Err stop))
-  pub read : IfSome (q.left schema) (λ text. IsReadUpTo 65537 text (q.left schema_now))
-  pub cause : stop ≡ Source → Rose (q.faults schema) (q.faults schema_now)
 
 pub refused_as : (text : List ℕ) (left : Option (List ℕ)) (stop : SchemaStop) (line : ℕ) (why : SchemaWhy)
     → status_of_schema stop ≡ statuses.SchemaRefused line why → ReadsSchema text left (Err stop)
@@ -139,7 +129,8 @@ inputs_stopped all f q task key file schema schema_now steps stop stopped =
     }
 
 -- what takes nothing takes few
-takes_none : (task : Task) (key file : List ℕ) (table : TableDef) (spent : Spent) → TakesFew task key file table spent spent
+takes_none : (task : Task) (key file : List ℕ) (table : TableDef) (spent : Spent) → TakesFew task key file table spent
+    spent
 takes_none Check key file table spent = tt
 takes_none Dump key file table spent = omega arith
 takes_none Cross key file table spent = tt
@@ -184,11 +175,6 @@ serves_stopped all f q o task key file schema schema_now out steps stop stopped 
           takes_none task key told.file table (record { steps = steps; fetches = f.fetches file });
       sink = λ is. absurd (never_sink stop is);
     }
-
--- the text was read to its end, and is that of a table
-pub record HasTable {Q : Type 0} (q : SourceOf Q) (schema schema_now : Q) (table : TableDef) : Type 0 where
-  pub reads : IfSome (q.left schema) (λ text. IsTextOf table text × (q.left schema_now ≡ Some []))
-  pub read : IfSome (q.left schema) (λ text. IsReadUpTo 65537 text (q.left schema_now))
 
 broken_as : (task : Task) (key file : List ℕ) (table : TableDef) (status : Status) (old new : Option (List ℕ))
     (fault : Fault) → status ≡ statuses.Broken fault → Ends task key file table status old new

@@ -177,7 +177,8 @@ pub record Serves {F Q O : Type 0} (f : FileOf F) (q : SourceOf Q) (o : SinkOf O
       → ((output : List ℕ) → ¬ (Gives task key told Done output)) → out_now ≡ out
   -- and whatever they tell
   pub unwritten : ComesBefore task status → out_now ≡ out
-  pub some : status ≡ Done → OfSchema (q.left schema) (λ table. WritesSome task table (o.written out) (o.written out_now))
+  pub some : status ≡ Done → OfSchema (q.left schema)
+      (λ table. WritesSome task table (o.written out) (o.written out_now))
   -- what it takes of the file, where the inputs are told
   pub few : (told : Told) → Tells f q file schema told → (table : TableDef) → IsTextOf table told.schema
       → TakesFew task key told.file table (record { steps = steps; fetches = f.fetches file })

@@ -40,7 +40,8 @@ index_of words k l None None p q = refl
 index_of words k l None (Some n) p q = absurd (three_or_four words _ _ _ _ _ _ _ p.2 q.3)
 index_of words k l (Some m) None p q = absurd (three_or_four words _ _ _ _ _ _ _ q.2 p.3)
 index_of words k l (Some m) (Some n) p q =
-    ap Some (decimal_injective m n (omega (arith, p.2)) (omega (arith, q.2)) (fourth_word words _ _ _ _ _ _ _ _ p.3 q.3))
+    ap Some (decimal_injective m n (omega (arith, p.2)) (omega (arith, q.2))
+    (fourth_word words _ _ _ _ _ _ _ _ p.3 q.3))
 
 pub same_form : (words : List (List ℕ)) (f g : Form) → IsForm words f → IsForm words g → f ≡ g
 same_form words f g p q =

@@ -1,9 +1,8 @@
 -- What a salvage answers where the schema text stops it, and where it is that of a table.
-use Rattle.std.proofs.Common.{◌≡◌, ◌≢◌, ℕ, List, [], Option, Some, Ok, Err, IfSome, inl, inr, refl, ap, subst, arith}
+use Rattle.std.proofs.Common.{◌≡◌, ◌≢◌, ℕ, List, [], Option, Some, Ok, Err, inl, inr, refl, ap, subst, arith}
 use Rattle.page_source.specs.declared.objects.ByteSource.{Ghosts as SourceOf}
 use Rattle.page_source.specs.declared.rule.Fault.{Fault}
 use Rattle.page_source.specs.Calls.{OfFile}
-use Rattle.page_source.specs.Faults.{Rose}
 use Rattle.page_source.proofs.Told.{told0, told1}
 use Rattle.schema_text.specs.TableDef.{TableDef}
 use Rattle.schema_text.specs.Refusals.{BadLine}
@@ -14,8 +13,8 @@ use Rattle.salvage_model.specs.Causes.{Counts, counts_of}
 use Rattle.salvage_model.specs.Salvage.{Written}
 use Rattle.command_line.specs.declared.schema_file.SchemaStop.{SchemaStop}
 use Rattle.command_line.specs.declared.schema_file.SchemaStop.TheVariants.{Refused, Source, Memory}
-use Rattle.command_line.specs.Reading.{IsReadUpTo}
 use Rattle.command_line.specs.SchemaFile.{IsRefusedText, ReadsSchema}
+use Rattle.command_line.proofs.SchemaEnds.{at_told, Stopped, HasTable}
 use Rattle.command_line.proofs.OneAnswer.{HasOneAnswer, no_table, some_table, some_bad}
 use Rattle.ibd_salvage.specs.declared.forms.Form.{Form}
 use Rattle.ibd_salvage.specs.declared.objects.Objects.{Objects}
@@ -23,21 +22,6 @@ use Rattle.ibd_salvage.specs.declared.status.SalvageStatus.{SalvageStatus}
 use Rattle.ibd_salvage.specs.declared.status.SalvageStatus.TheVariants as statuses
 use Rattle.ibd_salvage.specs.Ends.{status_of_schema}
 use Rattle.ibd_salvage.specs.Run.{Meanings, IsSalvage, SavesOver, IsOfFile, EndsAs, Serves}
-
--- what holds of a told content holds where it is told
-at_told : {X : Type 0} (P : X → Type 0) (o : Option X) (x : X) → o ≡ Some x → IfSome o P → P x
-at_told {X = X} P o x is holds = subst (λ (p : Option X). IfSome p P) is holds
-
--- the schema text was refused, or couldn't be read
-pub record Stopped {Q : Type 0} (q : SourceOf Q) (schema schema_now : Q) (stop : SchemaStop) : Type 0 where
-  pub reads : IfSome (q.left schema) (λ text. ReadsSchema text (q.left schema_now) (Err stop))
-  pub read : IfSome (q.left schema) (λ text. IsReadUpTo 65537 text (q.left schema_now))
-  pub cause : stop ≡ Source → Rose (q.faults schema) (q.faults schema_now)
-
--- it was read to its end, and is that of a table
-pub record HasTable {Q : Type 0} (q : SourceOf Q) (schema schema_now : Q) (table : TableDef) : Type 0 where
-  pub reads : IfSome (q.left schema) (λ text. IsTextOf table text × (q.left schema_now ≡ Some []))
-  pub read : IfSome (q.left schema) (λ text. IsReadUpTo 65537 text (q.left schema_now))
 
 refused_as : (text : List ℕ) (left : Option (List ℕ)) (stop : SchemaStop) (line : ℕ) (why : SchemaWhy)
     → status_of_schema stop ≡ statuses.SchemaRefused line why → ReadsSchema text left (Err stop)
@@ -143,7 +127,8 @@ serves_file all g form file file_now schema schema_now out out_now err err_now s
       refused = λ line why is. absurd (subst IsOfFile is over.of_file);
       untouched = λ text left none. absurd (none table (at_told _ (g.schema.left schema) text left has.reads).0);
       alone = λ text line why left refused.
-          absurd (no_table text (all text) line why table refused (at_told _ (g.schema.left schema) text left has.reads).0);
+          absurd (no_table text (all text) line why table refused
+          (at_told _ (g.schema.left schema) text left has.reads).0);
       saves = λ text content other left tells is.
           let mine = (at_told _ (g.schema.left schema) text left has.reads).0 in
           let same : table ≡ other = some_table table other (all text (Ok table) (Ok other) mine is) in

@@ -41,12 +41,16 @@ is_source (Ok saved) statuses.SourceFault ends is = absurd ends
 is_source (Ok saved) statuses.SinkFault ends is = absurd ends
 is_source (Ok saved) statuses.Memory ends is = absurd ends
 is_source (Ok saved) statuses.RootLost ends is = absurd ends
-is_source (Err stops.Root) status ends is = absurd (let e : statuses.RootLost ≡ statuses.SourceFault = sym ends ∙ is in cc)
+is_source (Err stops.Root) status ends is = absurd
+    (let e : statuses.RootLost ≡ statuses.SourceFault = sym ends ∙ is in cc)
 is_source (Err stops.Source) status ends is = refl
-is_source (Err stops.Sink) status ends is = absurd (let e : statuses.SinkFault ≡ statuses.SourceFault = sym ends ∙ is in cc)
+is_source (Err stops.Sink) status ends is = absurd
+    (let e : statuses.SinkFault ≡ statuses.SourceFault = sym ends ∙ is in cc)
 is_source (Err stops.Losses) status ends is = absurd ends
-is_source (Err stops.Memory) status ends is = absurd (let e : statuses.Memory ≡ statuses.SourceFault = sym ends ∙ is in cc)
-is_source (Err (stops.Changed f)) status ends is = absurd (let e : statuses.Changed f ≡ statuses.SourceFault = sym ends ∙ is in cc)
+is_source (Err stops.Memory) status ends is = absurd
+    (let e : statuses.Memory ≡ statuses.SourceFault = sym ends ∙ is in cc)
+is_source (Err (stops.Changed f)) status ends is = absurd
+    (let e : statuses.Changed f ≡ statuses.SourceFault = sym ends ∙ is in cc)
 
 is_sink : (answer : Result Saved SalvageStop) (status : SalvageStatus) → Ends answer status
     → status ≡ statuses.SinkFault → answer ≡ Err stops.Sink
@@ -60,11 +64,13 @@ is_sink (Ok saved) statuses.SinkFault ends is = absurd ends
 is_sink (Ok saved) statuses.Memory ends is = absurd ends
 is_sink (Ok saved) statuses.RootLost ends is = absurd ends
 is_sink (Err stops.Root) status ends is = absurd (let e : statuses.RootLost ≡ statuses.SinkFault = sym ends ∙ is in cc)
-is_sink (Err stops.Source) status ends is = absurd (let e : statuses.SourceFault ≡ statuses.SinkFault = sym ends ∙ is in cc)
+is_sink (Err stops.Source) status ends is = absurd
+    (let e : statuses.SourceFault ≡ statuses.SinkFault = sym ends ∙ is in cc)
 is_sink (Err stops.Sink) status ends is = refl
 is_sink (Err stops.Losses) status ends is = absurd ends
 is_sink (Err stops.Memory) status ends is = absurd (let e : statuses.Memory ≡ statuses.SinkFault = sym ends ∙ is in cc)
-is_sink (Err (stops.Changed f)) status ends is = absurd (let e : statuses.Changed f ≡ statuses.SinkFault = sym ends ∙ is in cc)
+is_sink (Err (stops.Changed f)) status ends is = absurd
+    (let e : statuses.Changed f ≡ statuses.SinkFault = sym ends ∙ is in cc)
 
 -- it ended before the first byte
 is_before : (answer : Result Saved SalvageStop) (status : SalvageStatus) → Ends answer status → ComesBefore status

@@ -2,7 +2,8 @@
 use Rattle.std.specs.Prelude.{ℕ, List, [], codes}
 use Rattle.command_line.specs.Lines.{why_word, refusal_line, fault_line}
 use Rattle.ibd_salvage.specs.declared.status.SalvageStatus.{SalvageStatus}
-use Rattle.ibd_salvage.specs.declared.status.SalvageStatus.TheVariants.{Done, Usage, SchemaRefused, Changed, SourceFault}
+use Rattle.ibd_salvage.specs.declared.status.SalvageStatus.TheVariants.{Done, Usage, SchemaRefused, Changed}
+use Rattle.ibd_salvage.specs.declared.status.SalvageStatus.TheVariants.{SourceFault}
 use Rattle.ibd_salvage.specs.declared.status.SalvageStatus.TheVariants.{SinkFault, Memory, Lost, RootLost}
 
 -- what a status writes to the standard error, after what was lost: nothing where the file was gone through to its end

@@ -38,7 +38,7 @@ use Rattle.row_layout.proofs.Columns.{key_known, has_column, any_contains}
 use Rattle.row_layout.proofs.Stored.{StoresField}
 use Rattle.row_layout.proofs.Keys.{cell_of, kinds_are, rises}
 use Rattle.row_layout.proofs.Secondary.{lacking_known, key_of_index, length-entry, stores_entry}
-use Rattle.row_layout.proofs.Zips.{zip_length}
+use Rattle.tree_layout.proofs.Zips.{zip_length}
 
 then_parts : (a b : Ordering) → ordering_then a b ≡ Equal → (a ≡ Equal) × (b ≡ Equal)
 then_parts Less b is = absurd (cc)

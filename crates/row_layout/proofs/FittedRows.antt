@@ -19,7 +19,7 @@ use Rattle.schema_text.proofs.ColumnFields.{holds_column}
 use Rattle.row_layout.specs.StoredRow.{Stored, stored_at, stored_row, is_too_long}
 use Rattle.row_layout.specs.Fitting.{IsFieldOf, AreFieldsOf}
 use Rattle.row_layout.specs.HoldsValues.{AreFitted, stored_in}
-use Rattle.row_layout.proofs.Zips.{zip_length, zip_at}
+use Rattle.tree_layout.proofs.Zips.{zip_length, zip_at}
 use Rattle.row_layout.proofs.Held.{StoresValue}
 use Rattle.row_layout.proofs.Stored.{StoresKind, StoresField, stores_row, stores_column, column_stored}
 use Rattle.row_layout.proofs.Fitting.{fitted_fields}

@@ -1,5 +1,4 @@
 pub mod Ranges
-pub mod Zips
 pub mod Chains
 pub mod Lengths
 pub mod References

@@ -38,7 +38,7 @@ use Rattle.row_layout.specs.HoldsValues.{HoldsRows, stored_in, clustered_entry, 
 use Rattle.row_layout.specs.HoldsValues.{row_page_numbers}
 use Rattle.row_layout.specs.HoldsValues.{value_page_numbers}
 use Rattle.row_layout.proofs.Ranges.{flat_same}
-use Rattle.row_layout.proofs.Zips.{zip_from, zip_length, zip_at}
+use Rattle.tree_layout.proofs.Zips.{zip_from, zip_length, zip_at}
 use Rattle.row_layout.proofs.Held.{IsPlaceOf, held}
 use Rattle.row_layout.proofs.Stored.{StoresKind}
 use Rattle.row_layout.proofs.FittedRows.{are_fields, count_now, field_kept, field_stores, column_holds}

@@ -36,7 +36,7 @@ use Rattle.tree_layout.specs.DivisionLaws.{PointersAreSmall, RecordsAreSmall}
 use Rattle.row_layout.specs.StoredRow.{Stored, stored_at, stored_column, row_id, part_of_field}
 use Rattle.row_layout.specs.SecondaryEntries.{stored_reference, stored_entry, secondary_entry, row_entries}
 use Rattle.row_layout.specs.EntryLaws.{IsShort, EntriesAreShort}
-use Rattle.row_layout.proofs.Zips.{zip-append, zip_from, zip_length, zip_at}
+use Rattle.tree_layout.proofs.Zips.{zip-append, zip_from, zip_length, zip_at}
 use Rattle.row_layout.proofs.Held.{StoresValue}
 use Rattle.row_layout.proofs.Lengths.{spell_fits}
 use Rattle.row_layout.proofs.Columns.{key_known}

@@ -31,7 +31,7 @@ use Rattle.row_layout.specs.StoredRow.{Stored, stored_at, part_of_field, parts_o
 use Rattle.row_layout.specs.StoredRow.{kept_prefix, reference_to}
 use Rattle.row_layout.specs.HoldsValues.{AreFitted, stored_in, clustered_entry, clustered_entries}
 use Rattle.row_layout.specs.EntryLaws.{IsShort, RowsAreShort}
-use Rattle.row_layout.proofs.Zips.{zip_from}
+use Rattle.tree_layout.proofs.Zips.{zip_from}
 use Rattle.row_layout.proofs.Stored.{StoresKind}
 use Rattle.row_layout.proofs.Fits.{part_fits}
 use Rattle.row_layout.proofs.FittedRows.{are_fields, count_now, field_kept, field_stores, short_row}

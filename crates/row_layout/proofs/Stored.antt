@@ -29,7 +29,7 @@ use Rattle.row_layout.proofs.Columns.{placed, any_contains, has_column, is_other
 use Rattle.row_layout.proofs.Columns.{place_among, key_known}
 use Rattle.row_layout.specs.StoredRow.{Stored, stored_at, stored_value, stored_column, stored_key, stored_row, kept}
 use Rattle.row_layout.specs.StoredRow.{row_id}
-use Rattle.row_layout.proofs.Zips.{zip-append, zip_at}
+use Rattle.tree_layout.proofs.Zips.{zip-append, zip_at}
 use Rattle.row_layout.proofs.Held.{StoresValue}
 
 -- a field stores a value of its column, or as many bytes as the server's own has

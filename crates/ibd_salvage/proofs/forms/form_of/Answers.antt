@@ -12,5 +12,6 @@ pub returns : goal.returns
 returns c =
     let words = four_of c.args.words.now (kind_word c.in_ok-kind.kind) _
     (c.in_ok-get.ensures ∙ ap Some c.in_ok-kind.ensures)
-    (c.in-Some.ensures ∙ ap Some c.in_ok-decimal_id.ensures.found) (when_none _ c.get-4.result (sym c.if-is_some.false ∙ c.is_some.ensures) c.get-4.ensures) in
+    (c.in-Some.ensures ∙ ap Some c.in_ok-decimal_id.ensures.found)
+    (when_none _ c.get-4.result (sym c.if-is_some.false ∙ c.is_some.ensures) c.get-4.ensures) in
     (words.0, words.1, omega arith, words.2)
