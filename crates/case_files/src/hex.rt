@@ -32,7 +32,8 @@ pub fn bytes_of(alloc: Global, word: &str) -> Result<ByteList, LineError> {
     Ok(bytes)
 }
 
-/// Adds what stands outside of quotes, behind a text that stood between them: how often that stands, and parts in digits.
+/// Adds what stands outside of quotes, behind a text that stood between them: how often that stands, and parts in
+/// digits.
 fn push_pieces(
     alloc: Global,
     bytes: &mut ByteList,

@@ -1,5 +1,5 @@
-//! Tries the cases of the standard input, prints each line that comes out otherwise, and last how many cases passed. The
-//! README beside this folder says how lines are written.
+//! Tries the cases of the standard input, prints each line that comes out otherwise, and last how many cases passed.
+//! The README beside this folder says how lines are written.
 #![tactic(auto)]
 
 mod command;

@@ -154,7 +154,8 @@ are_characters (suc n) x y z (a ∷ bs) size closed follow whole = elim (cases_l
 -- bytes one after another, place by place
 follow_all : (x y z : ℕ) (bs : List ℕ) → ((i : ℕ) → i < length bs → FollowsAt (x ∷ y ∷ z ∷ bs) i) → Follow x y z bs
 follow_all x y z [] may = tt
-follow_all x y z (b ∷ bs) may = (may 0 (omega arith), follow_all y z b bs (λ i below. may (suc i) (omega (arith, below))))
+follow_all x y z (b ∷ bs) may =
+    (may 0 (omega arith), follow_all y z b bs (λ i below. may (suc i) (omega (arith, below))))
 
 -- a front of them
 follow_front : (x y z n : ℕ) (bs : List ℕ) → Follow x y z bs → Follow x y z (take n bs)
@@ -187,7 +188,9 @@ front_characters bytes at all ends =
     let fresh : IsClosed 0 0 0 = record { four = omega arith; three = omega arith; two = omega arith } in
     let follow = follow_front 0 0 0 at bytes (follow_all 0 0 0 bytes all) in
     elim ends [
-      | inl h ↦ are_characters (length (take at bytes)) 0 0 0 (take at bytes) (omega arith) fresh follow (whole_front 0 0 0 at bytes (omega (arith, h.0))
+      | inl h ↦ are_characters (length (take at bytes)) 0 0 0 (take at bytes) (omega arith) fresh follow
+          (whole_front 0 0 0 at bytes (omega (arith, h.0))
           (closed_before _ _ _ _ (all at h.0) h.1))
-      | inr h ↦ are_characters (length (take at bytes)) 0 0 0 (take at bytes) (omega arith) fresh follow (whole_front 0 0 0 at bytes (omega (arith, h.0)) h.1)
+      | inr h ↦ are_characters (length (take at bytes)) 0 0 0 (take at bytes) (omega arith) fresh follow
+          (whole_front 0 0 0 at bytes (omega (arith, h.0)) h.1)
     ]

@@ -1,5 +1,6 @@
 -- What a reader of a text keeps stands for the bytes that were read.
-use Rattle.std.proofs.Common.{◌≡◌, ℕ, suc, ◌+◌, ◌<◌, ◌≤◌, List, [], ◌∷◌, ◌++◌, length, take, drop, get_or, refl, sym, ap, ◌∙◌}
+use Rattle.std.proofs.Common.{◌≡◌, ℕ, suc, ◌+◌, ◌<◌, ◌≤◌, List, [], ◌∷◌, ◌++◌, length, take, drop, get_or, refl, sym}
+use Rattle.std.proofs.Common.{ap, ◌∙◌}
 use Rattle.std.proofs.Common.{subst, inl, inr, arith, append_assoc, length-append}
 use Rattle.std.specs.List.{concat}
 use Rattle.std.proofs.lemmas.List.{append-nil, take_more}
@@ -184,7 +185,8 @@ pub reads_along : (first old new : State) (byte i : ℕ) (bytes : List ℕ) → 
     → ReadsOn first new (take (i + 1) bytes)
 reads_along first old new byte i bytes step is below reads =
     let more : take i bytes ++ byte ∷ [] ≡ take (i + 1) bytes = rw is (sym (take_more bytes i 0 below)) in
-    subst (ReadsOn first new) more (reads_append first old new (take i bytes) (byte ∷ []) reads (reads_byte old new byte step))
+    subst (ReadsOn first new) more
+    (reads_append first old new (take i bytes) (byte ∷ []) reads (reads_byte old new byte step))
 
 -- a part more of it
 pub reads_part : (first old new : State) (i n : ℕ) (bytes part : List ℕ) → ReadsOn first old (take i bytes)

@@ -1,7 +1,8 @@
 //! The characters at the front of a block of bytes, by comparisons of each byte with the three before it.
 
 ghost use Rattle.std.specs.Prelude.{◌≡◌, ◌≤◌, ◌<◌, ℕ, length, count_by, slice_index, suc, IsTrue, IfSome};
-ghost use Rattle.column_values.specs.Utf8Blocks.{MayFollow, FollowsAt, AllFollow, EndsAt, HasFront, behind_zeros, is_start};
+ghost use Rattle.column_values.specs.Utf8Blocks.{MayFollow, FollowsAt, AllFollow, EndsAt, HasFront, behind_zeros};
+ghost use Rattle.column_values.specs.Utf8Blocks.{is_start};
 
 /// How many bytes of a block have three bytes of it before them.
 const WIDTH: usize = 192;

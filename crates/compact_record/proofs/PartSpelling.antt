@@ -48,9 +48,11 @@ pub record SaysPart (variable big : Bool) (fixed first second : ℕ) (part : Par
   pub taken : cond (variable && not (is_null_part part)) (cond (is_long_at variable big first part) 2 1) 0
       ≡ length (spelled_length variable big part)
   pub external : (is_long_at variable big first part && bit_of first 6) ≡ is_external_part part
-  pub local : cond (is_null_part part) 0 (cond variable (length_from (is_long_at variable big first part) first second) fixed)
+  pub local : cond (is_null_part part) 0
+      (cond variable (length_from (is_long_at variable big first part) first second) fixed)
       ≡ length (local_bytes part)
-  pub shortest : is_long_at variable big first part ≡ true → is_external_part part ≡ false → 128 ≤ length (local_bytes part)
+  pub shortest : is_long_at variable big first part ≡ true → is_external_part part ≡ false
+      → 128 ≤ length (local_bytes part)
 
 -- the bytes are those of the length, as far as it has them
 abbrev pub HasLength : Bool → Bool → Part → ℕ → ℕ → Type 0

@@ -22,7 +22,8 @@ pub flat_front : {X A : Type 0} (f : X → List A) (xs : List X) (k : ℕ)
 flat_front {X} f xs k =
     let whole : length (flat_map f (take k xs ++ drop k xs)) ≡ length (flat_map f xs) =
     ap (λ (ys : List X). length (flat_map f ys)) (take-append-drop k xs) in
-    let parts : length (flat_map f (take k xs ++ drop k xs)) ≡ length (flat_map f (take k xs) ++ flat_map f (drop k xs)) =
+    let parts : length (flat_map f (take k xs ++ drop k xs))
+    ≡ length (flat_map f (take k xs) ++ flat_map f (drop k xs)) =
     ap length (flat_map-append f (take k xs) (drop k xs)) in
     omega (arith, whole, parts, length-append (flat_map f (take k xs)) (flat_map f (drop k xs)))
 

@@ -122,7 +122,8 @@ length-pairs fields parts fit =
 
 -- the length of part i as the record has it
 abbrev length_here : Fields → List Part → ℕ → List ℕ
-length_here fields parts i = spelled_length (is_variable (field_at fields i).kind) (is_big (field_at fields i).kind) (part_at parts i)
+length_here fields parts i =
+    spelled_length (is_variable (field_at fields i).kind) (is_big (field_at fields i).kind) (part_at parts i)
 
 length_here_is : (fields : Fields) (parts : List Part) (i : ℕ) → FitFields fields parts → i < length fields.fields
     → length_of_part (get_or (pairs fields parts) i no_pair) ≡ length_here fields parts i

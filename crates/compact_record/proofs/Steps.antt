@@ -1,6 +1,7 @@
 -- The running pointers of a record's fields, one field on.
 use Rattle.std.proofs.Common.{◌≡◌, ℕ, ◌+◌, ◌/◌, ◌<◌, ◌≤◌, Bool, true, false, cond, ◌&&◌, List, ◌++◌, length, get_or}
-use Rattle.std.proofs.Common.{map, All, take, drop, sum_by, set, subst, get_or-set_same, get_or-set_other, refl, sym, ap}
+use Rattle.std.proofs.Common.{map, All, take, drop, sum_by, set, subst, get_or-set_same, get_or-set_other, refl, sym}
+use Rattle.std.proofs.Common.{ap}
 use Rattle.std.proofs.Common.{◌∙◌, arith, add-one, inl, inr}
 use Rattle.std.specs.List.{range_with_len}
 use Rattle.std.proofs.lemmas.Bool.{cases_eq, false≢true}

@@ -109,7 +109,8 @@ nulls_step fields parts j below =
     (get_or-map-range_with_len (null_byte fields parts) 0 (null_bytes fields) j j 0 below (omega arith))
 
 pub nulls_none : (fields : Fields) (parts : List Part) (j : ℕ) → null_bytes fields ≤ j → nulls_from fields parts j ≡ []
-nulls_none fields parts j past = drop_all j (all_null_bytes fields parts) (omega (arith, length-all_null_bytes fields parts))
+nulls_none fields parts j past =
+    drop_all j (all_null_bytes fields parts) (omega (arith, length-all_null_bytes fields parts))
 
 pub reverse-one : (x : ℕ) (xs : List ℕ) → reverse (x ∷ xs) ≡ reverse xs ++ x ∷ []
 reverse-one x xs = reverse-append (x ∷ []) xs
@@ -177,7 +178,8 @@ pub byte_here : (bits : List Bool) (bit : Bool) (j : ℕ) → length bits / 8 �
 byte_here bits bit j here =
     let rest : List Bool = drop (8 * j) bits in
     let size : length rest ≡ length bits % 8 = omega (arith, length-drop (8 * j) bits) in
-    let cut : drop (8 * j) (bits ++ bit ∷ []) ≡ rest ++ bit ∷ [] = drop-append-le (8 * j) bits (bit ∷ []) (omega arith) in
+    let cut : drop (8 * j) (bits ++ bit ∷ []) ≡ rest ++ bit ∷ [] =
+    drop-append-le (8 * j) bits (bit ∷ []) (omega arith) in
     let all : take 8 (rest ++ bit ∷ []) ≡ rest ++ bit ∷ [] =
     take_all 8 (rest ++ bit ∷ []) (omega (arith, length-append rest (bit ∷ []))) in
     let old : take 8 rest ≡ rest = take_all 8 rest (omega arith) in
@@ -216,7 +218,8 @@ pub lengths_put : (fields : Fields) (parts : List Part) (page before now : List 
     → at + length (all_lengths fields parts) ≤ length page
     → before ≡ with_bytes page at (reverse (lengths_from fields parts (count - k)))
     → end ≡ at + length (lengths_from fields parts (count - k))
-    → now ≡ with_bytes before end (reverse (length_of_part (field_at fields (count - 1 - k), part_at parts (count - 1 - k))))
+    → now ≡ with_bytes before end
+    (reverse (length_of_part (field_at fields (count - 1 - k), part_at parts (count - 1 - k))))
     → now ≡ with_bytes page at (reverse (lengths_from fields parts (count - (k + 1))))
 lengths_put fields parts page before now at end k count fit counted below inside written ends step =
     let i : ℕ = count - 1 - k in
@@ -231,7 +234,8 @@ lengths_put fields parts page before now at end k count fit counted below inside
     ap (λ (xs : List ℕ). reverse xs) more ∙ reverse-append piece old in
     let within = lengths_within fields parts (count - k) in
     let size = length-reverse old in
-    written_more page before now (reverse old) (reverse piece) (reverse (lengths_from fields parts (count - (k + 1)))) at end
+    written_more page before now (reverse old) (reverse piece)
+    (reverse (lengths_from fields parts (count - (k + 1)))) at end
     written (omega arith) step turned (omega arith)
 
 pub lengths_end : (fields : Fields) (parts : List Part) (at end k count : ℕ)
@@ -293,7 +297,8 @@ nulls_put fields parts page before now at k count byte counted below inside writ
     ∙ ap (λ (b : ℕ). b ∷ old) (sym is) in
     let turned : reverse (nulls_from fields parts (count - (k + 1))) ≡ reverse old ++ byte ∷ [] =
     ap (λ (xs : List ℕ). reverse xs) more ∙ reverse-one byte old in
-    written_more page before now (reverse old) (byte ∷ []) (reverse (nulls_from fields parts (count - (k + 1)))) at (at + k)
+    written_more page before now (reverse old) (byte ∷ [])
+    (reverse (nulls_from fields parts (count - (k + 1)))) at (at + k)
     written (omega arith) step turned (omega arith)
 
 pub nulls_start : (fields : Fields) (parts : List Part) (page : List ℕ) (at count : ℕ) → count ≡ null_bytes fields
@@ -375,7 +380,8 @@ pub record_put : (fields : Fields) (parts : List Part) (page first second third 
     → at + size_of_record fields parts ≤ length page
     → first ≡ with_bytes page at (reverse (all_lengths fields parts))
     → second ≡ with_bytes first (at + length (all_lengths fields parts)) (reverse (all_null_bytes fields parts))
-    → third ≡ with_bytes second (at + length (all_lengths fields parts) + null_bytes fields) (header_bytes heap kind minimum)
+    → third ≡ with_bytes second (at + length (all_lengths fields parts) + null_bytes fields)
+    (header_bytes heap kind minimum)
     → now ≡ with_bytes third (at + length (all_lengths fields parts) + null_bytes fields + 5) (value_bytes parts)
     → now ≡ with_bytes page at (record_bytes fields parts heap kind minimum)
 record_put fields parts page first second third now at heap kind minimum inside e1 e2 e3 e4 =
@@ -393,7 +399,8 @@ record_put fields parts page first second third now at heap kind minimum inside 
     (omega arith) in
     let ab = length-append a b in
     let three : third ≡ with_bytes page at (a ++ b ++ h) =
-    written_more page second third (a ++ b) h (a ++ b ++ h) at (at + length (all_lengths fields parts) + null_bytes fields)
+    written_more page second third (a ++ b) h
+    (a ++ b ++ h) at (at + length (all_lengths fields parts) + null_bytes fields)
     two (omega arith) e3 refl (omega arith) in
     let abh = length-append (a ++ b) h in
     written_more page third now (a ++ b ++ h) (value_bytes parts) (record_bytes fields parts heap kind minimum) at

@@ -108,7 +108,8 @@ fn length_at(page: &Page, long: bool, at: usize) -> usize
     }
 }
 
-/// Reads field `i`, where `nulls` nullable fields stand before it, and their lengths take `taken` bytes, from `top` down.
+/// Reads field `i`, where `nulls` nullable fields stand before it, and their lengths take `taken` bytes, from `top`
+/// down.
 #[tactic(auto, unfolding(crate::specs::Reading::is_external, crate::specs::Reading::local_length))]
 pub(crate) fn read_field(
     page: &Page,

@@ -18,8 +18,8 @@ use std::sync::ledger::Ledger;
 use table_salvage::salvage_regardless;
 
 /// Saves what the words ask for, and answers how it ended. The words are those of the command line without the
-/// program's name; `file` and `schema` are read, `out` and `err` written: the lines of the records to `out`, and what is
-/// lost to `err` as it is met, and then the line of the status. A failure of `err` ends nothing.
+/// program's name; `file` and `schema` are read, `out` and `err` written: the lines of the records to `out`, and what
+/// is lost to `err` as it is met, and then the line of the status. A failure of `err` ends nothing.
 pub fn run_salvage<F: PageSource, Q: ByteSource, O: ByteSink, E: ByteSink, L: Ledger>(
     alloc: Global,
     words: &Words,

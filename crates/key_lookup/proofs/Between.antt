@@ -185,7 +185,8 @@ kids_between index level leftmost (p ∷ q ∷ qs) low high s a =
       leftmost = leftmost;
     } in
     let rest = bounds index false (q ∷ qs) high in
-    let here = All-head (λ (b : Bounded). All (IsBetween index b.low b.high) (rows_below index level b.page)) b rest a in
+    let here = All-head (λ (b : Bounded). All (IsBetween index b.low b.high)
+    (rows_below index level b.page)) b rest a in
     let behind = All-tail (λ (b : Bounded). All (IsBetween index b.low b.high) (rows_below index level b.page)) b rest a
     in
     let f = All-head (λ p. IsFrom kinds low (key_in index p)) p (q ∷ qs) s.from in

@@ -41,7 +41,8 @@ framed : (file : List ℕ) (flags segment kind n : ℕ) → IsSoundSpace file fl
     → Framed file n
 framed file flags segment kind n sound is = sound.frames.framed n (used_is file segment n is.used)
 
-node_of : (index : Index) (level : ℕ) (root : Bool) (b : Bounded) → IsTree index level root b → IsNode index level root b
+node_of : (index : Index) (level : ℕ) (root : Bool) (b : Bounded) → IsTree index level root b
+    → IsNode index level root b
 node_of index zero root b tree = tree
 node_of index (suc level) root b tree = tree.0
 
@@ -115,7 +116,8 @@ unseen_less taken less list n h e = by_flag (taken n) refl e
 module _ (file : List ℕ) (flags segment leaf : ℕ) (sound : IsSoundSpace file flags) where
   -- a page of a chain passes here where it passes there
   part_check : (holder : ℕ) (reference : Reference) (taken less : ℕ → Bool) (before : List ℕ) (n : ℕ)
-      → (taken n ≡ false → less n ≡ false) → PartCheck file (AuditedPlace file segment) holder reference taken before n None
+      → (taken n ≡ false → less n ≡ false)
+      → PartCheck file (AuditedPlace file segment) holder reference taken before n None
       → PartCheck file (UnauditedPlace file) holder reference less before n None
   part_check holder reference taken less before n h c = (
     (

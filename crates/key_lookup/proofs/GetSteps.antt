@@ -53,7 +53,8 @@ stopped o file table key stops.Source sink x = ((λ line found. grew_by_none (o.
 stopped o file table key stops.Memory sink x = tt
 
 -- the stated size lies within the file
-pub sized : (file : List ℕ) (table : TableDef) (key : Key) → GetFirst file table key None → size_of file ≤ page_count file
+pub sized : (file : List ℕ) (table : TableDef) (key : Key) → GetFirst file table key None
+    → size_of file ≤ page_count file
 unfolding GetFirst HeaderChecks
 sized file table key good = good.0.1.1.1.1.1.0.within
 
@@ -193,12 +194,14 @@ write_sink (writes.Broken fault) e = absurd (cc)
 write_sink writes.Source e = absurd (cc)
 write_sink writes.Sink e = refl
 
-write_absent : (end : WriteStop) → ◌≡◌ {A = Result (Unit {0}) GetStop} (Err (get_stop_of_write end)) (Err gets.Absent) → ⊥
+write_absent : (end : WriteStop) → ◌≡◌ {A = Result (Unit {0}) GetStop} (Err (get_stop_of_write end)) (Err gets.Absent)
+    → ⊥
 write_absent (writes.Broken fault) e = cc
 write_absent writes.Source e = cc
 write_absent writes.Sink e = cc
 
-write_memory : (end : WriteStop) → ◌≡◌ {A = Result (Unit {0}) GetStop} (Err (get_stop_of_write end)) (Err gets.Memory) → ⊥
+write_memory : (end : WriteStop) → ◌≡◌ {A = Result (Unit {0}) GetStop} (Err (get_stop_of_write end)) (Err gets.Memory)
+    → ⊥
 write_memory (writes.Broken fault) e = cc
 write_memory writes.Source e = cc
 write_memory writes.Sink e = cc

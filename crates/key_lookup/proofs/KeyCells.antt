@@ -1,5 +1,6 @@
 -- The fields of a key, from its values.
-use Rattle.std.proofs.Common.{◌≡◌, ℕ, zero, suc, ◌+◌, ◌<◌, ◌≤◌, Bool, true, false, List, [], ◌∷◌, ◌++◌, length, take, map, get_or}
+use Rattle.std.proofs.Common.{◌≡◌, ℕ, zero, suc, ◌+◌, ◌<◌, ◌≤◌, Bool, true, false, List, [], ◌∷◌, ◌++◌, length, take}
+use Rattle.std.proofs.Common.{map, get_or}
 use Rattle.std.proofs.Common.{Option, Some, refl, sym, ap, ◌∙◌, subst, cond, eqb, arith}
 use Rattle.std.specs.Prelude.{All, slice_get, slice_index_or, filter_map, zip}
 use Rattle.std.specs.List.{AllZip, cons_option}
@@ -44,7 +45,8 @@ places_count (c ∷ columns) (i ∷ places) within =
     ∙ ap suc (places_count (c ∷ columns) places (All-tail (IsPlace (c ∷ columns)) i places within))
 
 pub places_at : (columns : List Column) (places : List ℕ) (k : ℕ) (d : Column) → All (IsPlace columns) places
-    → k < length places → slice_get (filter_map (slice_get columns) places) k ≡ Some (get_or columns (get_or places k 0) d)
+    → k < length places → slice_get (filter_map (slice_get columns) places) k
+    ≡ Some (get_or columns (get_or places k 0) d)
 places_at columns [] k d within lt = absurd (omega (arith, lt))
 places_at columns (i ∷ places) zero d within lt =
     ap (λ (cs : List Column). slice_get cs 0) (places_step columns i places d within)

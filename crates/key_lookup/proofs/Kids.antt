@@ -1,6 +1,7 @@
 -- The child of a page that the way goes on to, by the number of its node pointer.
 use Rattle.std.proofs.Common.{◌≡◌, ◌⊎◌, ℕ, zero, suc, ◌+◌, ◌-◌, ◌==◌, ◌<◌, Bool, true, false, not, cond, ◌&&◌, List, []}
-use Rattle.std.proofs.Common.{◌∷◌, length, get_or, drop, filter, Option, Some, None, inl, inr, refl, ap, ◌∙◌, subst, arith}
+use Rattle.std.proofs.Common.{◌∷◌, length, get_or, drop, filter, Option, Some, None, inl, inr, refl, ap, ◌∙◌, subst}
+use Rattle.std.proofs.Common.{arith}
 use Rattle.std.proofs.Common.{add-one}
 use Rattle.std.proofs.Math.Seq.{drop-cons}
 use Rattle.std.proofs.lemmas.Bool.{cases_lt, ne_eqb, lt-ltb, le-ltb}
@@ -32,10 +33,12 @@ filter_last : {X : Type 0} (p : X → Bool) (xs : List X) (k : ℕ) (d e : X) �
     → ((j : ℕ) → k < j → j < length xs → p (get_or xs j d) ≡ false) → last_or (filter p xs) e ≡ get_or xs k d
 filter_last p [] k d e within up later = absurd (omega arith)
 filter_last p (x ∷ xs) zero d e within up later =
-    let none = filter_none p xs (λ j c m. ap p (get_or_default xs j c d m) ∙ later (suc j) (omega arith) (omega arith)) in
+    let none = filter_none p xs
+    (λ j c m. ap p (get_or_default xs j c d m) ∙ later (suc j) (omega arith) (omega arith)) in
     rw (up, none) refl
 filter_last p (x ∷ xs) (suc k) d e within up later =
-    let rest = λ (f : _). filter_last p xs k d f (omega arith) up (λ j less m. later (suc j) (omega arith) (omega arith))
+    let rest = λ (f : _). filter_last p xs k d f (omega arith) up
+    (λ j less m. later (suc j) (omega arith) (omega arith))
     in
     by_test p x xs e (p x) refl (rest x) (rest e)
   where
@@ -176,7 +179,13 @@ module _ (index : Index) (key : Key) (b : Bounded) (chosen : Chosen)
       (λ j less m. up_at j true (omega arith) (omega (arith, rows_count))
       (last.last j less (omega (arith, rows_count))))
       ∙ bounds_at index b.leftmost rows b.high chosen.k b (omega (arith, rows_count))
-      ∙ (rw (page_is chosen.k within, key_is chosen.k within, high_is b.high, left_is b.leftmost chosen.k, ← last.origin)
+      ∙ (rw (
+        page_is chosen.k within,
+        key_is chosen.k within,
+        high_is b.high,
+        left_is b.leftmost chosen.k,
+        ← last.origin,
+      )
       refl)
 
 -- the page below is the one at the next depth

@@ -24,7 +24,8 @@ module _ (index : Index) (key : Key) (n origin at : ℕ) (page : List ℕ) (mark
   row_checks : (v : Option Fault) → FoundRecordChecks index.file n page at index.leaf (is_set marks) v
       → FoundRowChecks index (found_row index key) v
   row_checks v x =
-      let one = subst (λ (taken : ℕ → Bool). FoundRecordChecks index.file n page at index.leaf taken v) (fun_ext fresh) x
+      let one = subst (λ (taken : ℕ → Bool). FoundRecordChecks index.file n page at index.leaf taken v)
+      (fun_ext fresh) x
       in
       let two = subst (λ (o : ℕ). FoundRecordChecks index.file n page o index.leaf (λ m. false) v) stands one in
       let three = subst (λ (q : List ℕ). FoundRecordChecks index.file n q origin index.leaf (λ m. false) v) held two in

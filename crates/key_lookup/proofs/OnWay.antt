@@ -40,7 +40,8 @@ module _ (walk : Walk) (leaf node : Fields) (due : Due) (held : IsHeldNode walk 
 
   pub facts_above : 0 < due.stand.level → PageFacts walk.child node
   facts_above some =
-      let e : (if due.stand.level == 0 then leaf else node) ≡ node = rw (ne_eqb due.stand.level 0 (λ q. omega arith)) refl
+      let e : (if due.stand.level == 0 then leaf else node) ≡ node =
+      rw (ne_eqb due.stand.level 0 (λ q. omega arith)) refl
       in
       subst (PageFacts walk.child) e facts
 

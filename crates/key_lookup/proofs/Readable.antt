@@ -89,10 +89,12 @@ module _ (file : List ℕ) (size : size_of file ≤ page_count file) (leaf : ℕ
       → ValueChecksBy file (UnauditedPlace file) leaf kind (bytes_at page place) place.external taken None) where
     away : (e : place.external ≡ true) → place.null ≡ false
         → ValueChecksBy file (UnauditedPlace file) leaf kind (bytes_at page place) true taken None
-    away e some = subst (λ (x : Bool). ValueChecksBy file (UnauditedPlace file) leaf kind (bytes_at page place) x taken None) e (checks some)
+    away e some = subst (λ (x : Bool). ValueChecksBy file (UnauditedPlace file) leaf kind
+        (bytes_at page place) x taken None) e (checks some)
 
     here : (e : place.external ≡ false) → place.null ≡ false → IsSpelling kind (bytes_at page place)
-    here e some = subst (λ (x : Bool). ValueChecksBy file (UnauditedPlace file) leaf kind (bytes_at page place) x taken None) e (checks some)
+    here e some = subst (λ (x : Bool). ValueChecksBy file (UnauditedPlace file) leaf kind
+        (bytes_at page place) x taken None) e (checks some)
 
     -- what is found there can be read
     pub reads : (value : Value) → HasFoundValue file kind page place value
@@ -161,7 +163,8 @@ module _ (file : List ℕ) (size : size_of file ≤ page_count file) (table : Ta
   unfolding RecordChecksBy
   column_checks c within =
       let holds = holds_column table c is within in
-      subst (λ (k : FieldType). FieldChecksBy file (UnauditedPlace file) leaf k page (place c) (before c) None) holds.kind
+      subst (λ (k : FieldType). FieldChecksBy file (UnauditedPlace file) leaf k page (place c)
+      (before c) None) holds.kind
       (checks (field_of_column table c) holds.inside)
 
   column_long : (c : ℕ) → c < length table.columns → (place c).external ≡ true

@@ -32,12 +32,14 @@ one_row index rows a b pairs at_a at_b equal =
     let same_b : get_or rows at_b.0 a ≡ b = get_or_default rows at_b.0 a b at_b.1 ∙ at_b.2 in
     elim (cases_lt at_a.0 at_b.0) [
       | inl less ↦
-          let below : IsBelow kinds (row_key index a) (row_key index b) = rw same_b at (rw at_a.2 at (pairs at_a.0 at_b.0 a less at_b.1)) in
+          let below : IsBelow kinds (row_key index a) (row_key index b) =
+          rw same_b at (rw at_a.2 at (pairs at_a.0 at_b.0 a less at_b.1)) in
           absurd (is_strict kinds (row_key index b)
           ((agrees kinds).after (row_key index a) (row_key index b) (row_key index b) equal below))
       | inr rest ↦ elim (cases_lt at_b.0 at_a.0) [
         | inl less ↦
-            let below : IsBelow kinds (row_key index b) (row_key index a) = rw same_b at (rw at_a.2 at (pairs at_b.0 at_a.0 a less at_a.1)) in
+            let below : IsBelow kinds (row_key index b) (row_key index a) =
+            rw same_b at (rw at_a.2 at (pairs at_b.0 at_a.0 a less at_a.1)) in
             absurd (is_strict kinds (row_key index a)
             ((agrees kinds).after (row_key index b) (row_key index a) (row_key index a)
             (symmetric kinds (row_key index a) (row_key index b) equal) below))
@@ -66,7 +68,8 @@ module _ (law : KeysRiseThroughout) (index : Index) (one : HasOneKind index) (tr
   where
     -- what stands on the leaf with the key
     on_leaf : (row : Row) → Contains (filter (is_live_row index) (records_with index key (leaf_for index key))) row
-        → Contains (rows_on index (leaf_for index key)) row × (has_key index key row ≡ true) × (is_live_row index row ≡ true)
+        → Contains (rows_on index (leaf_for index key)) row × (has_key index key row ≡ true)
+        × (is_live_row index row ≡ true)
     unfolding records_with
     on_leaf row c =
         let live = filter_contains (is_live_row index) (records_with index key (leaf_for index key)) row c in

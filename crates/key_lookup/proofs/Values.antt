@@ -71,7 +71,8 @@ module _ (one : HasOneChain) (file : List ℕ) (size : size_of file ≤ 4194304)
 
   -- the rows are the same
   pub same_row : (table : TableDef) (row : Row) (row_values : List Value) → IsTable table
-      → IsSoundRow (clustered_tree file table) row → IsFoundRow file table row row_values ↔ IsRow file table row row_values
+      → IsSoundRow (clustered_tree file table) row
+      → IsFoundRow file table row row_values ↔ IsRow file table row row_values
   same_row table row row_values is sound =
       let index = clustered_tree file table in
       let same : (c : ℕ) → c < length table.columns → HasFoundValue file (column_at table c).kind

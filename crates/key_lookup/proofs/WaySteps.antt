@@ -1,5 +1,6 @@
 -- The checks of the page that is due, one after another.
-use Rattle.std.proofs.Common.{◌≡◌, ℕ, ◌+◌, ◌-◌, ◌==◌, ◌<◌, ◌≤◌, true, List, Option, Some, None, inl, inr, ap, ◌∙◌, subst}
+use Rattle.std.proofs.Common.{◌≡◌, ℕ, ◌+◌, ◌-◌, ◌==◌, ◌<◌, ◌≤◌, true, List, Option, Some, None, inl, inr, ap, ◌∙◌}
+use Rattle.std.proofs.Common.{subst}
 use Rattle.std.proofs.Common.{arith}
 use Rattle.std.proofs.lemmas.Bool.{cases_lt}
 use Rattle.page_source.specs.declared.rule.Fault.{Fault}
@@ -46,7 +47,8 @@ module _ (index : Index) (key : Key) (depth : ℕ) (walk : Walk) (due : Due) (is
       → PageInHand (page_in index (way index key depth).page) (fields_on index level)
       (spot_on level (depth == 0) (way index key depth)) (index_id index) v
   in_hand v page fields p f y =
-      let held = subst (λ (page : List ℕ). PageInHand page fields (spot_due walk index.node due) due.stand.index_id v) p y
+      let held = subst (λ (page : List ℕ). PageInHand page fields
+      (spot_due walk index.node due) due.stand.index_id v) p y
       in
       let x = subst (λ (f : Fields). PageInHand (page_in index due.stand.page) f (spot_due walk index.node due)
       due.stand.index_id v) f held in

@@ -7,7 +7,8 @@ use Rattle.std.specs.declared.cmp.Ordering.TheVariants.{Less, Equal, Greater}
 use Rattle.std.specs.Ordering.{ordering_reverse}
 use Rattle.std.proofs.lemmas.Bool.{false≢true, true≢false, cases_lt, ne_eqb}
 use Rattle.std.proofs.lemmas.List.{append-nil, length-map}
-use Rattle.std.proofs.lemmas.List.Elements.{All-head, All-tail, All-contains, Contains-append_cases, Contains-get_or, All-cons, All-nil}
+use Rattle.std.proofs.lemmas.List.Elements.{All-head, All-tail, All-contains, Contains-append_cases, Contains-get_or}
+use Rattle.std.proofs.lemmas.List.Elements.{All-cons, All-nil}
 use Rattle.column_values.specs.Order.{Key, key_cmp, IsBelow, AreEqualKeys}
 use Rattle.column_values.proofs.KeyOrder.{key_total, agrees, symmetric, is_strict, is_transitive}
 use Rattle.compact_record.specs.Reading.{key_kinds}
@@ -21,7 +22,8 @@ use Rattle.tree_walk.specs.Laws.{row_key}
 use Rattle.tree_walk.proofs.Descents.{children_down}
 use Rattle.key_lookup.specs.Path.{is_up_to, pages_up_to, page_for, next_down, way}
 use Rattle.key_lookup.proofs.Lists.{contains_flat_map, filter_none, last_or, last_cons}
-use Rattle.key_lookup.proofs.Between.{IsFrom, IsUnder, IsBetween, Fits, kids_fit, AreBetween, Spans, kids_between, PairsBehind, HasOneKind}
+use Rattle.key_lookup.proofs.Between.{IsFrom, IsUnder, IsBetween, Fits, kids_fit, AreBetween, Spans, kids_between}
+use Rattle.key_lookup.proofs.Between.{PairsBehind, HasOneKind}
 use Rattle.key_lookup.proofs.Between.{spans, between, rises}
 
 -- one of the pages is chosen, if there is one
@@ -139,7 +141,8 @@ module _ (index : Index) (one : HasOneKind index) (key : Key) where
         let rest = bounds index false qs high in
         let here = All-head (λ (b : Bounded). All (IsBetween index b.low b.high) (rows_below index level b.page)) first
         (second ∷ rest) a in
-        let behind = All-tail (λ (b : Bounded). All (IsBetween index b.low b.high) (rows_below index level b.page)) first
+        let behind = All-tail
+        (λ (b : Bounded). All (IsBetween index b.low b.high) (rows_below index level b.page)) first
         (second ∷ rest) a in
         let more : Spans index false (q ∷ qs) low high = record {
           fit = λ e. absurd (false≢true e);
@@ -193,7 +196,8 @@ module _ (law : KeysRiseThroughout) (index : Index) (one : HasOneKind index) (tr
         let count = kids_count index b.leftmost (rows_on index b.page) b.high in
         elim (cases_lt 0 (length (records_of page))) [
           | inl m ↦ omega arith
-          | inr m ↦ absurd (true≢false (sym (node.page.some_record (omega arith)).0 ∙ ne_eqb (suc l) 0 (λ e. omega arith)))
+          | inr m ↦ absurd (true≢false
+              (sym (node.page.some_record (omega arith)).0 ∙ ne_eqb (suc l) 0 (λ e. omega arith)))
         ]
 
     -- the page at a depth of the way has a tree below it

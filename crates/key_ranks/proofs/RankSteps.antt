@@ -64,7 +64,8 @@ pub rows_in_order : (table : KeyTable) (before after order : List ℕ) (count : 
 rows_in_order table before after order count rows places rise is =
     rw is
     (record {
-      places = subst (λ (list : List ℕ). IsPermutation list (map row after)) rows (IsPermutation-map row before after places);
+      places = subst (λ (list : List ℕ). IsPermutation list (map row after)) rows
+          (IsPermutation-map row before after places);
       sorted = sorted;
     })
   where

@@ -140,8 +140,8 @@ fn ranks_of<K: RowKeys>(
     Ok(Some(ranks))
 }
 
-/// The order of two ranks by their fronts, and then by the whole keys. Nothing is said of it, since `are_in_order` tests
-/// what comes of the sort by it.
+/// The order of two ranks by their fronts, and then by the whole keys. Nothing is said of it, since `are_in_order`
+/// tests what comes of the sort by it.
 fn compare_ranks<K: RowKeys>(keys: &K, a: usize, b: usize) -> Ordering {
     match (a / ROWS).cmp(&(b / ROWS)) {
         Ordering::Less => Ordering::Less,
@@ -182,8 +182,8 @@ fn are_in_order<K: RowKeys>(keys: &K, kind: &FieldType, begin: &[u8], ranks: &[u
     true
 }
 
-/// Sorts the ranks, and answers whether the keys of their rows don't fall then. Rows with equal fronts stay in their own
-/// order if that is right; otherwise they are sorted by their keys.
+/// Sorts the ranks, and answers whether the keys of their rows don't fall then. Rows with equal fronts stay in their
+/// own order if that is right; otherwise they are sorted by their keys.
 fn sort<K: RowKeys>(keys: &K, kind: &FieldType, begin: &[u8], ranks: &mut Vec<usize>) -> bool
     requires kind { (d : FieldType) → 0 < length (K.table keys.now).kinds
         → kind.now ≡ slice_index_or (K.table keys.now).kinds 0 d }

@@ -118,7 +118,8 @@ at_place : (w : Walk) (marks : List Bool) (old text : Reader) (due : Due) (count
     → (d : ℕ) → Checks w (take (length a.before) (all_pages w)) (get_or (all_pages w) (length a.before) d) v
 at_place w marks old text due count v a some check d =
     let here = from_here w.file a.fuel due.page due.left some a.enough in
-    let rest = pages_from w.file here.0 (next_part (page_of w.file due.page)) (due.left - part_length (page_of w.file due.page)) in
+    let rest = pages_from w.file here.0 (next_part (page_of w.file due.page))
+    (due.left - part_length (page_of w.file due.page)) in
     let split : all_pages w ≡ a.before ++ due.page ∷ rest = a.split ∙ ap (λ (t : List ℕ). a.before ++ t) here.2 in
     let front : take (length a.before) (all_pages w) ≡ a.before = ap (take (length a.before)) split
     ∙ take-append_seam a.before (due.page ∷ rest) in
@@ -126,7 +127,8 @@ at_place w marks old text due count v a some check d =
     (length a.before) d ≡ due.page = ap (λ (t : List ℕ). get_or t (length a.before) d) split
     ∙ get_or-append_seam a.before due.page rest d in
     let lacks : due.left ≡ w.chain.reference.now.length - total_on w.file a.before = omega (arith, a.total) in
-    let one = subst (λ (h : ℕ). PageCheck w.file (place w) h (is_set marks due.page) due.left due.page v) a.holder_is check in
+    let one = subst (λ (h : ℕ). PageCheck w.file (place w) h (is_set marks due.page) due.left due.page v)
+    a.holder_is check in
     let two = subst (λ (t : Bool). PageCheck w.file (place w) (before_place w.chain.holder a.before
     (length a.before)) t due.left due.page v) (a.marked due.page) one in
     let three = subst (λ (l : ℕ). PageCheck w.file (place w) (before_place w.chain.holder a.before (length a.before))
@@ -137,7 +139,8 @@ within : (w : Walk) (marks : List Bool) (old text : Reader) (due : Due) (count :
     → (a : IsAlong w marks old text due count) → 0 < due.left → length a.before < length (all_pages w)
 within w marks old text due count a some =
     let here = from_here w.file a.fuel due.page due.left some a.enough in
-    let rest = pages_from w.file here.0 (next_part (page_of w.file due.page)) (due.left - part_length (page_of w.file due.page)) in
+    let rest = pages_from w.file here.0 (next_part (page_of w.file due.page))
+    (due.left - part_length (page_of w.file due.page)) in
     let split : all_pages w ≡ a.before ++ due.page ∷ rest = a.split ∙ ap (λ (t : List ℕ). a.before ++ t) here.2 in
     omega (arith, ap length split, length-append a.before (due.page ∷ rest))
 
@@ -178,9 +181,11 @@ pub along_more : (w : Walk) (marks now : List Bool) (old text next : Reader) (du
 along_more w marks now old text next due count size page a some check is length_is part more feeds =
     let here = from_here w.file a.fuel due.page due.left some a.enough in
     let size_is : size ≡ part_length (page_of w.file due.page) = length_is ∙ ap part_length is in
-    let rest = pages_from w.file here.0 (next_part (page_of w.file due.page)) (due.left - part_length (page_of w.file due.page)) in
+    let rest = pages_from w.file here.0 (next_part (page_of w.file due.page))
+    (due.left - part_length (page_of w.file due.page)) in
     let split : all_pages w ≡ a.before ++ due.page ∷ rest = a.split ∙ ap (λ (t : List ℕ). a.before ++ t) here.2 in
-    let longer : length (a.before ++ due.page ∷ []) ≡ suc (length a.before) = omega (arith, length-append a.before (due.page ∷ [])) in
+    let longer : length (a.before ++ due.page ∷ []) ≡ suc (length a.before) =
+    omega (arith, length-append a.before (due.page ∷ [])) in
     let same : pages_from w.file here.0 (next_part page) (due.left - size) ≡ rest =
     ap (λ (p : List ℕ). pages_from w.file here.0 (next_part p) (due.left - size)) is
     ∙ ap (pages_from w.file here.0 (next_part (page_of w.file due.page))) (ap (λ (k : ℕ). due.left - k) size_is) in

@@ -5,7 +5,8 @@ use Rattle.std.proofs.lemmas.List.{same_lists, get_or-append-add, get_or_default
 use Rattle.std.proofs.lemmas.List.Edits.{get_or-between, length-between}
 use Rattle.byteorder.specs.Numbers.{length-bytes_high_first}
 use Rattle.page_source.specs.Pages.{num, be_bytes, with_bytes, page_size}
-use Rattle.page_source.proofs.Written.{length-with_bytes, get_or-with_bytes_at, get_or-with_bytes_before, num_from_bytes}
+use Rattle.page_source.proofs.Written.{length-with_bytes, get_or-with_bytes_at, get_or-with_bytes_before}
+use Rattle.page_source.proofs.Written.{num_from_bytes}
 use Rattle.column_values.proofs.Bytes.{num-be_bytes}
 use Rattle.fil_frame.specs.declared.frame.SumKind.TheVariants.{Crc32}
 use Rattle.fil_frame.specs.Kinds.{blob_kind}

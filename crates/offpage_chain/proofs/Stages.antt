@@ -11,7 +11,8 @@ use Rattle.offpage_chain.specs.Chain.{chain_pages, bytes_on, RefersHere}
 use Rattle.offpage_chain.specs.ChainChecks.{PlaceChecks, ChainChecksBy, PartCheck}
 
 -- no byte is stated
-pub chain_empty : (file : List ℕ) (Ask : PlaceChecks) (holder : ℕ) (reference : Reference) (taken : ℕ → Bool) (IsText : List ℕ
+pub chain_empty : (file : List ℕ) (Ask : PlaceChecks) (holder : ℕ) (reference : Reference) (taken : ℕ → Bool)
+    (IsText : List ℕ
     → Type 0)
     → reference.length ≡ 0
     → ChainChecksBy file Ask holder reference taken IsText (Some (record { rule = ChainLength; page = holder }))
@@ -27,7 +28,8 @@ unfolding ChainChecksBy
 chain_elsewhere file Ask holder reference taken IsText some elsewhere = inr (some, inl (elsewhere, refl))
 
 -- a page breaks
-pub chain_halts : (file : List ℕ) (Ask : PlaceChecks) (holder : ℕ) (reference : Reference) (taken : ℕ → Bool) (IsText : List ℕ
+pub chain_halts : (file : List ℕ) (Ask : PlaceChecks) (holder : ℕ) (reference : Reference) (taken : ℕ → Bool)
+    (IsText : List ℕ
     → Type 0) (halt : Halt)
     → 1 ≤ reference.length → RefersHere file reference
     → HaltsAt halt (EachOf (chain_pages file reference) (PartCheck file Ask holder reference taken))
@@ -43,7 +45,8 @@ chain_halts file Ask holder reference taken IsText (Broken fault) some here brea
 chain_halts file Ask holder reference taken IsText Source some here breaks = tt
 
 -- no page breaks, and then the text decides
-pub chain_untold : (file : List ℕ) (Ask : PlaceChecks) (holder : ℕ) (reference : Reference) (taken : ℕ → Bool) (IsText : List ℕ
+pub chain_untold : (file : List ℕ) (Ask : PlaceChecks) (holder : ℕ) (reference : Reference) (taken : ℕ → Bool)
+    (IsText : List ℕ
     → Type 0)
     → 1 ≤ reference.length → RefersHere file reference
     → EachOf (chain_pages file reference) (PartCheck file Ask holder reference taken) None
@@ -64,7 +67,8 @@ chain_untold file Ask holder reference taken IsText some here holds bad = inr (
   ),
 )
 
-pub chain_holds : (file : List ℕ) (Ask : PlaceChecks) (holder : ℕ) (reference : Reference) (taken : ℕ → Bool) (IsText : List ℕ
+pub chain_holds : (file : List ℕ) (Ask : PlaceChecks) (holder : ℕ) (reference : Reference) (taken : ℕ → Bool)
+    (IsText : List ℕ
     → Type 0)
     → 1 ≤ reference.length → RefersHere file reference
     → EachOf (chain_pages file reference) (PartCheck file Ask holder reference taken) None

@@ -40,7 +40,8 @@ sum_at g f (x ∷ xs) from same =
     let rest = sum_at g f xs (from + 1)
     (λ k below. let next : from + suc k ≡ from + 1 + k = omega arith in
     same (suc k) (omega arith) ∙ ap (λ m. length (f m)) next) in
-    sum_by-cons g x xs ∙ rw (here, rest) (sym (length-append (f from) (flat_map f (range_with_len (from + 1) (length xs)))))
+    sum_by-cons g x xs ∙ rw (here, rest)
+    (sym (length-append (f from) (flat_map f (range_with_len (from + 1) (length xs)))))
 
 -- pieces of a list, one after another
 pieces_join : (xs : List ℕ) (c from count : ℕ)
@@ -135,7 +136,8 @@ module _ (file : List ℕ) (space : ℕ) (numbers bytes : List ℕ) (has : HasVa
       let short = part_short bytes k in
       (omega arith, omega arith))
 
-  next_is : (k : ℕ) → k < length numbers → next_part (page_of file (get_or numbers k 0)) ≡ after_place fil_null numbers k
+  next_is : (k : ℕ) → k < length numbers
+      → next_part (page_of file (get_or numbers k 0)) ≡ after_place fil_null numbers k
   next_is k below = (page_read k below).next_is
 
   module _ (reference : Reference) (to : IsReferenceTo reference numbers bytes) where

@@ -1,6 +1,7 @@
 -- The parts of a value are put one after another, each on its page.
 use Rattle.std.proofs.Common.{◌≡◌, ℕ, ◌+◌, ◌*◌, ◌-◌, ◌<◌, ◌≤◌, ◌++◌, List, length, drop}
-use Rattle.std.proofs.Common.{Option, Some, None, IfSome, unwrap_or, Result, Ok, Err, IsErr, Contains, cond, slice_index}
+use Rattle.std.proofs.Common.{Option, Some, None, IfSome, unwrap_or, Result, Ok, Err, IsErr, Contains, cond}
+use Rattle.std.proofs.Common.{slice_index}
 use Rattle.std.proofs.Common.{refl, sym, ap, ◌∙◌, subst, arith, inl, inr}
 use Rattle.std.specs.FinMap.{get, insert, empty}
 use Rattle.std.proofs.lemmas.Bool.{false≢true, ne_eqb, eq-eqb, cases_lt}

@@ -62,7 +62,8 @@ unfolding pushed_in
 pushed_same page at bytes spots before inside =
     let now : List ℕ = with_bytes page at bytes in
     let size = length-map spots (pushed_from now) in
-    same_lists (map (pushed_from now) spots) (map (pushed_from page) spots) (size ∙ sym (length-map spots (pushed_from page)))
+    same_lists (map (pushed_from now) spots) (map (pushed_from page) spots)
+    (size ∙ sym (length-map spots (pushed_from page)))
     (λ k d below.
     let in' : k < length spots = omega (arith, size) in
     let spot : Spot = spot_at spots k in
@@ -128,7 +129,8 @@ pushed_more page spots count top origin bytes filled below inside =
     ∙ ap (λ (o : ℕ). record { bytes = bytes; origin = o }) e in
     ap (λ (ss : List Spot). map (pushed_from now) ss) (take_more_set spots count spot below)
     ∙ map_push (pushed_from now) (take count spots) spot
-    ∙ ap (λ (rs : List Pushed). rs ++ pushed_from now spot ∷ []) (pushed_same page top bytes (take count spots) before inside)
+    ∙ ap (λ (rs : List Pushed). rs ++ pushed_from now spot ∷ [])
+    (pushed_same page top bytes (take count spots) before inside)
     ∙ ap (λ (r : Pushed). map (pushed_from page) (take count spots) ++ r ∷ []) here
 
 -- the starts of the records before stay
@@ -214,7 +216,8 @@ filled_more page spots count top origin bytes filled long least most info fits =
             | inr other ↦
                 let same : spot_at spots' k ≡ spot_at spots k = get_or-set_other spots count k spot no_spot other in
                 let low : k < count = omega (arith, other) in
-                ap (λ (s : Spot). s.start) same ∙ filled.starts k low ∙ sym (start_same records r k (omega (arith, size)))
+                ap (λ (s : Spot). s.start) same ∙ filled.starts k low
+                ∙ sym (start_same records r k (omega (arith, size)))
           ]);
     }
 
@@ -235,14 +238,16 @@ has_spot page spots count top k long filled below =
     let end = is.most in
     let info = is.info in
     let here : pushed_at records k ≡ pushed_from page spot = pushed_is page spots count k most below in
-    let bytes : (pushed_at records k).bytes ≡ slice_range page spot.start spot.end = ap (λ (r : Pushed). r.bytes) here in
+    let bytes : (pushed_at records k).bytes ≡ slice_range page spot.start spot.end =
+    ap (λ (r : Pushed). r.bytes) here in
     let origin : (pushed_at records k).origin ≡ spot.origin - spot.start = ap (λ (r : Pushed). r.origin) here in
     let size : length (pushed_at records k).bytes ≡ spot.end - spot.start =
     ap (λ (xs : List ℕ). length xs) bytes ∙ length-between page spot.start spot.end (omega arith) in
     let start : spot.start ≡ start_of records k = filled.starts k below in
     let count_is : length records ≡ count = pushed_count page spots count most in
     let place : spot.start + (spot.origin - spot.start - 5) ≡ spot.origin - 5 = omega arith in
-    let byte : slice_index (pushed_at records k).bytes ((pushed_at records k).origin - 5) ≡ slice_index page (spot.origin - 5) =
+    let byte : slice_index (pushed_at records k).bytes ((pushed_at records k).origin - 5)
+    ≡ slice_index page (spot.origin - 5) =
     ap (λ (n : ℕ). slice_index (pushed_at records k).bytes (n - 5)) origin
     ∙ ap (λ (xs : List ℕ). slice_index xs (spot.origin - spot.start - 5)) bytes
     ∙ get_or-between page spot.start spot.end (spot.origin - spot.start - 5) 0 (omega arith)

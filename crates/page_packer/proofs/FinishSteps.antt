@@ -37,7 +37,8 @@ with_bytes-within page at bytes i piece inside within =
     let inner : List ℕ = with_bytes bytes i piece in
     let a : length first ≡ length page = length-with_bytes page at bytes inside in
     let b : length inner ≡ length bytes = length-with_bytes bytes i piece within in
-    let c : length (with_bytes first (at + i) piece) ≡ length first = length-with_bytes first (at + i) piece (omega arith) in
+    let c : length (with_bytes first (at + i) piece) ≡ length first =
+    length-with_bytes first (at + i) piece (omega arith) in
     let d : length (with_bytes page at inner) ≡ length page = length-with_bytes page at inner (omega arith) in
     same_lists (with_bytes first (at + i) piece) (with_bytes page at inner) (c ∙ a ∙ sym d)
     (λ k e below.
@@ -329,7 +330,8 @@ directory_all records j past =
 -- a segment header in three steps
 pub segment_put : (page first second now : List ℕ) (at space number offset : ℕ) → at + 10 ≤ length page
     → first ≡ with_bytes page at (be_bytes 4 space) → second ≡ with_bytes first (at + 4) (be_bytes 4 number)
-    → now ≡ with_bytes second (at + 8) (be_bytes 2 offset) → now ≡ with_bytes page at (segment_header space number offset)
+    → now ≡ with_bytes second (at + 8) (be_bytes 2 offset)
+    → now ≡ with_bytes page at (segment_header space number offset)
 segment_put page first second now at space number offset inside e1 e2 e3 =
     let two : second ≡ with_bytes page at (be_bytes 4 space ++ be_bytes 4 number) =
     written_more page first second (be_bytes 4 space) (be_bytes 4 number) (be_bytes 4 space ++ be_bytes 4 number) at
@@ -390,7 +392,8 @@ ends_put records page first second third fourth now next owned long is own e1 e2
     two_put page fourth now (a ++ b ++ t ++ d) (codes "supremum") 94 112 four e5 refl (omega arith)
 
 -- the whole page
-pub page_put : (packing : Packing) (first second third fourth now : List ℕ) (prev next index_id : ℕ) (heads : Option Heads)
+pub page_put : (packing : Packing) (first second third fourth now : List ℕ) (prev next index_id : ℕ)
+    (heads : Option Heads)
     → AreWhole packing.records → 120 + total_size packing.records ≤ 16376
     → first ≡ page_beside prev next
     → second ≡ with_bytes first 38 (page_header packing index_id heads)
@@ -418,5 +421,6 @@ page_put packing first second third fourth now prev next index_id heads whole fi
 -- the numbers of the header
 pub numbers_are : (packing : Packing) (slots top count level : ℕ) → slots ≡ slots_for (length packing.records)
     → top ≡ 120 + total_size packing.records → count ≡ length packing.records → level ≡ packing.level
-    → slots ∷ top ∷ (32768 + (count + 2)) ∷ 0 ∷ 0 ∷ 0 ∷ 5 ∷ 0 ∷ count ∷ 0 ∷ 0 ∷ 0 ∷ 0 ∷ level ∷ [] ≡ header_numbers packing
+    → slots ∷ top ∷ (32768 + (count + 2)) ∷ 0 ∷ 0 ∷ 0 ∷ 5 ∷ 0 ∷ count ∷ 0 ∷ 0 ∷ 0 ∷ 0 ∷ level ∷ []
+    ≡ header_numbers packing
 numbers_are packing slots top count level e1 e2 e3 e4 = rw (e1, e2, e3, e4) refl

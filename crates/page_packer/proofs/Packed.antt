@@ -146,8 +146,10 @@ pushes_entries fields level marks entries entry =
       }) count
           ∙ ap (λ (rs : List Pushed). record { level = level; records = rs })
           (sym (numbered_more fields level marks 0 entries entry
-          ∙ ap (λ (n : ℕ). numbered fields level marks 0 entries ++ pushed_entry fields level marks (n, entry) ∷ []) place));
-      fits = ap (λ (n : ℕ). sizes_fit n (total_size (numbered fields level marks 0 entries) + size_of_record fields entry))
+          ∙ ap (λ (n : ℕ). numbered fields level marks 0 entries ++ pushed_entry fields level marks
+          (n, entry) ∷ []) place));
+      fits = ap (λ (n : ℕ). sizes_fit n
+          (total_size (numbered fields level marks 0 entries) + size_of_record fields entry))
           (ap (λ (n : ℕ). n + 1) count ∙ sym more)
           ∙ ap (λ (n : ℕ). sizes_fit (length (entries ++ entry ∷ [])) n)
           (ap (λ (n : ℕ). n + size_of_record fields entry) size ∙ sym sum);

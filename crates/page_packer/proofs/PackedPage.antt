@@ -62,7 +62,8 @@ stands_packed page fields root leftmost marks entries packing prev next index_id
     let pieces : HasPieces page packing index_id heads =
     pieces_of_body page packing prev next index_id heads whole packed.fit has in
     let numbers : HeaderNumbers page packing = header_numbers page packing index_id heads pieces in
-    let ends : EndFacts page records = end_facts page packing index_id heads pieces (next_fits infimum (origin_at records 0)) in
+    let ends : EndFacts page records =
+    end_facts page packing index_id heads pieces (next_fits infimum (origin_at records 0)) in
     let count = packed.pushed.count in
     let stands : (k : ℕ) → k < length records
     → EntryStands page fields (entry_at entries k) (origin_at records k) (start_of records k) (2 + k)
@@ -282,7 +283,8 @@ keys_rise page fields root leftmost marks entries packing is =
     λ k inside.
     let more : k + 1 < n = omega arith in
     let below : k < n = omega arith in
-    let key_at : (i : ℕ) → i < n → key_of page (get_or (packed_chain records) i 0) fields ≡ key_of_parts fields (entry_at entries i) =
+    let key_at : (i : ℕ) → i < n
+    → key_of page (get_or (packed_chain records) i 0) fields ≡ key_of_parts fields (entry_at entries i) =
     λ i in'.
     ap (λ (o : ℕ). key_of page o fields) (get_or-map-range_with_len g 0 n i i 0 in' (omega arith))
     ∙ (is.entry i in').read.key in

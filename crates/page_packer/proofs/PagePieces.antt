@@ -23,7 +23,8 @@ pub record HasPieces (page : List ℕ) (packing : Packing) (index_id : ℕ) (hea
   pub heap : (k : ℕ) → k < total_size packing.records
       → slice_index page (120 + k) ≡ get_or (heap_bytes packing.records) k 0
   pub directory : (k : ℕ) → k < 2 * slots_for (length packing.records)
-      → slice_index page (16376 - 2 * slots_for (length packing.records) + k) ≡ get_or (directory_bytes packing.records) k 0
+      → slice_index page (16376 - 2 * slots_for (length packing.records) + k)
+      ≡ get_or (directory_bytes packing.records) k 0
 
 pub length-page_header : (packing : Packing) (index_id : ℕ) (heads : Option Heads)
     → length (page_header packing index_id heads) ≡ 56
@@ -95,7 +96,8 @@ pieces_of_packed packing prev next index_id heads whole fit =
     let e : length ends ≡ 26 = length-end_bytes packing.records in
     let he : length (header ++ ends) ≡ 82 = omega (arith, length-append header ends) in
     let whole_page = length-packed_page packing prev next index_id heads whole fit in
-    let byte : (k : ℕ) → k < length front → get_or (with_bytes filled (16376 - s) directory) (38 + k) 0 ≡ get_or front k 0 =
+    let byte : (k : ℕ) → k < length front
+    → get_or (with_bytes filled (16376 - s) directory) (38 + k) 0 ≡ get_or front k 0 =
     λ k inside.
     get_or-with_bytes_before filled (16376 - s) directory (38 + k) 0 (omega arith) (omega arith)
     ∙ get_or-with_bytes_at beside 38 front k 0 (omega arith) inside in

@@ -23,7 +23,8 @@ record PointTo (lower upper : Fields) : Type 0 where
   keys : upper.keys ≡ lower.keys
   pointers : upper.fields ≡ take lower.keys lower.fields ++ child_field ∷ []
 
-fit_front : (fs : List Field) (ps : List Part) (k : ℕ) → AllZip FitsField fs ps → AllZip FitsField (take k fs) (take k ps)
+fit_front : (fs : List Field) (ps : List Part) (k : ℕ) → AllZip FitsField fs ps
+    → AllZip FitsField (take k fs) (take k ps)
 fit_front fs ps zero fit = tt
 fit_front [] [] (suc k) fit = tt
 fit_front [] (p ∷ ps) (suc k) fit = absurd fit

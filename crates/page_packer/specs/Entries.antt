@@ -1,5 +1,6 @@
 -- The page of some entries of a tree: rows on a leaf, node pointers above.
-use Rattle.std.specs.Prelude.{◌≡◌, ℕ, ◌+◌, ◌<◌, ◌⊎◌, Bool, true, false, ◌&&◌, ◌==◌, List, [], ◌∷◌, ◌++◌, length, map, take}
+use Rattle.std.specs.Prelude.{◌≡◌, ℕ, ◌+◌, ◌<◌, ◌⊎◌, Bool, true, false, ◌&&◌, ◌==◌, List, [], ◌∷◌, ◌++◌, length, map}
+use Rattle.std.specs.Prelude.{take}
 use Rattle.std.specs.Prelude.{sum_by, All, slice_index_or, Option}
 use Rattle.std.specs.List.{enumerate_from}
 use Rattle.page_source.specs.Pages.{be_bytes}

@@ -1,5 +1,6 @@
 -- What a reader, a writer or a place of std does over one call after another.
-use Rattle.std.proofs.Common.{◌≡◌, ℕ, ◌*◌, ◌/◌, ◌-◌, ◌^◌, min, List, Option, Some, None, Result, Ok, Err, IfOk, OnOk, IfSome, ap, subst, ◌∙◌, length, arith, pos}
+use Rattle.std.proofs.Common.{◌≡◌, ℕ, ◌*◌, ◌/◌, ◌-◌, ◌^◌, min, List, Option, Some, None, Result, Ok, Err, IfOk, OnOk}
+use Rattle.std.proofs.Common.{IfSome, ap, subst, ◌∙◌, length, arith, pos}
 use Rattle.std.specs.declared.io.traits.SeekFrom.TheVariants.{Start, End}
 use Rattle.std.specs.Io.KnownBytes.{Appends, Consumes, Keeps}
 use Rattle.std.specs.Io.Seek.{SeekMoves}

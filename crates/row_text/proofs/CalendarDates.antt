@@ -1,5 +1,6 @@
 -- Dates of the calendar, by their three numbers.
-use Rattle.std.proofs.Common.{◌≡◌, ◌≢◌, ℕ, ◌<◌, ◌≤◌, Option, Some, None, Result, Ok, Err, sym, ap, ◌∙◌, subst, ℤ, pos, arith}
+use Rattle.std.proofs.Common.{◌≡◌, ◌≢◌, ℕ, ◌<◌, ◌≤◌, Option, Some, None, Result, Ok, Err, sym, ap, ◌∙◌, subst, ℤ, pos}
+use Rattle.std.proofs.Common.{arith}
 use Rattle.std.specs.Prelude.{MatchOption, IfOk}
 use Rattle.std.specs.Result.{result_ok}
 use Rattle.std.specs.Result.{IsOk}

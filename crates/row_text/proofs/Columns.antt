@@ -1,5 +1,6 @@
 -- The text of a value, or of no value, in a column.
-use Rattle.std.proofs.Common.{◌≡◌, ℕ, suc, ◌+◌, ◌/◌, ◌%◌, ◌^◌, ◌<◌, ◌≤◌, ◌⊎◌, List, [], ◌∷◌, ◌++◌, length, inl, inr, get_or}
+use Rattle.std.proofs.Common.{◌≡◌, ℕ, suc, ◌+◌, ◌/◌, ◌%◌, ◌^◌, ◌<◌, ◌≤◌, ◌⊎◌, List, [], ◌∷◌, ◌++◌, length, inl, inr}
+use Rattle.std.proofs.Common.{get_or}
 use Rattle.std.proofs.Common.{refl, sym, ap, ◌∙◌, ℤ, pos, negsuc, true, false, arith, append_assoc, eqb}
 use Rattle.std.specs.Prelude.{codes, unsigned_abs}
 use Rattle.std.specs.Fmt.{decimal, signed_decimal}
@@ -122,7 +123,8 @@ text_head (types.DateTime f) (values.DateTime y mo d h mi s n) rest t b known is
     quote_head (moment_text f y mo d h mi s n) rest t b e
 text_head (types.Timestamp f) (values.Timestamp s n) rest t b known is e = quote_head _ rest t b e
 text_head types.Year (values.Year y) rest t b known is e = year_head y rest t b e
-text_head (types.Decimal p s) (values.Decimal u) rest t b known is e = units_head s u rest t b (units_low p s u known is) e
+text_head (types.Decimal p s) (values.Decimal u) rest t b known is e =
+    units_head s u rest t b (units_low p s u known is) e
 text_head (types.Int w true) _ rest t b known is e = absurd is.2
 text_head (types.Int w false) _ rest t b known is e = absurd is.2
 text_head types.Date _ rest t b known is e = absurd is.2

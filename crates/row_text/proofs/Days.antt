@@ -4,7 +4,8 @@ use Rattle.std.proofs.Common.{arith}
 use Rattle.std.proofs.lemmas.Bool.{cases_lt, cases_eq, ne_eqb}
 use Rattle.jiff_core.specs.Calendar.{days_in_month, day_count, days_from_civil, IsCivilDate}
 use Rattle.jiff_core.proofs.SignedLemmas.{signed_arith}
-use Rattle.jiff_core.proofs.CalendarLemmas.{days_from_civil-day_count, day_count-epoch, day_count-day, day_count-next_month}
+use Rattle.jiff_core.proofs.CalendarLemmas.{days_from_civil-day_count, day_count-epoch, day_count-day}
+use Rattle.jiff_core.proofs.CalendarLemmas.{day_count-next_month}
 use Rattle.jiff_core.proofs.CalendarLemmas.{day_count-next_year, day_count-last_of_year, days_in_month_bounds}
 use Rattle.row_text.specs.Calendar.{month_of_day, day_of_day}
 use Rattle.row_text.specs.Values.{date_text, day_text}
@@ -37,7 +38,12 @@ next_date n few before =
     elim (cases_lt before.day (days_in_month y before.month)) [
       | inl more ↦ dated before.year before.month (before.day + 1) (suc n) few
           (is.civil.0, is.civil.1, (omega arith, omega (arith, more)))
-          (omega (arith, day_count-day y before.month before.day (before.day + 1) is.civil.2.0 (omega arith), is.counted))
+          (omega (
+            arith,
+            day_count-day y before.month before.day (before.day + 1) is.civil.2.0
+                (omega arith),
+            is.counted,
+          ))
       | inr full ↦ elim (cases_lt before.month 12) [
         | inl more ↦ dated before.year (before.month + 1) 1 (suc n) few (
           is.civil.0,
@@ -94,7 +100,8 @@ pub record DayParts (seconds : ℕ) : Type 0 where
   pub least : year ≤ 9999
   pub months : month ≤ 12
   pub days : day ≤ 31
-  pub which : ((seconds ≡ 0) × (year ≡ 0) × (month ≡ 0) × (day ≡ 0)) ⊎ ((1 ≤ seconds) × IsDayOf year month day (seconds / 86400))
+  pub which : ((seconds ≡ 0) × (year ≡ 0) × (month ≡ 0) × (day ≡ 0))
+      ⊎ ((1 ≤ seconds) × IsDayOf year month day (seconds / 86400))
 
 pub parts_of : (seconds : ℕ) → seconds ≤ 2147483647 → DayParts seconds
 parts_of seconds most = elim (cases_eq seconds 0) [

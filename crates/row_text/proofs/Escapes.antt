@@ -128,7 +128,8 @@ pub escape_written : (text room : List ℕ) (i n letter front width : ℕ) → i
     → take (n + width) (set (set room n front) (n + 1) letter) ≡ escaped_text (take (i + 1) text)
 escape_written text room i n letter front width below fits is before counts done =
     let byte : ℕ = slice_index text i in
-    let more : escaped_text (take (i + 1) text) ≡ take n room ++ escaped byte = ap escaped_text (take_more text i 0 below)
+    let more : escaped_text (take (i + 1) text) ≡ take n room ++ escaped byte =
+    ap escaped_text (take_more text i 0 below)
     ∙ escaped_append (take i text) (byte ∷ [])
     ∙ ap (λ (t : List ℕ). t ++ escaped_text (byte ∷ [])) (sym done)
     ∙ ap (λ (t : List ℕ). take n room ++ t) (alone byte) in

@@ -37,8 +37,10 @@ hexed_more digits list longer count byte is lt below high low grown =
     record {
       are = subst AreBytes (sym grown) (All-push IsByte list byte is.are below);
       same = ap (λ (k : ℕ). take k digits) two ∙ take_more digits (2 * count + 1) 0 lt
-          ∙ ap (λ (t : List ℕ). t ++ get_or digits (2 * count + 1) 0 ∷ []) (take_more digits (2 * count) 0 (omega (arith, lt)))
-          ∙ append_assoc (take (2 * count) digits) (get_or digits (2 * count) 0 ∷ []) (get_or digits (2 * count + 1) 0 ∷ [])
+          ∙ ap (λ (t : List ℕ). t ++ get_or digits (2 * count + 1) 0 ∷ [])
+          (take_more digits (2 * count) 0 (omega (arith, lt)))
+          ∙ append_assoc (take (2 * count) digits) (get_or digits (2 * count) 0 ∷ [])
+          (get_or digits (2 * count + 1) 0 ∷ [])
           ∙ ap (λ (t : List ℕ). t ++ get_or digits (2 * count) 0 ∷ get_or digits (2 * count + 1) 0 ∷ []) is.same
           ∙ ap (λ (h : ℕ). encode_lower list ++ h ∷ get_or digits (2 * count + 1) 0 ∷ []) (sym high)
           ∙ ap (λ (l : ℕ). encode_lower list ++ slice_index lower_digits (byte / 16) ∷ l ∷ []) (sym low)
@@ -135,8 +137,10 @@ bytes_apart [] (d ∷ b) x y are_a are_b e ends none =
 bytes_apart (c ∷ a) [] x y are_a are_b e ends none =
     absurd (none c (encode_lower a ++ x) (All-head IsByte c a are_a) (sym e))
 bytes_apart (c ∷ a) (d ∷ b) x y are_a are_b e ends none =
-    let high : slice_index lower_digits (c / 16) ≡ slice_index lower_digits (d / 16) = ap (λ (t : List ℕ). get_or t 0 0) e in
-    let low : slice_index lower_digits (c % 16) ≡ slice_index lower_digits (d % 16) = ap (λ (t : List ℕ). get_or t 1 0) e in
+    let high : slice_index lower_digits (c / 16) ≡ slice_index lower_digits (d / 16) =
+    ap (λ (t : List ℕ). get_or t 0 0) e in
+    let low : slice_index lower_digits (c % 16) ≡ slice_index lower_digits (d % 16) =
+    ap (λ (t : List ℕ). get_or t 1 0) e in
     let more : encode_lower a ++ x ≡ encode_lower b ++ y = ap (drop 2) e in
     let first = one_byte c d (All-head IsByte c a are_a) (All-head IsByte d b are_b) high low in
     let rest = bytes_apart a b x y (All-tail IsByte c a are_a) (All-tail IsByte d b are_b) more ends none in

@@ -47,7 +47,15 @@ letter_back l some = elim (cases_eq l 48) [
   where
     none : (l : ℕ) → l ≢ 48 → l ≢ 110 → l ≢ 114 → l ≢ 92 → l ≢ 39 → l ≢ 34 → l ≢ 90 → byte_of l ≡ 255
     none l n0 n1 n2 n3 n4 n5 n6 =
-        rw (ne_eqb l 48 n0, ne_eqb l 110 n1, ne_eqb l 114 n2, ne_eqb l 92 n3, ne_eqb l 39 n4, ne_eqb l 34 n5, ne_eqb l 90 n6)
+        rw (
+          ne_eqb l 48 n0,
+          ne_eqb l 110 n1,
+          ne_eqb l 114 n2,
+          ne_eqb l 92 n3,
+          ne_eqb l 39 n4,
+          ne_eqb l 34 n5,
+          ne_eqb l 90 n6,
+        )
         refl
 
 -- an entry of the table that is a byte, and one that is none

@@ -1,5 +1,6 @@
 -- Words of dates, years and moments.
-use Rattle.std.proofs.Common.{◌≡◌, ◌≢◌, ℕ, ◌+◌, ◌-◌, ◌*◌, ◌/◌, ◌^◌, ◌<◌, ◌≤◌, List, [], ◌∷◌, ◌++◌, length, get_or, take, drop}
+use Rattle.std.proofs.Common.{◌≡◌, ◌≢◌, ℕ, ◌+◌, ◌-◌, ◌*◌, ◌/◌, ◌^◌, ◌<◌, ◌≤◌, List, [], ◌∷◌, ◌++◌, length, get_or, take}
+use Rattle.std.proofs.Common.{drop}
 use Rattle.std.proofs.Common.{refl, sym, ap, ◌∙◌, subst, arith, pow-add}
 use Rattle.std.proofs.lemmas.List.{take-append-drop}
 use Rattle.column_values.specs.declared.kind.ColumnType.TheVariants as types
@@ -159,8 +160,10 @@ one_moment f moment word y mo d h mi s n few is low part e =
     let mi1 = moment.time.minute in
     let s1 = moment.time.second in
     let n1 = moment.micro in
-    let inside = inside_one (moment_text f y1 mo1 d1 h1 mi1 s1 n1) (moment_text f y mo d h mi s n) (sym is.spelled ∙ e) in
-    let date = one_date y1 mo1 d1 y mo d (32 ∷ time_text f h1 mi1 s1 n1) (32 ∷ time_text f h mi s n) is.year is.month is.day
+    let inside = inside_one (moment_text f y1 mo1 d1 h1 mi1 s1 n1) (moment_text f y mo d h mi s n)
+    (sym is.spelled ∙ e) in
+    let date = one_date y1 mo1 d1 y mo d (32 ∷ time_text f h1 mi1 s1 n1)
+    (32 ∷ time_text f h mi s n) is.year is.month is.day
     low.year low.month low.day inside in
     let times : time_text f h1 mi1 s1 n1 ≡ time_text f h mi s n = cc (date.rest) in
     let time = one_time h1 mi1 s1 h mi s (behind_point f (n1 / 10 ^ (6 - f))) (behind_point f (n / 10 ^ (6 - f)))

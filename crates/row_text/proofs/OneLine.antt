@@ -57,7 +57,8 @@ led_apart [] [] (q ∷ w) x y known a b e ex ey = absurd b
 led_apart (c ∷ columns) [] w x y known a b e ex ey = absurd a
 led_apart (c ∷ columns) (p ∷ v) [] x y known a b e ex ey = absurd b
 led_apart (c ∷ columns) (p ∷ v) (q ∷ w) x y known a b e ex ey =
-    let f : (value_text c.kind p ++ led_values columns v) ++ x ≡ (value_text c.kind q ++ led_values columns w) ++ y = cc in
+    let f : (value_text c.kind p ++ led_values columns v) ++ x
+    ≡ (value_text c.kind q ++ led_values columns w) ++ y = cc in
     let first = one_column c p q (led_values columns v ++ x) (led_values columns w ++ y)
     (All-head IsKnown c columns known) a.0 b.0
     (sym (append_assoc (value_text c.kind p) (led_values columns v) x) ∙ f
@@ -94,7 +95,8 @@ same_row : (table : TableDef) (v w : List Value) (x y : List ℕ) → IsTable ta
     → IsTableRow table w → line_of table v ++ x ≡ line_of table w ++ y → v ≡ w
 same_row table v w x y is a b e =
     let values : values_of table v ++ (line_close ++ x) ≡ values_of table w ++ (line_close ++ y) =
-    append_cancel_left (line_open table) (values_of table v ++ (line_close ++ x)) (values_of table w ++ (line_close ++ y))
+    append_cancel_left (line_open table) (values_of table v ++ (line_close ++ x))
+    (values_of table w ++ (line_close ++ y))
     (sym (line_parts table v x) ∙ e ∙ line_parts table w y) in
     (rows_apart table.columns v w (line_close ++ x) (line_close ++ y) is.kinds a b values (inr refl) (inr refl)).0
 
@@ -112,13 +114,15 @@ known_at : (columns : List Column) (i : ℕ) (o : Option Column) (more : List Co
 known_at columns i None more known is others = others
 known_at columns i (Some c) more known is others =
     let here : get_or columns i c ≡ c = get_or_from_slice_get columns i c c is in
-    All-cons IsKnown c more (subst IsKnown here (All-get_or IsKnown columns i c (slice_get_within columns i c is) known))
+    All-cons IsKnown c more
+    (subst IsKnown here (All-get_or IsKnown columns i c (slice_get_within columns i c is) known))
     others
 
 known_columns : (columns : List Column) (places : List ℕ) → All IsKnown columns
     → All IsKnown (filter_map (slice_get columns) places)
 known_columns columns [] known = All-nil IsKnown
-known_columns columns (i ∷ places) known = known_at columns i (slice_get columns i) (filter_map (slice_get columns) places)
+known_columns columns (i ∷ places) known =
+    known_at columns i (slice_get columns i) (filter_map (slice_get columns) places)
     known refl (known_columns columns places known)
 
 known_key : (table : TableDef) → IsTable table → All IsKnown (key_columns table)

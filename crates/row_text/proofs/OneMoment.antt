@@ -24,7 +24,8 @@ pub record IsLowDate (y m d : ℕ) : Type 0 where
 pub date_injective : (y m d y2 m2 d2 : ℕ) (s t : List ℕ) → IsLowDate y m d → IsLowDate y2 m2 d2
     → date_text y m d ++ s ≡ date_text y2 m2 d2 ++ t → SameDate y m d y2 m2 d2 s t
 date_injective y m d y2 m2 d2 s t one two e =
-    let a = four_injective y y2 (45 ∷ (two_digits m ++ 45 ∷ (two_digits d ++ s))) (45 ∷ (two_digits m2 ++ 45 ∷ (two_digits d2 ++ t)))
+    let a = four_injective y y2 (45 ∷ (two_digits m ++ 45 ∷ (two_digits d ++ s)))
+    (45 ∷ (two_digits m2 ++ 45 ∷ (two_digits d2 ++ t)))
     (omega (arith, one.year)) (omega (arith, two.year)) e in
     let f : two_digits m ++ 45 ∷ (two_digits d ++ s) ≡ two_digits m2 ++ 45 ∷ (two_digits d2 ++ t) = cc (a.1) in
     let b = two_injective m m2 (45 ∷ (two_digits d ++ s)) (45 ∷ (two_digits d2 ++ t)) (omega (arith, one.month))
@@ -39,7 +40,8 @@ fraction_low f micro few is =
     let six : ℕ = 6 in
     let both : six ≡ f + (6 - f) = omega (arith, few) in
     let all : 10 ^ six ≡ 10 ^ f * 10 ^ (6 - f) = ap (λ (k : ℕ). 10 ^ k) both ∙ pow-add 10 f (6 - f) in
-    (div-lt_iff_lt-mul {k = 10 ^ (6 - f)} {x = micro} {y = 10 ^ f} (some_power (6 - f))).1 (omega (arith, is.below, all))
+    (div-lt_iff_lt-mul {k = 10 ^ (6 - f)} {x = micro} {y = 10 ^ f} (some_power (6 - f))).1
+    (omega (arith, is.below, all))
 
 pub fraction_back : (f micro : ℕ) → IsFraction f micro → micro ≡ micro / 10 ^ (6 - f) * 10 ^ (6 - f)
 fraction_back f micro is = omega (arith, div-add-mod' micro (10 ^ (6 - f)), is.digits)

@@ -1,5 +1,6 @@
 -- A number, and a list of bytes, has one text, and a text is that of one.
-use Rattle.std.proofs.Common.{◌≡◌, ℕ, suc, ◌+◌, ◌*◌, ◌/◌, ◌%◌, ◌^◌, ◌<◌, ◌≤◌, List, [], ◌∷◌, ◌++◌, length, get_or, inl, inr}
+use Rattle.std.proofs.Common.{◌≡◌, ℕ, suc, ◌+◌, ◌*◌, ◌/◌, ◌%◌, ◌^◌, ◌<◌, ◌≤◌, List, [], ◌∷◌, ◌++◌, length, get_or, inl}
+use Rattle.std.proofs.Common.{inr}
 use Rattle.std.proofs.Common.{refl, sym, ap, ◌∙◌, ℤ, pos, negsuc, eqb, Result, Ok, arith}
 use Rattle.std.specs.Prelude.{codes, unsigned_abs, int_lt}
 use Rattle.std.specs.Fmt.{decimal}
@@ -67,9 +68,11 @@ same_whole s (negsuc m) (negsuc n) low_m low_n parts e =
     let same : suc m ≡ suc n = back s (suc m) (suc n) f parts in
     ap negsuc (omega (arith, same))
 same_whole s (pos m) (negsuc n) low_m low_n parts e =
-    absurd (no_sign (m / 10 ^ s) (decimal (suc n / 10 ^ s)) (omega (arith, low_m)) (sym (whole_plus s m) ∙ e ∙ whole_minus s n))
+    absurd (no_sign (m / 10 ^ s) (decimal (suc n / 10 ^ s)) (omega (arith, low_m))
+    (sym (whole_plus s m) ∙ e ∙ whole_minus s n))
 same_whole s (negsuc m) (pos n) low_m low_n parts e =
-    absurd (no_sign (n / 10 ^ s) (decimal (suc m / 10 ^ s)) (omega (arith, low_n)) (sym (whole_plus s n) ∙ sym e ∙ whole_minus s m))
+    absurd (no_sign (n / 10 ^ s) (decimal (suc m / 10 ^ s)) (omega (arith, low_n))
+    (sym (whole_plus s n) ∙ sym e ∙ whole_minus s m))
 
 pub decimal_text_one : (s : ℕ) (y z : ℤ) → unsigned_abs y < 10 ^ 64 → unsigned_abs z < 10 ^ 64
     → decimal_text s y ≡ decimal_text s z → y ≡ z

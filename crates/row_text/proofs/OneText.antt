@@ -39,7 +39,8 @@ one_int : (w : ℕ) (s : Bool) (v u : Value) → IsColumnType (types.Int w s) �
 one_int w true (values.Signed y) (values.Signed z) known a b e =
     ap values.Signed (signed_decimal_injective y z (signed_is w y known a) (signed_is w z known b) e)
 one_int w false (values.Unsigned m) (values.Unsigned n) known a b e =
-    ap values.Unsigned (decimal_one m n (omega (arith, unsigned_low w m known a)) (omega (arith, unsigned_low w n known b)) e)
+    ap values.Unsigned (decimal_one m n (omega (arith, unsigned_low w m known a))
+    (omega (arith, unsigned_low w n known b)) e)
 one_int w true (values.Signed y) _ known a b e = absurd b.2
 one_int w false (values.Unsigned m) _ known a b e = absurd b.2
 one_int w true _ u known a b e = absurd a.2

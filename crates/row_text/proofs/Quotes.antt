@@ -155,5 +155,6 @@ left_of [] rest inside more e = record { inside = inside; same = e }
 left_of (a ∷ list) rest [] more e =
     absurd (escaped_no_quote a (flat_map escaped list ++ rest) more (sym (append_assoc (escaped a) _ _) ∙ e))
 left_of (a ∷ list) rest (b ∷ inside) more e =
-    left_of list rest inside more (escaped_apart a b (flat_map escaped list ++ rest) (flat_map escaped inside ++ 39 ∷ more)
+    left_of list rest inside more
+    (escaped_apart a b (flat_map escaped list ++ rest) (flat_map escaped inside ++ 39 ∷ more)
     (sym (append_assoc (escaped a) _ _) ∙ e ∙ append_assoc (escaped b) _ _)).1

@@ -1,5 +1,6 @@
 -- Digits that are read one after another.
-use Rattle.std.proofs.Common.{◌≡◌, ◌≢◌, ℕ, zero, suc, ◌+◌, ◌-◌, ◌*◌, ◌/◌, ◌%◌, ◌^◌, ◌<◌, ◌≤◌, List, [], ◌∷◌, ◌++◌, length, take}
+use Rattle.std.proofs.Common.{◌≡◌, ◌≢◌, ℕ, zero, suc, ◌+◌, ◌-◌, ◌*◌, ◌/◌, ◌%◌, ◌^◌, ◌<◌, ◌≤◌, List, [], ◌∷◌, ◌++◌}
+use Rattle.std.proofs.Common.{length, take}
 use Rattle.std.proofs.Common.{get_or, refl, sym, ap, ◌∙◌, subst, arith, eqb}
 use Rattle.std.proofs.lemmas.Bool.{cond-false, ne_eqb}
 use Rattle.std.proofs.lemmas.List.{take_more, take_all}
@@ -16,7 +17,8 @@ pub digits_none : (digits : List ℕ) → AreDigits digits 0 0
 unfolding last_digits
 digits_none digits = record { low = omega arith; same = refl }
 
-pub digits_more : (digits : List ℕ) (count number d : ℕ) → AreDigits digits count number → count < length digits → d < 10
+pub digits_more : (digits : List ℕ) (count number d : ℕ) → AreDigits digits count number → count < length digits
+    → d < 10
     → 48 + d ≡ get_or digits count 0 → AreDigits digits (count + 1) (number * 10 + d)
 digits_more digits count number d is lt low here =
     let next : count + 1 ≡ suc count = omega arith in

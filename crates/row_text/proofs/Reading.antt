@@ -4,7 +4,8 @@ use Rattle.std.proofs.Common.{refl, sym, ap, ◌∙◌, subst, arith, append_ass
 use Rattle.std.specs.Prelude.{slice_get}
 use Rattle.std.specs.List.{AllZip}
 use Rattle.std.proofs.lemmas.Bool.{cond-false, ne_eqb}
-use Rattle.std.proofs.lemmas.List.{append-nil, append_cancel_left, take_more, drop-drop, length_push, take_all, length-drop}
+use Rattle.std.proofs.lemmas.List.{append-nil, append_cancel_left, take_more, drop-drop, length_push, take_all}
+use Rattle.std.proofs.lemmas.List.{length-drop}
 use Rattle.std.proofs.lemmas.Option.{slice_get_within, get_or_from_slice_get}
 use Rattle.column_values.specs.declared.value.Value.{Value}
 use Rattle.column_values.specs.declared.value.Value.TheVariants.{Null}
@@ -29,7 +30,8 @@ row_size [] (v ∷ row) fits = absurd fits
 row_size (c ∷ columns) [] fits = absurd fits
 row_size (c ∷ columns) (v ∷ row) fits = ap suc (row_size columns row fits.1)
 
-pub fits_at : (columns : List Column) (row : List Value) (k : ℕ) (d : Column) (e : Value) → AllZip FitsColumn columns row
+pub fits_at : (columns : List Column) (row : List Value) (k : ℕ) (d : Column) (e : Value)
+    → AllZip FitsColumn columns row
     → k < length columns → FitsColumn (get_or columns k d) (get_or row k e)
 fits_at [] [] k d e fits lt = absurd (omega (arith, lt))
 fits_at [] (v ∷ row) k d e fits lt = absurd fits
@@ -39,14 +41,17 @@ fits_at (c ∷ columns) (v ∷ row) (suc k) d e fits lt = fits_at columns row k 
 
 -- one value more
 fits_more : (columns : List Column) (values : List Value) (column : Column) (v : Value)
-    → AllZip FitsColumn columns values → FitsColumn column v → AllZip FitsColumn (columns ++ column ∷ []) (values ++ v ∷ [])
+    → AllZip FitsColumn columns values → FitsColumn column v
+    → AllZip FitsColumn (columns ++ column ∷ []) (values ++ v ∷ [])
 fits_more [] [] column v fits more = (more, tt)
 fits_more [] (w ∷ values) column v fits more = absurd fits
 fits_more (c ∷ columns) [] column v fits more = absurd fits
 fits_more (c ∷ columns) (w ∷ values) column v fits more = (fits.0, fits_more columns values column v fits.1 more)
 
-led_more : (columns : List Column) (values : List Value) (column : Column) (v : Value) → AllZip FitsColumn columns values
-    → led_values (columns ++ column ∷ []) (values ++ v ∷ []) ≡ led_values columns values ++ comma ∷ value_text column.kind v
+led_more : (columns : List Column) (values : List Value) (column : Column) (v : Value)
+    → AllZip FitsColumn columns values
+    → led_values (columns ++ column ∷ []) (values ++ v ∷ [])
+    ≡ led_values columns values ++ comma ∷ value_text column.kind v
 led_more [] [] column v fits = ap (λ (t : List ℕ). comma ∷ t) (append-nil (value_text column.kind v))
 led_more [] (w ∷ values) column v fits = absurd fits
 led_more (c ∷ columns) [] column v fits = absurd fits
@@ -125,7 +130,8 @@ next_is columns column text values row at is read has =
     let there = append_cancel_left (joined_values (take k columns) values) (drop at text) rest same in
     record {
       more = more;
-      fits = subst (λ (c : Column). FitsColumn c (get_or row k Null)) here (fits_at columns row k column Null has.fits lt);
+      fits = subst (λ (c : Column). FitsColumn c (get_or row k Null)) here
+          (fits_at columns row k column Null has.fits lt);
       there = there ∙ ap (λ (c : Column). before_value k ++ (value_text c.kind (get_or row k Null) ++ more)) here;
       ends = subst EndsValue (append-nil more) (ends_led (drop (suc k) columns) (drop (suc k) row) [] tt);
     }
@@ -134,13 +140,16 @@ next_is columns column text values row at is read has =
 row_value : (columns : List Column) (column : Column) (text rest : List ℕ) (values row : List Value) (at place : ℕ)
     (v : Value) → IsColumnType column.kind → slice_get columns (length values) ≡ Some column
     → HasRead columns text values at → drop at text ≡ before_value (length values) ++ drop place text
-    → BeginsColumn column v (drop place text) rest → IsColumnsText columns row text → get_or row (length values) Null ≡ v
+    → BeginsColumn column v (drop place text) rest → IsColumnsText columns row text
+    → get_or row (length values) Null ≡ v
 row_value columns column text rest values row at place v known is read led begins has =
     let next = next_is columns column text values row at is read has in
     let u : Value = get_or row (length values) Null in
-    let same = append_cancel_left (before_value (length values)) (drop place text) (value_text column.kind u ++ next.more)
+    let same = append_cancel_left (before_value (length values)) (drop place text)
+    (value_text column.kind u ++ next.more)
     (sym led ∙ next.there) in
-    (one_column column u v next.more rest known next.fits begins.fits (sym same ∙ begins.spelled) next.ends begins.ends).0
+    (one_column column u v next.more rest known next.fits begins.fits
+    (sym same ∙ begins.spelled) next.ends begins.ends).0
 
 pub next_found : (columns : List Column) (column : Column) (text : List ℕ) (values : List Value) (at place n : ℕ)
     (v : Value) → IsColumnType column.kind → slice_get columns (length values) ≡ Some column
@@ -164,13 +173,15 @@ next_found columns column text values at place n v known is read led begins =
       few = omega (arith, size, lt);
       fits = subst (λ (cs : List Column). AllZip FitsColumn cs (values ++ v ∷ [])) (sym there)
           (fits_more (take k columns) values column v read.fits begins.fits);
-      spelled = read.spelled ∙ ap (λ (t : List ℕ). old ++ t) (led ∙ ap (λ (t : List ℕ). before_value k ++ t) (begins.spelled
+      spelled = read.spelled
+          ∙ ap (λ (t : List ℕ). old ++ t) (led ∙ ap (λ (t : List ℕ). before_value k ++ t) (begins.spelled
           ∙ ap (λ (t : List ℕ). text_v ++ t) rest) ∙ sym (append_assoc (before_value k) text_v (drop (place + n) text)))
           ∙ sym (append_assoc old (before_value k ++ text_v) (drop (place + n) text))
           ∙ ap (λ (t : List ℕ). t ++ drop (place + n) text) (sym joined
           ∙ ap (λ (cs : List Column). joined_values cs (values ++ v ∷ [])) (sym there));
       only = λ row has.
-          let same = row_value columns column text (drop n (drop place text)) values row at place v known is read led begins has in
+          let same = row_value columns column text
+          (drop n (drop place text)) values row at place v known is read led begins has in
           let within : k < length row = omega (arith, lt, row_size columns row has.fits) in
           ap (λ (m : ℕ). take m row) size ∙ take_more row k Null within
           ∙ ap (λ (front : List Value). front ++ get_or row k Null ∷ []) (read.only row has)

@@ -58,13 +58,17 @@ stamp_word f seconds moment word few most none is second =
     record {
       is_value = (bytes, spelled.are_bytes, spelled.spell);
       spelled = is.spelled
-          ∙ ap (λ (t : List ℕ). quoted (t ++ 32 ∷ time_text f moment.time.hour moment.time.minute moment.time.second moment.micro))
+          ∙ ap (λ (t : List ℕ). quoted
+          (t ++ 32 ∷ time_text f moment.time.hour moment.time.minute moment.time.second moment.micro))
           (sym second.date)
-          ∙ ap (λ (h : ℕ). quoted (day_text seconds ++ 32 ∷ time_text f h moment.time.minute moment.time.second moment.micro))
+          ∙ ap (λ (h : ℕ). quoted
+          (day_text seconds ++ 32 ∷ time_text f h moment.time.minute moment.time.second moment.micro))
           (sym second.hour)
-          ∙ ap (λ (m : ℕ). quoted (day_text seconds ++ 32 ∷ time_text f (seconds / 3600 % 24) m moment.time.second moment.micro))
+          ∙ ap (λ (m : ℕ). quoted
+          (day_text seconds ++ 32 ∷ time_text f (seconds / 3600 % 24) m moment.time.second moment.micro))
           (sym second.minute)
-          ∙ ap (λ (s : ℕ). quoted (day_text seconds ++ 32 ∷ time_text f (seconds / 3600 % 24) (seconds / 60 % 60) s moment.micro))
+          ∙ ap (λ (s : ℕ). quoted
+          (day_text seconds ++ 32 ∷ time_text f (seconds / 3600 % 24) (seconds / 60 % 60) s moment.micro))
           (sym second.second);
     }
 

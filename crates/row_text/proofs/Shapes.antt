@@ -7,7 +7,8 @@ use Rattle.std.specs.Fmt.{decimal, signed_decimal}
 use Rattle.std.proofs.lemmas.Int.{ints}
 use Rattle.std.proofs.Math.Nat.{pow-le-pow_right}
 use Rattle.std.proofs.lemmas.Bool.{eqb-true, eqb-false, leb-true, or_cases, and_parts, not-true, cond_both}
-use Rattle.std.proofs.lemmas.List.Elements.{All-nil, All-cons, All-head, All-tail, All-append, All-get_or, All-from_get_or}
+use Rattle.std.proofs.lemmas.List.Elements.{All-nil, All-cons, All-head, All-tail, All-append, All-get_or}
+use Rattle.std.proofs.lemmas.List.Elements.{All-from_get_or}
 use Rattle.std.proofs.lemmas.Fmt.{decimal_is_IsNumeral_wide}
 use Rattle.std.proofs.lemmas.Str.Parse.{digit_at}
 use Rattle.hex.specs.Hex.{encode_with, encode_lower, lower_digits}
@@ -20,8 +21,10 @@ use Rattle.column_values.specs.Types.{IsColumnType}
 use Rattle.column_values.specs.Spell.{IsValueOf, IsInRange}
 use Rattle.column_values.proofs.IntegerValues.{integer_in_range, num-below}
 use Rattle.column_values.proofs.Numbers.{half_is_most, pow256_most}
-use Rattle.row_text.specs.Digits.{last_digits, two_digits, four_digits, behind_point, sign_text, whole_text, decimal_text}
-use Rattle.row_text.specs.Values.{escaped_text, quoted, hex_text, hex_or_empty, date_text, clock_text, time_text, moment_text}
+use Rattle.row_text.specs.Digits.{last_digits, two_digits, four_digits, behind_point, sign_text, whole_text}
+use Rattle.row_text.specs.Digits.{decimal_text}
+use Rattle.row_text.specs.Values.{escaped_text, quoted, hex_text, hex_or_empty, date_text, clock_text, time_text}
+use Rattle.row_text.specs.Values.{moment_text}
 use Rattle.row_text.specs.Values.{day_text, timestamp_text, value_text}
 use Rattle.row_text.specs.calls.Values.{EndsValue}
 use Rattle.row_text.proofs.Quotes.{IsSafe, safe_escaped, quoted_apart}
@@ -182,7 +185,8 @@ raw_shape raw are = cond_both (eqb (length raw) 0) (quoted []) (hex_text raw) Ha
 pub shape : (kind : ColumnType) (value : Value) → IsColumnType kind → IsValueOf kind value
     → HasShape (value_text kind value)
 shape (types.Int w true) (values.Signed z) known is =
-    inl (signed_safe z (signed_low w z known (integer_in_range w true (values.Signed z) z (omega (arith, known)) refl is)))
+    inl (signed_safe z (signed_low w z known
+    (integer_in_range w true (values.Signed z) z (omega (arith, known)) refl is)))
 shape (types.Int w false) (values.Unsigned n) known is =
     inl (decimal_safe n (omega (arith, unsigned_low w n known is)))
 shape types.Date (values.Date year month day) known is = safe_in_quotes (date_text year month day)

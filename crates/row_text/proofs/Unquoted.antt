@@ -28,7 +28,8 @@ written_byte : (text room rest : List ℕ) (n at byte size : ℕ) → n < length
     → rest ≡ drop at text → LeadsByte byte size rest → IsWritten text (set room n byte) (n + 1) (at + size)
 written_byte text room rest n at byte size lt is left leads =
     let whole : drop at text ≡ escaped byte ++ drop (at + size) text = sym left ∙ leads.spelled
-    ∙ ap (λ (t : List ℕ). escaped byte ++ drop size t) left ∙ ap (λ (t : List ℕ). escaped byte ++ t) (drop-drop size at text) in
+    ∙ ap (λ (t : List ℕ). escaped byte ++ drop size t) left
+    ∙ ap (λ (t : List ℕ). escaped byte ++ t) (drop-drop size at text) in
     let longer : escaped_text (take (n + 1) (set room n byte)) ≡ escaped_text (take n room) ++ escaped byte =
     ap escaped_text (take_more_set room n byte lt) ∙ escaped_append (take n room) (byte ∷ [])
     ∙ ap (λ (t : List ℕ). escaped_text (take n room) ++ t) (alone byte) in record {
@@ -85,18 +86,22 @@ pub written_run : (text room rest run other : List ℕ) (n at k : ℕ) → IsWri
     → run ≡ take 16 rest → other ≡ run → IsPlain (take k run) → k ≤ 16 → at + 16 ≤ length text → n + 16 ≤ length room
     → IsWritten text (put_mid n (n + 16 - n) room other) (n + k) (at + k)
 written_run text room rest run other n at k is left cut same plain most fits space =
-    let size : length run ≡ 16 = ap length cut ∙ length-take-le 16 rest (omega (arith, fits, ap length left, length-drop at text)) in
+    let size : length run ≡ 16 =
+    ap length cut ∙ length-take-le 16 rest (omega (arith, fits, ap length left, length-drop at text)) in
     let long : length other ≡ 16 = ap length same ∙ size in
-    let front : take k run ≡ take k (drop at text) = ap (take k) (cut ∙ ap (take 16) left) ∙ take-take k 16 (drop at text) most in
+    let front : take k run ≡ take k (drop at text) =
+    ap (take k) (cut ∙ ap (take 16) left) ∙ take-take k 16 (drop at text) most in
     let wrote : take (n + k) (put_mid n (n + 16 - n) room other) ≡ take n room ++ take k run =
     sym (take-take (n + k) (n + 16) (put_mid n (n + 16 - n) room other) (omega (arith, most)))
     ∙ ap (take (n + k)) (take-put_mid n (n + 16 - n) room other (n + 16) (omega (arith, long)) (omega (arith, space))
     ∙ ap (λ (t : List ℕ). take n room ++ t) same)
     ∙ take_behind (take n room) run (n + k) k (omega (arith, length-take-le n room (omega (arith, space)))) in
-    let longer : escaped_text (take (n + k) (put_mid n (n + 16 - n) room other)) ≡ escaped_text (take n room) ++ take k (drop at text) =
+    let longer : escaped_text (take (n + k) (put_mid n (n + 16 - n) room other))
+    ≡ escaped_text (take n room) ++ take k (drop at text) =
     ap escaped_text wrote ∙ escaped_append (take n room) (take k run)
     ∙ ap (λ (t : List ℕ). escaped_text (take n room) ++ t) (escaped_plain (take k run) plain ∙ front) in
-    let whole_text : drop at text ≡ take k (drop at text) ++ drop (at + k) text = sym (take-append-drop k (drop at text))
+    let whole_text : drop at text ≡ take k (drop at text) ++ drop (at + k) text =
+    sym (take-append-drop k (drop at text))
     ∙ ap (λ (t : List ℕ). take k (drop at text) ++ t) (drop-drop k at text) in record {
       same = is.same ∙ ap (λ (t : List ℕ). escaped_text (take n room) ++ t) whole_text
           ∙ sym (append_assoc (escaped_text (take n room)) (take k (drop at text)) (drop (at + k) text))
@@ -130,7 +135,8 @@ pub plain_taken : (old new text plain rest : List ℕ) (n : ℕ) → IsPlain (ta
 plain_taken old new text plain rest n self front back grown = record {
   bytes = take n text;
   grown = grown ∙ ap (λ (t : List ℕ). old ++ t) front;
-  spelled = sym (take-append-drop n text) ∙ ap (λ (t : List ℕ). t ++ drop n text) (sym (escaped_plain (take n text) self))
+  spelled = sym (take-append-drop n text)
+      ∙ ap (λ (t : List ℕ). t ++ drop n text) (sym (escaped_plain (take n text) self))
       ∙ ap (λ (t : List ℕ). escaped_text (take n text) ++ t) (sym back);
 }
 
@@ -145,7 +151,8 @@ read_more text list list2 rest more is takes =
     ∙ ap (λ (t : List ℕ). 39 ∷ (t ++ more)) (sym longer)
 
 -- what is left, counted from the end
-pub left_at : (text front rest : List ℕ) (n : ℕ) → text ≡ front ++ rest → n ≡ length text - length rest → drop n text ≡ rest
+pub left_at : (text front rest : List ℕ) (n : ℕ) → text ≡ front ++ rest → n ≡ length text - length rest
+    → drop n text ≡ rest
 left_at text front rest n e place =
     let size : length text ≡ length front + length rest = ap length e ∙ length-append front rest in
     ap (λ (k : ℕ). drop k text) (place ∙ omega (arith, size)) ∙ ap (drop (length front)) e
@@ -157,14 +164,16 @@ quote_read text list rest more n is stop place =
     let whole : text ≡ quoted (escaped_text list) ++ more =
     is ∙ ap (λ (t : List ℕ). 39 ∷ (escaped_text list ++ t)) stop
     ∙ ap (λ (t : List ℕ). 39 ∷ t) (sym (append_assoc (escaped_text list) (39 ∷ []) more)) in
-    whole ∙ ap (λ (t : List ℕ). quoted (escaped_text list) ++ t) (sym (left_at text (quoted (escaped_text list)) more n whole place))
+    whole ∙ ap (λ (t : List ℕ). quoted (escaped_text list) ++ t)
+    (sym (left_at text (quoted (escaped_text list)) more n whole place))
 
 -- no text in quotes stands there
 no_more : (text inside rest : List ℕ) → LeadsNoByte text → ((more : List ℕ) → text ≢ 39 ∷ more)
     → text ≡ escaped_text inside ++ 39 ∷ rest → ⊥
 unfolding escaped_text
 no_more text [] rest none other e = other rest e
-no_more text (byte ∷ inside) rest none other e = none byte (escaped_text inside ++ 39 ∷ rest) (e ∙ append_assoc (escaped byte) _ _)
+no_more text (byte ∷ inside) rest none other e =
+    none byte (escaped_text inside ++ 39 ∷ rest) (e ∙ append_assoc (escaped byte) _ _)
 
 pub none_left : (text list more : List ℕ) → text ≡ 39 ∷ (escaped_text list ++ more) → LeadsNoByte more
     → ((rest : List ℕ) → more ≢ 39 ∷ rest) → (inside rest : List ℕ) → text ≢ quoted (escaped_text inside) ++ rest

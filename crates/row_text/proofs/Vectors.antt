@@ -60,7 +60,10 @@ pub plain_run : (run lanes marks : List ℕ) (bits n : ℕ) → length run ≡ 1
     → IsPlain (take n run)
 plain_run run lanes marks bits n size loaded marked tops below most k d lt =
     let here : k < n = omega (arith, lt, size, most, length-take-le n run (omega (arith, size, most))) in
-    let low : get_or marks k 0 < 128 = omega (arith, λ (high : 128 ≤ get_or marks k 0). below k here ((tops k).1 high)) in
+    let low : get_or marks k 0 < 128 =
+    omega (arith, λ (high : 128 ≤ get_or marks k 0). below k here ((tops k).1 high)) in
     let plain : escape_letter (get_or run k 0) ≡ 0 =
-    subst (λ b. escape_letter b ≡ 0) (loaded.each k (omega (arith, here, most))) (marked k (omega (arith, here, most)) low) in
-    subst (λ b. escape_letter b ≡ 0) (sym (get_or-take n run k d here ∙ get_or_default run k d 0 (omega (arith, here, most, size)))) plain
+    subst (λ b. escape_letter b ≡ 0) (loaded.each k (omega (arith, here, most)))
+    (marked k (omega (arith, here, most)) low) in
+    subst (λ b. escape_letter b ≡ 0)
+    (sym (get_or-take n run k d here ∙ get_or_default run k d 0 (omega (arith, here, most, size)))) plain

@@ -1,5 +1,6 @@
 -- The line of a row that is written value after value.
-use Rattle.std.proofs.Common.{◌≡◌, ℕ, zero, suc, ◌+◌, ◌<◌, List, ◌++◌, length, get_or, sym, ap, ◌∙◌, subst, arith, append_assoc}
+use Rattle.std.proofs.Common.{◌≡◌, ℕ, zero, suc, ◌+◌, ◌<◌, List, ◌++◌, length, get_or, sym, ap, ◌∙◌, subst, arith}
+use Rattle.std.proofs.Common.{append_assoc}
 use Rattle.std.proofs.lemmas.List.{get_or_read}
 use Rattle.column_values.specs.declared.value.Value.{Value}
 use Rattle.column_values.specs.declared.value.Value.TheVariants.{Null}
@@ -72,7 +73,8 @@ pair_at table row vals cols k column value fits whole same lt is_column is_value
 pub pair_fits : (table : TableDef) (row : List Value) (k : ℕ) (column : Column) (value : Value) → IsTableRow table row
     → IsPair table row k column value → FitsColumn column value
 pair_fits table row k column value fits is =
-    subst (λ (v : Value). FitsColumn column v) (sym is.value_is) (subst (λ (c : Column). FitsColumn c (get_or row k Null))
+    subst (λ (v : Value). FitsColumn column v) (sym is.value_is)
+    (subst (λ (c : Column). FitsColumn c (get_or row k Null))
     (sym is.column_is) (fits_at table.columns row k _ Null fits is.within))
 
 pub pair_text : (table : TableDef) (row : List Value) (k : ℕ) (column : Column) (value : Value)

@@ -5,7 +5,8 @@ use Rattle.std.proofs.Common.{arith, eqb, position}
 use Rattle.std.specs.Prelude.{All, unsigned_abs}
 use Rattle.std.proofs.lemmas.Bool.{eqb-true, eqb-false, or_cases, or_parts}
 use Rattle.std.proofs.lemmas.List.{take-append-drop, drop_more, get_or-take, length-take-le, drop_all, append-nil}
-use Rattle.std.proofs.lemmas.List.Elements.{All-nil, All-cons, All-head, All-tail, All-append, All-from_get_or, All-weaker}
+use Rattle.std.proofs.lemmas.List.Elements.{All-nil, All-cons, All-head, All-tail, All-append, All-from_get_or}
+use Rattle.std.proofs.lemmas.List.Elements.{All-weaker}
 use Rattle.std.proofs.lemmas.List.Quantifiers.{position-Some}
 use Rattle.schema_text.proofs.Positions.{none_passes}
 use Rattle.column_values.specs.declared.kind.ColumnType.{ColumnType}
@@ -62,7 +63,8 @@ cut_all text none =
     record {
       cut = sym (append-nil text) ∙ ap (λ (t : List ℕ). text ++ t) (sym rest);
       ends = subst EndsValue (sym rest) tt;
-      lacks = All-from_get_or IsInside text 0 (λ i lt. inside_of (get_or text i 0) (none_passes is_end text none i 0 lt));
+      lacks = All-from_get_or IsInside text 0
+          (λ i lt. inside_of (get_or text i 0) (none_passes is_end text none i 0 lt));
       within = omega arith;
     }
 

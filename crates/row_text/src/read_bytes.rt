@@ -1,6 +1,7 @@
 //! Bytes in hexadecimal digits, which are read in pieces and each once.
 
-ghost use Rattle.std.specs.Prelude.{◌≡◌, ◌≢◌, ℕ, ◌*◌, ◌<◌, ◌≤◌, ◌↔◌, ◌++◌, ◌/◌, ◌%◌, List, [], false, codes, length, drop};
+ghost use Rattle.std.specs.Prelude.{◌≡◌, ◌≢◌, ℕ, ◌*◌, ◌<◌, ◌≤◌, ◌↔◌, ◌++◌, ◌/◌, ◌%◌, List, [], false, codes, length};
+ghost use Rattle.std.specs.Prelude.{drop};
 ghost use Rattle.std.specs.Prelude.{slice_index, MatchOption, IsTrue, IfOk};
 ghost use Rattle.hex.specs.Hex.{encode_lower, lower_digits};
 ghost use Rattle.page_source.specs.Pages.{AreBytes};

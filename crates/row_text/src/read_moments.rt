@@ -1,6 +1,7 @@
 //! Dates and moments.
 
-ghost use Rattle.std.specs.Prelude.{◌≡◌, ◌≢◌, ℕ, ◌+◌, ◌^◌, ◌<◌, ◌≤◌, ◌∷◌, List, length, MatchOption, IfSome, IsNone, IsTrue, ◌↔◌, ◌-◌, ◌/◌};
+ghost use Rattle.std.specs.Prelude.{◌≡◌, ◌≢◌, ℕ, ◌+◌, ◌^◌, ◌<◌, ◌≤◌, ◌∷◌, List, length, MatchOption, IfSome, IsNone};
+ghost use Rattle.std.specs.Prelude.{IsTrue, ◌↔◌, ◌-◌, ◌/◌};
 ghost use Rattle.column_values.specs.declared.kind.ColumnType.{ColumnType};
 ghost use Rattle.row_text.specs.calls.Words.{FindsWord};
 ghost use Rattle.row_text.specs.calls.Moments.{IsMomentWord, IsLowMoment, IsNoSecond, IsSecondOf};

@@ -99,8 +99,8 @@ fn write_plain(text: &[u8], at: usize, room: &mut [u8], n: usize, most: usize) -
     most
 }
 
-/// Writes a vector of bytes, up to the first that is escaped. All of them are written, and those past the answer will be
-/// written over.
+/// Writes a vector of bytes, up to the first that is escaped. All of them are written, and those past the answer will
+/// be written over.
 #[inline(always)]
 fn write_lanes(text: &[u8], at: usize, room: &mut [u8], n: usize) -> usize
     requires written { IsWritten text.now room.old n at }

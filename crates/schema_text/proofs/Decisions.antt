@@ -1,10 +1,12 @@
 -- Each condition on a line of a schema's text is decided.
-use Rattle.std.proofs.Common.{◌≡◌, ◌≢◌, ℕ, ◌+◌, ◌<◌, ◌≤◌, ◌⊎◌, Bool, true, false, List, [], ◌∷◌, length, drop, get_or, All}
+use Rattle.std.proofs.Common.{◌≡◌, ◌≢◌, ℕ, ◌+◌, ◌<◌, ◌≤◌, ◌⊎◌, Bool, true, false, List, [], ◌∷◌, length, drop, get_or}
+use Rattle.std.proofs.Common.{All}
 use Rattle.std.proofs.Common.{refl, sym, ap, ◌∙◌, subst, inl, inr, arith}
 use Rattle.std.specs.Prelude.{codes, decimal, sum_by, min}
 use Rattle.std.specs.List.{AllPairs, Any}
 use Rattle.std.proofs.lemmas.Bool.{false≢true}
-use Rattle.page_source.proofs.Decided.{IsDecided, same_decided, both_decided, three_decided, either_decided, not_decided}
+use Rattle.page_source.proofs.Decided.{IsDecided, same_decided, both_decided, three_decided, either_decided}
+use Rattle.page_source.proofs.Decided.{not_decided}
 use Rattle.page_source.proofs.Decided.{given_decided}
 use Rattle.page_source.proofs.Decided.{number_decided, below_decided, most_decided, truth_decided, text_decided}
 use Rattle.page_source.proofs.Decided.{texts_decided, all_decided, any_decided, pairs_decided, some_decided}
@@ -18,10 +20,14 @@ use Rattle.schema_text.specs.declared.table.Format.TheVariants.{Compact, Dynamic
 use Rattle.schema_text.specs.declared.table.Column.{Column}
 use Rattle.schema_text.specs.declared.table.IndexDef.{IndexDef}
 use Rattle.schema_text.specs.TableDef.{TableDef}
-use Rattle.schema_text.specs.Grammar.{IsNameByte, IsName, IsRoot, FitsKey, type_words, utf8_word, format_word, nullity_word}
-use Rattle.schema_text.specs.Refusals.{Line, word, last_word, type_part, IsTypePart, IsSizedWord, IsSizedForm, IsUtf8Form}
-use Rattle.schema_text.specs.Refusals.{IsDecimalForm, IsTypeForm, IsTableForm, IsColumnForm, IsClusteredForm, IsIndexForm}
-use Rattle.schema_text.specs.Refusals.{IsNewColumn, IsDeclared, columns_named, IsRootWord, HasCounts, HasNewNames, HasKey}
+use Rattle.schema_text.specs.Grammar.{IsNameByte, IsName, IsRoot, FitsKey, type_words, utf8_word, format_word}
+use Rattle.schema_text.specs.Grammar.{nullity_word}
+use Rattle.schema_text.specs.Refusals.{Line, word, last_word, type_part, IsTypePart, IsSizedWord, IsSizedForm}
+use Rattle.schema_text.specs.Refusals.{IsUtf8Form}
+use Rattle.schema_text.specs.Refusals.{IsDecimalForm, IsTypeForm, IsTableForm, IsColumnForm, IsClusteredForm}
+use Rattle.schema_text.specs.Refusals.{IsIndexForm}
+use Rattle.schema_text.specs.Refusals.{IsNewColumn, IsDeclared, columns_named, IsRootWord, HasCounts, HasNewNames}
+use Rattle.schema_text.specs.Refusals.{HasKey}
 use Rattle.schema_text.specs.Refusals.{IsNewRoot}
 
 name_byte : (b : ℕ) → IsDecided (IsNameByte b)

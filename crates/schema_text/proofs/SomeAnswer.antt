@@ -24,7 +24,8 @@ use Rattle.schema_text.specs.Refusals.{ColumnChecks, KeyChecks, ClusteredLineChe
 use Rattle.schema_text.specs.Refusals.{AreLinesOf, BehindChecks, AtLine, LineChecks, EndsWell, SchemaChecks}
 use Rattle.schema_text.proofs.PartLemmas.{part_begun, words_begun}
 use Rattle.schema_text.proofs.GoodLines.{grow}
-use Rattle.schema_text.proofs.Decisions.{name_decided, part_decided, table_form, column_form, clustered_form, index_form}
+use Rattle.schema_text.proofs.Decisions.{name_decided, part_decided, table_form, column_form, clustered_form}
+use Rattle.schema_text.proofs.Decisions.{index_form}
 use Rattle.schema_text.proofs.Decisions.{new_column, declared_decided, root_word, counts_decided, new_names, new_root}
 use Rattle.schema_text.proofs.Decisions.{key_decided}
 

@@ -41,7 +41,8 @@ pub row_goes_on : (table : TableDef) (a b d : Option (List ℕ)) (c came : ℕ) 
 row_goes_on table a b d c came kind so within came_is kind_is next =
     let columns = table.columns in
     let front = take c columns in
-    let size : length front ≡ length so.row = omega (arith, length-take-le c columns (omega (arith, within)), so.count) in
+    let size : length front ≡ length so.row =
+    omega (arith, length-take-le c columns (omega (arith, within)), so.count) in
     let more : joined_values (take (c + 1) columns) (so.row ++ next.0 ∷ [])
     ≡ joined_values front so.row ++ (before_value came ++ value_text kind next.0) =
     ap (λ (cs : List Column). joined_values cs (so.row ++ next.0 ∷ [])) (take_more columns c _ within)

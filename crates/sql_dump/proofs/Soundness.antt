@@ -34,7 +34,8 @@ use Rattle.tree_walk.specs.Leaf.{IsWalked}
 use Rattle.tree_walk.specs.Records.{IsRecord}
 use Rattle.tree_walk.specs.Laws.{RowsCanBeRead}
 use Rattle.table_check.specs.Trees.{clustered_tree, index_in}
-use Rattle.table_check.specs.Values.{bytes_at, front_of, ValueChecks, FieldChecks, RecordChecks, RecordChecksBy, live_rows}
+use Rattle.table_check.specs.Values.{bytes_at, front_of, ValueChecks, FieldChecks, RecordChecks, RecordChecksBy}
+use Rattle.table_check.specs.Values.{live_rows}
 use Rattle.table_check.specs.Values.{pages_of_part, pages_of_rows, RowChecks}
 use Rattle.table_check.specs.Rows.{IsWholeValue, HasValue, place_of_column, IsRow, AreRows}
 use Rattle.sql_dump.specs.Long.{chain_bytes, stated_length}

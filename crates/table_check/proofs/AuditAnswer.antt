@@ -168,7 +168,8 @@ lists_answered file =
 
 slots_answered : (file : List ℕ) (earlier : List Address) (place : Address) → HasAnswer (SlotsCheck file earlier place)
 slots_answered file earlier place =
-    EachOf-answered (inode_of file place).slots (SlotCheck file place) (λ slots slot. holds _ _ _ (slot_decided file slot))
+    EachOf-answered (inode_of file place).slots (SlotCheck file place)
+    (λ slots slot. holds _ _ _ (slot_decided file slot))
 
 counts_answered : (file : List ℕ) → HasAnswer (CountChecks file)
 counts_answered file =

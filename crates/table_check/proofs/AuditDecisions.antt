@@ -3,7 +3,8 @@ use Rattle.std.proofs.Common.{◌≡◌, ◌≢◌, ℕ, ◌+◌, ◌*◌, ◌/�
 use Rattle.std.proofs.Common.{Option, Some, None, ap, inl, inr}
 use Rattle.page_source.specs.Pages.{page_of, num, fil_null}
 use Rattle.page_source.specs.Lists.{AreDistinct, HaveSameMembers}
-use Rattle.page_source.proofs.Decided.{IsDecided, same_decided, both_decided, three_decided, either_decided, not_decided}
+use Rattle.page_source.proofs.Decided.{IsDecided, same_decided, both_decided, three_decided, either_decided}
+use Rattle.page_source.proofs.Decided.{not_decided}
 use Rattle.page_source.proofs.Decided.{given_decided, number_decided, below_decided, most_decided, truth_decided}
 use Rattle.page_source.proofs.Decided.{pairs_decided, contains_decided, members_decided}
 use Rattle.page_source.proofs.Decided.{list_decided}
@@ -141,7 +142,8 @@ new_id_decided file earlier id =
     (not_decided (contains_decided (map (segment_id file) earlier) id)))
 
 -- lists of extents
-points_decided : (address : ℕ → Address) (found : Address) (member : Option ℕ) → IsDecided (PointsTo address found member)
+points_decided : (address : ℕ → Address) (found : Address) (member : Option ℕ)
+    → IsDecided (PointsTo address found member)
 points_decided address found None = null_decided found
 points_decided address found (Some member) = address_decided found (address member)
 

@@ -10,7 +10,8 @@ use Rattle.page_source.proofs.Answered.{HasAnswer, Check-answered, Then-answered
 pub holds : (rule : Rule) (page : ℕ) (condition : Type 0) → IsDecided condition → HasAnswer (Holds rule page condition)
 holds rule page condition decided = Check-answered _ condition decided
 
-pub before : {F : Type 0} (fault : F) (condition : Type 0) (rest : Option F → Type 0) → IsDecided condition → HasAnswer rest
+pub before : {F : Type 0} (fault : F) (condition : Type 0) (rest : Option F → Type 0) → IsDecided condition
+    → HasAnswer rest
     → HasAnswer (Then (Check fault condition) rest)
 before fault condition rest decided more = Then-answered _ rest (Check-answered fault condition decided) (λ _. more)
 

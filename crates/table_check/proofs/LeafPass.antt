@@ -110,7 +110,8 @@ one_came n old mid new last now have hops is =
         fetches = omega (arith, hop.1, have.come.fetches, length-append came (held ∷ []));
       };
       due = λ k at.
-          let next : k ≡ next_page new.page = due_one new now k (next_page new.page) at (inr (omega (arith, is), refl)) in
+          let next : k ≡ next_page new.page =
+          due_one new now k (next_page new.page) at (inr (omega (arith, is), refl)) in
           next ∙ sym (due_more n held came);
     }
 

@@ -6,13 +6,15 @@ use Rattle.std.specs.List.{AllPairs}
 use Rattle.std.specs.declared.cmp.Ordering.{Ordering}
 use Rattle.std.specs.declared.cmp.Ordering.TheVariants.{Less, Equal, Greater}
 use Rattle.std.proofs.lemmas.Bool.{false≢true}
-use Rattle.page_source.proofs.Decided.{IsDecided, same_decided, both_decided, three_decided, either_decided, not_decided}
+use Rattle.page_source.proofs.Decided.{IsDecided, same_decided, both_decided, three_decided, either_decided}
+use Rattle.page_source.proofs.Decided.{not_decided}
 use Rattle.page_source.proofs.Decided.{given_decided, number_decided, below_decided, most_decided, truth_decided}
 use Rattle.page_source.proofs.Decided.{text_decided, all_decided, pairs_decided, some_decided, every_decided}
 use Rattle.column_values.specs.Types.{Fields, field_at}
 use Rattle.column_values.specs.Order.{Key, key_cmp, IsBelow, AreEqualKeys}
 use Rattle.compact_record.specs.Header.{next_field, next_origin, heap_number, status_of, owned_by}
-use Rattle.compact_record.specs.Reading.{head_length, has_long_length, is_external, local_length, record_start, record_end}
+use Rattle.compact_record.specs.Reading.{head_length, has_long_length, is_external, local_length, record_start}
+use Rattle.compact_record.specs.Reading.{record_end}
 use Rattle.compact_record.specs.Reading.{field_count, FieldIsSpelled, IsSpelled, key_of, key_kinds}
 use Rattle.index_page.specs.Header.{infimum, supremum, slot_count, heap_top, heap_field, heap_count, first_free}
 use Rattle.index_page.specs.Header.{record_count, records_of, free_of, heap_of, slot_at}

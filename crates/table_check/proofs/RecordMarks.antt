@@ -142,7 +142,8 @@ module _ {S : Type 0} {g : FileOf S} {first old : S} {start before : List Bool} 
         let one = subst (λ (p : Place). OfFile g old
         (λ file. spent ≤ mid + length (pages_of_field_on file leaf field.kind p))) is_place here in
         let two = subst (λ (f : Field). OfFile g old
-        (λ file. spent ≤ mid + length (pages_of_field_on file leaf f.kind (place_of page origin fields i)))) is_field one
+        (λ file. spent ≤ mid + length (pages_of_field_on file leaf f.kind (place_of page origin fields i)))) is_field
+        one
         in
         let three = subst (λ (o : Option (List ℕ)). IfSome o (λ file. spent ≤ mid + length (pages_here file)))
         have.has.same two in
@@ -180,9 +181,11 @@ module _ {S : Type 0} {g : FileOf S} {first old : S} {start before : List Bool} 
         (λ file. pages_of_part file page origin fields i) pages_here Here have.has halt
         (λ file. RowChecksOn file leaf origin (is_set start)) (λ file. pages_of_row_on file leaf origin)
         (told3 (g.content first)
-        (λ file marked below at. record_breaks file (place_on file leaf) leaf.number page origin fields (is_set start) i halt within
+        (λ file marked below at. record_breaks file (place_on file leaf) leaf.number page origin fields
+        (is_set start) i halt within
         below
-        (halts_as halt (Here file) (FieldCheckBy file (place_on file leaf) leaf.number page origin fields (is_set start) i)
+        (halts_as halt (Here file)
+        (FieldCheckBy file (place_on file leaf) leaf.number page origin fields (is_set start) i)
         (λ v check. here_as file v marked check) at))
         have.has.grew have.held exact) here
 

@@ -73,7 +73,8 @@ searched {g = g} {first = first} {old = old} {new = new} {start = start} {marks 
     let first_exact = subst (λ (o : Option (List ℕ)). IfSome o (λ file. NextExact file before (Ok result) after))
     have.has.same exact in
     record {
-      has = moved g first old new start marks steps mid spent count (λ file. pages_before file table j) (Ok result) as_many
+      has = moved g first old new start marks steps mid spent count (λ file. pages_before file table j)
+          (Ok result) as_many
           over have.has;
       held = have.held;
       at_row =

@@ -53,7 +53,8 @@ page_answered page fields leaf root leftmost =
 level_decided : (page : List ℕ) (level : ℕ) → IsDecided (HasSpotLevel page level)
 level_decided page level = both_decided (number_decided (level_of page) level) (most_decided level 50)
 
-low_decided : (page : List ℕ) (fields : Fields) (level : ℕ) (low : Option Key) → IsDecided (HasLow page fields level low)
+low_decided : (page : List ℕ) (fields : Fields) (level : ℕ) (low : Option Key)
+    → IsDecided (HasLow page fields level low)
 low_decided page fields level None = inl tt
 low_decided page fields level (Some low) =
     both_decided (not_decided (key_below fields (record_key page fields 0) low))

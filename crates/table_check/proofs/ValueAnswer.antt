@@ -2,7 +2,8 @@
 use Rattle.std.proofs.Common.{◌≡◌, ◌-◌, ℕ, ◌+◌, ◌<◌, Bool, true, false, List, ◌++◌, length, get_or, sym, ap}
 use Rattle.std.proofs.Common.{subst}
 use Rattle.page_source.specs.Pages.{page_of, fil_null}
-use Rattle.page_source.proofs.Decided.{IsDecided, same_decided, both_decided, three_decided, either_decided, given_decided}
+use Rattle.page_source.proofs.Decided.{IsDecided, same_decided, both_decided, three_decided, either_decided}
+use Rattle.page_source.proofs.Decided.{given_decided}
 use Rattle.page_source.proofs.Decided.{number_decided, most_decided, truth_decided, contains_decided}
 use Rattle.page_source.proofs.Answered.{HasAnswer, Clear-answered, All-answered, EachOf-answered}
 use Rattle.fil_frame.specs.Kinds.{allocated_kind, blob_kind}
@@ -17,12 +18,14 @@ use Rattle.space_audit.specs.Owners.{owner_of, IsUsedBy}
 use Rattle.offpage_chain.specs.declared.reference.Reference.{Reference}
 use Rattle.offpage_chain.specs.Reference.{reference_of}
 use Rattle.offpage_chain.specs.Chain.{chain_pages, part_length, next_part, bytes_on, total_on}
-use Rattle.offpage_chain.specs.ChainChecks.{AuditedPlace, IsChainPlace, IsChainPart, PartCheck, ChainChecksBy, ChainChecks}
+use Rattle.offpage_chain.specs.ChainChecks.{AuditedPlace, IsChainPlace, IsChainPart, PartCheck, ChainChecksBy}
+use Rattle.offpage_chain.specs.ChainChecks.{ChainChecks}
 use Rattle.tree_walk.specs.Index.{Index, Row}
 use Rattle.schema_text.specs.Formats.{flags_of}
 use Rattle.schema_text.specs.TableDef.{TableDef}
 use Rattle.table_check.specs.Trees.{leaf_segments}
-use Rattle.table_check.specs.Values.{front_of, IsTextBehind, ValueChecks, FieldChecks, RecordChecks, RecordChecksBy, RowCheck}
+use Rattle.table_check.specs.Values.{front_of, IsTextBehind, ValueChecks, FieldChecks, RecordChecks, RecordChecksBy}
+use Rattle.table_check.specs.Values.{RowCheck}
 use Rattle.table_check.specs.Values.{RowChecks, live_rows}
 use Rattle.table_check.specs.First.{is_unreached, IsLeftOver, TableTreeChecks, ValueChecksOf, UnreachedCheck}
 use Rattle.table_check.specs.First.{UnreachedChecks, TableValueChecks, TableChecks, First}
@@ -46,7 +49,8 @@ chain_part page left =
     (most_decided (part_length page) left) (both_decided (given_decided end all) (given_decided all end)))
 
 part_answered : (file : List ℕ) (segment holder : ℕ) (reference : Reference) (taken : ℕ → Bool)
-    → (earlier : List ℕ) (n : ℕ) → HasAnswer (PartCheck file (AuditedPlace file segment) holder reference taken earlier n)
+    → (earlier : List ℕ) (n : ℕ)
+    → HasAnswer (PartCheck file (AuditedPlace file segment) holder reference taken earlier n)
 part_answered file segment holder reference taken earlier n =
     before _ _ _ (chain_place file segment _ n)
     (holds _ _ _ (chain_part (page_of file n) (reference.length - total_on file earlier)))

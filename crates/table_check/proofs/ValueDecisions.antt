@@ -6,7 +6,8 @@ use Rattle.std.specs.Prelude.{ℤ, pos, negsuc, nat_abs, slice_index}
 use Rattle.std.specs.List.{concat}
 use Rattle.std.proofs.lemmas.List.Elements.{All-nil, All-cons, All-head, All-tail}
 use Rattle.page_source.specs.Pages.{num}
-use Rattle.page_source.proofs.Decided.{IsDecided, same_decided, both_decided, three_decided, either_decided, not_decided}
+use Rattle.page_source.proofs.Decided.{IsDecided, same_decided, both_decided, three_decided, either_decided}
+use Rattle.page_source.proofs.Decided.{not_decided}
 use Rattle.page_source.proofs.Decided.{given_decided, number_decided, below_decided, most_decided, text_decided}
 use Rattle.page_source.proofs.Decided.{some_decided}
 use Rattle.column_values.specs.declared.kind.ColumnType.{ColumnType}
@@ -16,7 +17,8 @@ use Rattle.column_values.specs.declared.value.Value.TheVariants as values
 use Rattle.column_values.specs.Lengths.{fraction_length}
 use Rattle.column_values.specs.Characters.{IsIn, IsStartOfThree, IsStartOfFour, IsCharacter, HasCharacters}
 use Rattle.column_values.specs.Characters.{IsCharacterText, IsTextUpTo, text_limit, IsTextOfKind}
-use Rattle.column_values.specs.Moments.{fraction_unit, IsFraction, SpellsFraction, packed_moment, IsMoment, SpellsDateTime}
+use Rattle.column_values.specs.Moments.{fraction_unit, IsFraction, SpellsFraction, packed_moment, IsMoment}
+use Rattle.column_values.specs.Moments.{SpellsDateTime}
 use Rattle.column_values.specs.Moments.{SpellsTimestamp, year_of}
 use Rattle.column_values.specs.Decimals.{decimal_bytes, SpellsDecimal}
 use Rattle.column_values.specs.Spell.{int_of, packed_date, SpellsDate, SpellsChar, Spell, IsSpelling}

@@ -21,7 +21,8 @@ counts_most (Limited limit Bad) few most h counts = tt
 counts_most (Limited limit (Good count pending)) few most h counts = omega (arith, h, counts)
 
 -- the checks of a chain speak of its text alone
-chain_text : (file : List ℕ) (Ask : PlaceChecks) (leaf : ℕ) (reference : Reference) (taken : ℕ → Bool) (A B : List ℕ → Type 0)
+chain_text : (file : List ℕ) (Ask : PlaceChecks) (leaf : ℕ) (reference : Reference) (taken : ℕ → Bool)
+    (A B : List ℕ → Type 0)
     → ((bytes : List ℕ) → A bytes ↔ B bytes) → (v : Option Fault)
     → ChainChecksBy file Ask leaf reference taken A v → ChainChecksBy file Ask leaf reference taken B v
 unfolding ChainChecksBy
@@ -38,7 +39,8 @@ chain_text file Ask leaf reference taken A B same (Some fault) (inr (some, inr (
     inr (some, inr (here, inr (pages, ((λ t. bad.0 ((same (bytes_on file (chain_pages file reference))).1 t)), bad.1))))
 
 -- behind a length that fits, the chain decides
-pub value_goes_on : (file : List ℕ) (Ask : PlaceChecks) (leaf : ℕ) (kind : ColumnType) (local : List ℕ) (taken : ℕ → Bool)
+pub value_goes_on : (file : List ℕ) (Ask : PlaceChecks) (leaf : ℕ) (kind : ColumnType) (local : List ℕ)
+    (taken : ℕ → Bool)
     (A : List ℕ → Type 0)
     → FitsKind kind local → ((bytes : List ℕ) → A bytes ↔ IsTextBehind kind local bytes) → (result : Result ℕ Halt)
     → Halts result (ChainChecksBy file Ask leaf (reference_of local) taken A)

@@ -25,7 +25,8 @@ use Rattle.offpage_chain.specs.Laws.{HasOneChain, ChecksAreWhole}
 use Rattle.tree_walk.specs.Index.{Index, Row, no_row, page_in}
 use Rattle.tree_walk.specs.Segments.{leaf_segment}
 use Rattle.tree_walk.specs.Laws.{ComeOnce}
-use Rattle.table_check.specs.Values.{FitsKind, ValueChecks, FieldChecks, RecordChecks, RecordChecksBy, RowChecks, front_of}
+use Rattle.table_check.specs.Values.{FitsKind, ValueChecks, FieldChecks, RecordChecks, RecordChecksBy, RowChecks}
+use Rattle.table_check.specs.Values.{front_of}
 use Rattle.table_check.specs.Values.{bytes_at, pages_of_value, pages_of_field, pages_of_part, pages_of_record}
 use Rattle.table_check.specs.Values.{pages_of_row, pages_of_rows, live_rows}
 use Rattle.table_check.specs.Valid.{IsSoundLongValue, IsSoundField, IsSoundRow}

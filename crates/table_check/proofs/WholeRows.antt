@@ -40,7 +40,8 @@ use Rattle.tree_walk.proofs.LeafFacts.{leaf_facts}
 use Rattle.table_check.specs.AnyBytes.{takes_any_bytes, field_takes_any, TakeAnyBytes}
 use Rattle.table_check.specs.Trees.{index_in, clustered_tree, all_tree_pages}
 use Rattle.table_check.specs.Taken.{AreExactly, IsClustered, IsReached}
-use Rattle.table_check.specs.Values.{bytes_at, ValueChecks, FieldChecks, RecordChecksBy, RecordChecks, RowChecks, live_rows}
+use Rattle.table_check.specs.Values.{bytes_at, ValueChecks, FieldChecks, RecordChecksBy, RecordChecks, RowChecks}
+use Rattle.table_check.specs.Values.{live_rows}
 use Rattle.table_check.specs.Values.{pages_of_value, pages_of_field, pages_of_part, pages_of_record, pages_of_row}
 use Rattle.table_check.specs.Values.{pages_of_rows, all_chain_pages}
 use Rattle.table_check.specs.First.{ValueChecksOf}

@@ -1,5 +1,6 @@
 -- A cursor over the rows without the delete mark (btr0cur).
-use Rattle.std.specs.Prelude.{◌≡◌, ℕ, ◌+◌, ◌<◌, ◌≤◌, ◌⊎◌, ⊤, Bool, true, false, List, length, take, count_by, Option, Some, None}
+use Rattle.std.specs.Prelude.{◌≡◌, ℕ, ◌+◌, ◌<◌, ◌≤◌, ◌⊎◌, ⊤, Bool, true, false, List, length, take, count_by, Option}
+use Rattle.std.specs.Prelude.{Some, None}
 use Rattle.std.specs.Prelude.{Result, Ok, Err}
 use Rattle.page_source.specs.declared.rule.Rule.TheVariants.{RecordChain}
 use Rattle.page_source.specs.declared.rule.Fault.{Fault}

@@ -12,7 +12,8 @@ use Rattle.table_check.specs.declared.trees.Taken.{Taken}
 use Rattle.table_check.specs.declared.trees.Trees.{Trees}
 use Rattle.table_check.specs.Marking.{CanMark}
 use Rattle.table_check.specs.First.{is_reached}
-use Rattle.table_check.specs.Trees.{index_in, index_count, clustered_tree, pages_of_trees, segments_of_trees, all_tree_pages}
+use Rattle.table_check.specs.Trees.{index_in, index_count, clustered_tree, pages_of_trees, segments_of_trees}
+use Rattle.table_check.specs.Trees.{all_tree_pages}
 use Rattle.table_check.specs.Trees.{leaf_segments, leaf_segments_of, AllTreeChecks, NamedChecks, IndexCheck}
 use Rattle.page_source.specs.Verdict.{AllBelow}
 

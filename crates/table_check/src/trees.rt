@@ -12,7 +12,8 @@ ghost use Rattle.tree_walk.specs.Room.{HasRoom};
 ghost use Rattle.tree_walk.specs.Walk.{IsEndsOf};
 ghost use Rattle.table_check.specs.Trees.{index_in, index_count, IndexCheck, AllTreeChecks, NamedCheck};
 ghost use Rattle.table_check.specs.First.{TableTreeChecks};
-ghost use Rattle.table_check.specs.Taken.{CanTake, AreTaken, AreWalked, AreEnds, AreTrees, LeavesRoom, LeavesSome, leaves_of};
+ghost use Rattle.table_check.specs.Taken.{CanTake, AreTaken, AreWalked, AreEnds, AreTrees, LeavesRoom, LeavesSome};
+ghost use Rattle.table_check.specs.Taken.{leaves_of};
 
 use crate::ends::EndsList;
 use page_source::{Fault, NoMemory, PageSource, Rule, Steps, Stop};

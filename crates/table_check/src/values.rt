@@ -101,9 +101,10 @@ pub(crate) fn check_rows<S: PageSource, L: Ledger>(
     Ok(count)
 }
 
-/// Checks the values of all rows of a table whose trees are these pages. Marks the pages that they go on in, and answers
-/// how many there are. At Ok it took a step for each leaf and one for each of these pages. If all values lie whole on
-/// their leaves, and any bytes spell one, none can be wrong: the leaves are taken in their order, and not looked at.
+/// Checks the values of all rows of a table whose trees are these pages. Marks the pages that they go on in, and
+/// answers how many there are. At Ok it took a step for each leaf and one for each of these pages. If all values lie
+/// whole on their leaves, and any bytes spell one, none can be wrong: the leaves are taken in their order, and not
+/// looked at.
 pub(crate) fn check_values<S: PageSource, L: Ledger>(
     alloc: Global,
     source: &mut S,

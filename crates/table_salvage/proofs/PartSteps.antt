@@ -46,7 +46,8 @@ module _ {S O E : Type 0} (g : FileOf S) (o : SinkOf O) (e : SinkOf E) where
   }
 
   -- where the source alone was asked
-  pub over_source : {old new : S} {steps steps_now : ℕ} (sink : O) (losses : E) (unheard : Bool) → g.content new ≡ g.content old
+  pub over_source : {old new : S} {steps steps_now : ℕ} (sink : O) (losses : E) (unheard : Bool)
+      → g.content new ≡ g.content old
       → g.faults old ≤ g.faults new → AsksNoMore g old new steps steps_now
       → PartOver g o e (old, sink, losses) (new, sink, losses) unheard unheard steps steps_now done
   over_source sink losses unheard same later asked = record {

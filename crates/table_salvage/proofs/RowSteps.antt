@@ -176,7 +176,8 @@ row_put : {start : Start} {job : Job} {n place : ℕ} {now next : Progress} {aft
     {losses : List (Option Loss)} {row_values : List (Option Value)} → next.known ≡ now.known → next.marks ≡ after
     → next.saved ≡ counted now.saved losses
     → IsSent now.written.sink next.written.sink (now.held ++ saved_line job.table row_values) next.held
-    → GetsNext now.unheard next.unheard now.written.losses next.written.losses (row_losses job.table n (place + 1) losses)
+    → GetsNext now.unheard next.unheard now.written.losses next.written.losses
+    (row_losses job.table n (place + 1) losses)
     → Judges start n place now after losses row_values job → AtRow start n (place + 1) next job
 row_put {job = job} {n = n} {place = place} {now = now} {next = next} {row_values = row_values} known marks count sent
     report both =
@@ -224,7 +225,8 @@ broke met =
 row_cut : {start : Start} {job : Job} {n place : ℕ} {now next : Progress} {after : List Bool}
     {losses : List (Option Loss)} {row_values : List (Option Value)} → n < reach_of job.file
     → GrowsByPart now.written.sink next.written.sink (now.held ++ saved_line job.table row_values)
-    → GetsNext now.unheard next.unheard now.written.losses next.written.losses (row_losses job.table n (place + 1) losses)
+    → GetsNext now.unheard next.unheard now.written.losses next.written.losses
+    (row_losses job.table n (place + 1) losses)
     → Judges start n place now after losses row_values job → Part start next job
 row_cut {start = start} {job = job} {n = n} {place = place} {now = now} {next = next} {row_values = row_values} below
     cut report both =
@@ -260,7 +262,8 @@ row_cut {start = start} {job = job} {n = n} {place = place} {now = now} {next = 
 -- values of the record at a place of leaf n that aren't lost go on in other pages
 abbrev pub IsLongAt : Work → ℕ → ℕ → List (Option Loss) → Type 0
 IsLongAt work n place losses =
-    saved_pages work.file (row_on work.table (page_of work.file n) (origin_of work.kind (page_of work.file n) place)) losses
+    saved_pages work.file
+    (row_on work.table (page_of work.file n) (origin_of work.kind (page_of work.file n) place)) losses
     ≢ []
 
 none_or_some : (pages : List ℕ) → 0 < length pages → pages ≢ []
@@ -307,7 +310,8 @@ row_cut_long : {start : Start} {job : Job} {n place : ℕ} {now next : Progress}
     {losses : List (Option Loss)} {row_values : List (Option Value)}
     → saved_pages job.file (row_at_place job n place).row losses ≢ [] → n < reach_of job.file
     → GrowsByPart now.written.sink next.written.sink (now.held ++ saved_line job.table row_values)
-    → GetsNext now.unheard next.unheard now.written.losses next.written.losses (row_losses job.table n (place + 1) losses)
+    → GetsNext now.unheard next.unheard now.written.losses next.written.losses
+    (row_losses job.table n (place + 1) losses)
     → Judges start n place now after losses row_values job → PartInRow start next job
 unfolding row_cut
 row_cut_long {job = job} {n = n} {place = place} {row_values = row_values} long below cut report both =
@@ -376,7 +380,8 @@ pub met_put : {work : Work} {start : Start} {n place : ℕ} {now next : Progress
     {losses : List (Option Loss)} {row_values : List (Option Value)} → faults ≤ next.faults → next.marks ≡ after
     → next.known ≡ now.known → next.saved ≡ counted now.saved losses
     → IsSent now.written.sink next.written.sink (now.held ++ saved_line work.table row_values) next.held
-    → GetsNext now.unheard next.unheard now.written.losses next.written.losses (row_losses work.table n (place + 1) losses)
+    → GetsNext now.unheard next.unheard now.written.losses next.written.losses
+    (row_losses work.table n (place + 1) losses)
     → Met work start (n + 1) (looked now after faults) (Judges start n place now after losses row_values)
     → RowsDone n (place + 1) work start next
 met_put least marks known count sent report met =
@@ -386,7 +391,8 @@ pub met_cut : {work : Work} {start : Start} {n place : ℕ} {now next : Progress
     {losses : List (Option Loss)} {row_values : List (Option Value)} → faults ≤ next.faults → next.marks ≡ after
     → n < reach_of work.file
     → GrowsByPart now.written.sink next.written.sink (now.held ++ saved_line work.table row_values)
-    → GetsNext now.unheard next.unheard now.written.losses next.written.losses (row_losses work.table n (place + 1) losses)
+    → GetsNext now.unheard next.unheard now.written.losses next.written.losses
+    (row_losses work.table n (place + 1) losses)
     → Met work start (n + 1) (looked now after faults) (Judges start n place now after losses row_values)
     → Broke work start next
 met_cut least marks below cut report met =
@@ -396,7 +402,8 @@ pub met_cut_long : {work : Work} {start : Start} {n place : ℕ} {now next : Pro
     {losses : List (Option Loss)} {row_values : List (Option Value)} → IsLongAt work n place losses
     → faults ≤ next.faults → next.marks ≡ after → n < reach_of work.file
     → GrowsByPart now.written.sink next.written.sink (now.held ++ saved_line work.table row_values)
-    → GetsNext now.unheard next.unheard now.written.losses next.written.losses (row_losses work.table n (place + 1) losses)
+    → GetsNext now.unheard next.unheard now.written.losses next.written.losses
+    (row_losses work.table n (place + 1) losses)
     → Met work start (n + 1) (looked now after faults) (Judges start n place now after losses row_values)
     → BrokeInRow work start next
 met_cut_long long least marks below cut report met =

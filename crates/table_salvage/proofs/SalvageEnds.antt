@@ -27,7 +27,8 @@ use Rattle.salvage_model.specs.Report.{losses_of, report_of, numbers_line}
 use Rattle.salvage_model.specs.Causes.{Counts}
 use Rattle.salvage_model.specs.Salvage.{Wanted, Written, HasSaved, HasBegun, HasBegunLongRow, SalvagesBy, SalvagesOver}
 use Rattle.salvage_model.specs.Salvage.{id_fetches}
-use Rattle.table_salvage.specs.Work.{Work, Start, Progress, job_with, Kept, AtPage, PagesDone, Broke, BrokeInRow, GoesOn}
+use Rattle.table_salvage.specs.Work.{Work, Start, Progress, job_with, Kept, AtPage, PagesDone, Broke, BrokeInRow}
+use Rattle.table_salvage.specs.Work.{GoesOn}
 use Rattle.table_salvage.specs.Heard.{HasGot, GetsNext, FailsRising, told_of}
 use Rattle.table_salvage.specs.Over.{PartOver}
 use Rattle.table_salvage.proofs.MetPages.{met_on, met_now}
@@ -145,7 +146,8 @@ pub has_begun : {file : List ℕ} {wanted : Wanted} {id : ℕ} {work : Work} {st
     → HasBegun file wanted start.faults now.faults start.written.sink now.written.sink
     (told_of heeds wanted.table start.written now.written before after).first
 has_begun {wanted = wanted} {start = start} {now = now} heeds before after rose is found off =
-    begun {now = now} _ (first_says heeds now.unheard wanted.table start.written now.written before after rose) is found off
+    begun {now = now} _ (first_says heeds now.unheard wanted.table start.written now.written before after rose) is found
+    off
 
 -- the source did, in the line of a long row
 has_begun_long : {file : List ℕ} {wanted : Wanted} {id : ℕ} {work : Work} {start : Start} {now : Progress}
@@ -153,7 +155,8 @@ has_begun_long : {file : List ℕ} {wanted : Wanted} {id : ℕ} {work : Work} {s
     → work ≡ wanted_work file wanted id → IsId file wanted.table wanted.given id → BrokeInRow work start now
     → HasBegunLongRow file wanted start.faults now.faults start.written.sink now.written.sink
     (told_of heeds wanted.table start.written now.written before after).first
-has_begun_long {file = file} {wanted = wanted} {id = id} {start = start} {now = now} heeds before after rose is found off =
+has_begun_long {file = file} {wanted = wanted} {id = id} {start = start} {now =
+    now} heeds before after rose is found off =
     let b : BrokeInRow (wanted_work file wanted id) start now = subst (λ (w : Work). BrokeInRow w start now) is off in
     record {
       begun = record {
@@ -195,7 +198,8 @@ pub report_stops : {file : List ℕ} {wanted : Wanted} {id n : ℕ} {work : Work
     → HasBegun file wanted start.faults now.faults start.written.sink now.written.sink
     (told_of heeds wanted.table start.written now.written before after).ended
 report_stops {wanted = wanted} {work = work} {start = start} {now = now} heeds before after heeded is found met =
-    begun {now = now} _ (λ outcomes got. ended_says heeds wanted.table start.written now.written before after heeded outcomes
+    begun {now = now} _ (λ outcomes got. ended_says heeds wanted.table start.written now.written before
+    after heeded outcomes
     (got_part now.unheard start.written.losses now.written.losses (losses_of wanted.table outcomes)
     (numbers_line (numbers_of outcomes)) got)) is found
     (broke (met_on (omega arith) refl (λ pages parts at. record {
@@ -327,7 +331,8 @@ id_stops o heeds wanted before now heard heard_now old new Root same root asked 
 id_stops o heeds wanted before now heard heard_now old new Source same root asked sink losses changed =
     told0 o (λ file. inl (record { asked = asked refl; same = same }))
 id_stops o heeds wanted before now heard heard_now old new Sink same root asked sink losses changed = absurd (sink refl)
-id_stops o heeds wanted before now heard heard_now old new Losses same root asked sink losses changed = absurd (losses refl)
+id_stops o heeds wanted before now heard heard_now old new Losses same root asked sink losses changed =
+    absurd (losses refl)
 id_stops o heeds wanted before now heard heard_now old new Memory same root asked sink losses changed =
     told0 o (λ file. same)
 id_stops o heeds wanted before now heard heard_now old new (Changed fault) same root asked sink losses changed =
@@ -355,7 +360,8 @@ module _ {S O E : Type 0} (g : FileOf S) (o : SinkOf O) (e : SinkOf E) where
   -- what was held back wasn't put
   pub over_unsent : {old : S × O × E} {source : S} {sink : O} {losses : E} {unheard unheard_now : Bool}
       {steps steps_now : ℕ} (sink_now : O)
-      → PartOver g o e old (source, sink, losses) unheard unheard_now steps steps_now done → o.faults sink ≤ o.faults sink_now
+      → PartOver g o e old (source, sink, losses) unheard unheard_now steps steps_now done
+      → o.faults sink ≤ o.faults sink_now
       → Rose (o.faults sink) (o.faults sink_now)
       → SalvagesOver g o e old.0 source old.1 sink_now old.2 losses steps steps_now (Err Sink)
   over_unsent sink_now over later rose = record {

@@ -29,7 +29,8 @@ pub(crate) fn clustered_id<S: PageSource, L: Ledger>(
     ensures rootless { result ≡ Err SalvageStop.Root
         → OfFile S.PageSource source.old (λ file. HasNoId file schema.now given) }
     ensures source { result ≡ Err SalvageStop.Source → Rose (S.faults source.old) (S.faults source.new) }
-    ensures found_by { result ≡ Err SalvageStop.Source → S.fetches source.new ≤ S.fetches source.old + id_fetches given }
+    ensures found_by { result ≡ Err SalvageStop.Source
+        → S.fetches source.new ≤ S.fetches source.old + id_fetches given }
     ensures unwritten { (result ≢ Err SalvageStop.Sink) × (result ≢ Err SalvageStop.Losses)
         × (result ≢ Err SalvageStop.Memory) }
     ensures unchanged { (fault : Fault) → result ≢ Err (SalvageStop.Changed fault) }

@@ -1,6 +1,7 @@
 -- the root's checks, and the tree from its start to its end
 use Rattle.std.proofs.Common.{◌≡◌, ◌==◌, ◌-◌, ℕ, suc, ◌+◌, ◌<◌, ◌≤◌, List, [], ◌∷◌, length, get_or, count_by, Bool}
-use Rattle.std.proofs.Common.{true, cond, All, sym, ◌∙◌, ap, arith, Option, None, Some, below_more, refl, inl, inr, subst}
+use Rattle.std.proofs.Common.{true, cond, All, sym, ◌∙◌, ap, arith, Option, None, Some, below_more, refl, inl, inr}
+use Rattle.std.proofs.Common.{subst}
 use Rattle.std.proofs.lemmas.Bool.{eq-eqb}
 use Rattle.page_source.specs.Pages.{page_of, num, fil_null}
 use Rattle.page_source.specs.Checks.{HaltsAt}
@@ -92,7 +93,8 @@ module _ (file : List ℕ) (tree : Tree) (fields : Fields) (page : List ℕ) (le
     leaf = a;
     upper = b;
     tallied = λ z. subst (λ pg. IsTally pg tree.leaf.now tally) p
-        (subst (λ fs. IsTally page fs tally) (ef ∙ ap (λ (b : Bool). cond b tree.leaf.now tree.node.now) (eq-eqb level 0 z))
+        (subst (λ fs. IsTally page fs tally)
+        (ef ∙ ap (λ (b : Bool). cond b tree.leaf.now tree.node.now) (eq-eqb level 0 z))
         (y z));
   }
 

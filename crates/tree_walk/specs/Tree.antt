@@ -25,8 +25,8 @@ pub record IsReady {S : Type 0} (g : FileOf S) (source : S) (tree : Tree) (walk 
   pub members : length marks ≡ tree.space.now.size
   pub room : CanWalk walk tree.leaf.now tree.node.now
 
--- so it stays: there are as many marks as before, what was marked is marked still, the room is the same, and the file is
--- as a call leaves it that halts
+-- so it stays: there are as many marks as before, what was marked is marked still, the room is the same, and the file
+-- is as a call leaves it that halts
 pub record StaysReady {S A : Type 0} (g : FileOf S) (old new : S) (steps steps_now : ℕ) (walk walk_now : Walk)
     (marks marks_now : List Bool) (result : Result A Halt) : Type 0 where
   pub members : length marks_now ≡ length marks

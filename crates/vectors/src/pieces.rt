@@ -123,7 +123,8 @@ pub(crate) const TWO_LEAVES: [Piece<'static>; 15] = [
     (0, 58, b"\0\0\0\x06"),
     (0, 175, b"\xFA"),
     (2, 306, b"\0\0\0\x04\0\0\0\x05"),
-    // The heap top 164, four records on the heap, two in the chain; then the infimum, the supremum, and the rows 1 and 2.
+    // The heap top 164, four records on the heap, two in the chain; then the infimum, the supremum, and the rows 1 and
+    // 2.
     (4, 40, b"\0\xA4\x80\x04"),
     (4, 54, b"\0\x02"),
     (4, 97, b"\0\x1A"),

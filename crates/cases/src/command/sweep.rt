@@ -73,8 +73,8 @@ impl<'a> Reply<'a> {
     }
 }
 
-/// The first of the answers that is given for this byte, with the page's number in place of a star; that without any edit
-/// where it is `sound`.
+/// The first of the answers that is given for this byte, with the page's number in place of a star; that without any
+/// edit where it is `sound`.
 fn wanted_at(
     alloc: Global,
     replies: &[Reply<'_>],

@@ -61,8 +61,8 @@ impl<'a> ValueCase<'a> {
         expect(alloc, &ready, Task::Dump, line.bytes(), report)
     }
 
-    /// The one record: the null bits and lengths, the header, the key and the hidden fields, and the column. It leads to
-    /// the supremum, and the infimum to it.
+    /// The one record: the null bits and lengths, the header, the key and the hidden fields, and the column. It leads
+    /// to the supremum, and the infimum to it.
     fn push_edits(&self, alloc: Global, edits: &mut Vec<Edit>) -> Result<(), LineError> {
         let (front, column) = (self.front.bytes(), self.bytes.bytes());
         if front.len() > MOST || column.len() > MOST {

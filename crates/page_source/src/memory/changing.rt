@@ -102,7 +102,8 @@ impl PageSource for ChangingPages {
         ensures kept { OnErr result (page.new ≡ page.old) }
         ensures step { steps.new ≡ steps.old + 1 }
         ensures failed { IsErr result ↔ (page_count (seen_next self.old) ≤ n) }
-        ensures state { self.new ≡ record (after_seen self.old (is_err result)) { fetches = one_more self.old.fetches } }
+        ensures state { self.new
+            ≡ record (after_seen self.old (is_err result)) { fetches = one_more self.old.fetches } }
         ensures cause { HasCause self.old.faults self.new.faults result }
         ensures asked { AsksOne self.old.fetches self.new.fetches }
     {

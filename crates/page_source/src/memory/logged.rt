@@ -82,7 +82,8 @@ impl PageSource for LoggedPages {
     fn pages(&mut self) -> Result<u32, Failed>
         ensures count { IfOk result (λ n. TellsPages self.old.file.bytes n) }
         ensures failed { is_err result ≡ false }
-        ensures state { self.new ≡ record self.old { file = record self.old.file { calls = after_call self.old.file.calls false } } }
+        ensures state { self.new
+            ≡ record self.old { file = record self.old.file { calls = after_call self.old.file.calls false } } }
         ensures cause { HasCause self.old.file.calls.faults self.new.file.calls.faults result }
         ensures asked { self.new.file.calls.fetches ≡ self.old.file.calls.fetches }
     {

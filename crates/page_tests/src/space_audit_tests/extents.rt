@@ -10,8 +10,8 @@ use std::alloc::Global;
 use std::process::Abort;
 use std::test::Fail;
 
-/// A tablespace of 192 pages whose extent 1 is on the list NOT_FULL of segment 2, with the used pages 64 and 65. Extent 2
-/// was never used.
+/// A tablespace of 192 pages whose extent 1 is on the list NOT_FULL of segment 2, with the used pages 64 and 65. Extent
+/// 2 was never used.
 fn own_extent(alloc: Global) -> Result<SparsePages, NoMemory> {
     let mut draft = Draft::new(alloc, &header(192, 128))?;
     let own = Extent {

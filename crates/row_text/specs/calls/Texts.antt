@@ -1,5 +1,6 @@
 -- Texts in quotes.
-use Rattle.std.specs.Prelude.{◌≡◌, ◌≢◌, ℕ, ◌≤◌, ◌==◌, if◌then◌else◌, Bool, true, ⊤, List, ◌++◌, length, take, drop, Result, Ok, Err}
+use Rattle.std.specs.Prelude.{◌≡◌, ◌≢◌, ℕ, ◌≤◌, ◌==◌, if◌then◌else◌, Bool, true, ⊤, List, ◌++◌, length, take, drop}
+use Rattle.std.specs.Prelude.{Result, Ok, Err}
 use Rattle.column_values.specs.declared.kind.ColumnType.{ColumnType}
 use Rattle.column_values.specs.declared.kind.ColumnType.TheVariants.{Char}
 use Rattle.row_text.specs.declared.row.RowError.{RowError}

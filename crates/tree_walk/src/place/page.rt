@@ -145,8 +145,8 @@ pub fn check_node(
     Ok(())
 }
 
-/// The checks of the page in hand where it stands, and its tally where it is a leaf: the low separator is the key of the
-/// node pointer in hand, where there is one, and the high separator that of the next node pointer.
+/// The checks of the page in hand where it stands, and its tally where it is a leaf: the low separator is the key of
+/// the node pointer in hand, where there is one, and the high separator that of the next node pointer.
 pub(crate) fn check_spot(
     walk: &mut Walk,
     fields: &FieldList,

@@ -39,7 +39,8 @@ loop-i-preserved c =
           let byte : w.if-nulls-j.byte ≡ byte_of (bits ++ bit ∷ []) c.args.j =
           elim w.if-nulls-j.branch [
             | then-nulls-j w' ↦
-                w'.byte-is ∙ byte_same bits bit c.loop-i.byte w'.with_bit-byte.result c.loop-i.nulls c.args.j counted value
+                w'.byte-is ∙ byte_same bits bit c.loop-i.byte w'.with_bit-byte.result c.loop-i.nulls
+                c.args.j counted value
                 w'.if-nulls-j.true
                 (w'.with_bit-byte.ensures
                 ∙ ap (λ (b : Bool). c.loop-i.byte + (if b then 2 ^ (c.loop-i.nulls % 8) else 0))

@@ -61,7 +61,8 @@ returns-clause-page c =
     (c.put_header-origin.ensures.page
     ∙ ap (λ (n : ℕ). with_bytes c.put_null_bytes-header.new.page n
     (header_bytes c.args.heap c.args.kind c.args.minimum)) header)
-    (c.put_values-end.ensures.page ∙ ap (λ (n : ℕ). with_bytes c.put_header-origin.new.page n (value_bytes parts)) origin)
+    (c.put_values-end.ensures.page
+    ∙ ap (λ (n : ℕ). with_bytes c.put_header-origin.new.page n (value_bytes parts)) origin)
 
 pub returns-clause-origin : goal.returns-clause-origin
 returns-clause-origin c =

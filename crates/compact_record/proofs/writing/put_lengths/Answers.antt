@@ -23,7 +23,8 @@ put_length-end-requires-clause-fits c =
     let parts = c.args.parts.now in
     let i : ℕ = length c.fields-count.result.now - 1 - c.loop-k.k in
     let below : i < length fields.fields = omega (arith, ap length c.fields-count.ensures.same) in
-    subst (λ (p : Part). FitsField (field_at fields i) p) (sym c.at.ensures) (fit_at fields parts i c.requires.fit below)
+    subst (λ (p : Part). FitsField (field_at fields i) p) (sym c.at.ensures)
+    (fit_at fields parts i c.requires.fit below)
 
 pub put_length-end-requires-clause-inside : goal.put_length-end-requires-clause-inside
 put_length-end-requires-clause-inside c =
@@ -56,7 +57,8 @@ loop-k-preserved c =
     let long : length c.args.page.now ≡ 16384 = ap length (sym c.bytes.ensures.same) ∙ c.bytes.ensures.size in
     let inside = c.requires.inside in
     record {
-      written = lengths_put fields parts c.args.page.now c.loop-k.page c.put_length-end.new.page c.args.at c.loop-k.end k
+      written = lengths_put fields parts c.args.page.now c.loop-k.page c.put_length-end.new.page
+          c.args.at c.loop-k.end k
           count c.requires.fit counted c.loop-k-test.true (omega (arith, inside, long)) c.loop-k.invariant.written
           c.loop-k.invariant.ends
           (c.put_length-end.ensures.page

@@ -31,7 +31,11 @@ returns-then-are_spelled-clause-apart c = λ t.
     let page = c.args.page.now in
     let fields = c.args.fields.now in
     let passed = c.if-not-chain_passes.false in
-    let free = rw (c.chain_passes.ensures.marks passed, c.first_free-first.ensures.value, c.free_count-count.ensures.value) at
+    let free = rw (
+      c.chain_passes.ensures.marks passed,
+      c.first_free-first.ensures.value,
+      c.free_count-count.ensures.value,
+    ) at
     (c.mark_records.ensures.exact.0 t) in
     let both = PassInTurn-append (LiesFree page fields) (with_record page fields) none_seen (records_of page)
     (free_of page) in

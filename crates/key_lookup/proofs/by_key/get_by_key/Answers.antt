@@ -108,7 +108,8 @@ pub returns-in_err-write_row-clause-few : goal.returns-in_err-write_row-clause-f
 returns-in_err-write_row-clause-few g c =
     let found = rw c.in-Some.is at c.in_ok-found.ensures.found in
     told2 (g.S.PageSource.content c.args.source.now)
-    (λ file few at. let p = at.pages in omega (arith, few, p, c.in_err-write_row.ensures.cost)) c.find.ensures.told found
+    (λ file few at. let p =
+    at.pages in omega (arith, few, p, c.in_err-write_row.ensures.cost)) c.find.ensures.told found
 
 pub returns-in_err-write_row-clause-steps : goal.returns-in_err-write_row-clause-steps
 returns-in_err-write_row-clause-steps g c =

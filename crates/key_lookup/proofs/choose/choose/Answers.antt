@@ -11,7 +11,8 @@ pub again-requires-clause-origin : goal.again-requires-clause-origin
 again-requires-clause-origin c =
     let i = c.loop-k.invariant in
     let is = is_record c.args.page.now c.args.node.now c.requires.facts c.loop-k.k c.loop-k.at
-    c.next_origin-at-in-loop-k.result i.least (omega (arith, c.loop-k-test.true, c.record_count-count.ensures.value)) i.at
+    c.next_origin-at-in-loop-k.result i.least
+    (omega (arith, c.loop-k-test.true, c.record_count-count.ensures.value)) i.at
     c.next_origin-at-in-loop-k.ensures.value in
     (is.least, is.most)
 
@@ -19,7 +20,8 @@ pub compare_record-requires-clause-record : goal.compare_record-requires-clause-
 compare_record-requires-clause-record c =
     let i = c.loop-k.invariant in
     let is = is_record c.args.page.now c.args.node.now c.requires.facts c.loop-k.k c.loop-k.at
-    c.next_origin-at-in-loop-k.result i.least (omega (arith, c.loop-k-test.true, c.record_count-count.ensures.value)) i.at
+    c.next_origin-at-in-loop-k.result i.least
+    (omega (arith, c.loop-k-test.true, c.record_count-count.ensures.value)) i.at
     c.next_origin-at-in-loop-k.ensures.value in
     (held_by c.args.page.now c.args.node.now c.next_origin-at-in-loop-k.result c.again.new.self c.again.result is
     c.again.ensures.exact.1 c.again.ensures.read).whole
@@ -27,7 +29,8 @@ compare_record-requires-clause-record c =
 pub loop-k-preserved : goal.loop-k-preserved
 loop-k-preserved c =
     let i = c.loop-k.invariant in
-    let within : c.loop-k.k < record_count c.args.page.now = omega (arith, c.loop-k-test.true, c.record_count-count.ensures.value) in
+    let within : c.loop-k.k < record_count c.args.page.now =
+    omega (arith, c.loop-k-test.true, c.record_count-count.ensures.value) in
     let is = is_record c.args.page.now c.args.node.now c.requires.facts c.loop-k.k c.loop-k.at
     c.next_origin-at-in-loop-k.result i.least within i.at c.next_origin-at-in-loop-k.ensures.value in
     let held = held_by c.args.page.now c.args.node.now c.next_origin-at-in-loop-k.result c.again.new.self c.again.result

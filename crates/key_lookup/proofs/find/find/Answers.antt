@@ -11,7 +11,8 @@ returns-in_err-header-clause-exact g c =
     let r = err_from_is_err_and c.from_residual.result c.from_residual.ensures.1 in
     rw (r.1, r.2)
     (told1 (g.S.PageSource.content c.args.source.now)
-    (λ file at. in_head file c.args.schema.now c.args.key.now c.flags.result c.flags.ensures c.in_err-header.field-0.0 at)
+    (λ file at. in_head file c.args.schema.now c.args.key.now c.flags.result c.flags.ensures
+    c.in_err-header.field-0.0 at)
     c.in_err-header.ensures.exact)
 
 pub returns-in_err-look_up-clause-exact : goal.returns-in_err-look_up-clause-exact

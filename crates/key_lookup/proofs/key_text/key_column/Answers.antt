@@ -25,7 +25,8 @@ returns-clause-at c =
     let size = places_size table.columns (clustered_positions table) c.key_places.result.now c.key_places.ensures.same
     c.key_places.ensures.within in
     column_read table.columns c.columns.result.now (clustered_positions table) c.key_places.result.now c.args.i
-    c.from.result c.index-columns-from.result c.key_places.ensures.same c.columns.ensures.same c.key_places.ensures.within
+    c.from.result c.index-columns-from.result c.key_places.ensures.same c.columns.ensures.same
+    c.key_places.ensures.within
     (omega (arith, size, c.requires)) c.from.ensures c.index-columns-from.is
 
 pub returns-clause-held : goal.returns-clause-held
@@ -35,5 +36,6 @@ returns-clause-held c =
     c.key_places.ensures.within in
     held_at (key_columns table) c.args.i c.index-columns-from.result c.key_places.ensures.held
     (column_read table.columns c.columns.result.now (clustered_positions table) c.key_places.result.now c.args.i
-    c.from.result c.index-columns-from.result c.key_places.ensures.same c.columns.ensures.same c.key_places.ensures.within
+    c.from.result c.index-columns-from.result c.key_places.ensures.same c.columns.ensures.same
+    c.key_places.ensures.within
     (omega (arith, size, c.requires)) c.from.ensures c.index-columns-from.is)

@@ -2,7 +2,8 @@ use Rattle.std.proofs.Common.{refl, ◌∙◌, arith}
 use Rattle.page_source.proofs.Told.{told0, told1, told3, told4}
 use Rattle.tree_walk.proofs.Rooms.{room_join}
 use Rattle.key_lookup.specs.Tree.{index_in}
-use Rattle.key_lookup.proofs.OnWay.{level_most, facts_above, facts_leaf, some_pointer, on_root, on_next, all_hold, leaf_is}
+use Rattle.key_lookup.proofs.OnWay.{level_most, facts_above, facts_leaf, some_pointer, on_root, on_next, all_hold}
+use Rattle.key_lookup.proofs.OnWay.{leaf_is}
 use Rattle.key_lookup.proofs.way.find_leaf.Goals as goal
 
 pub loop-due-init : goal.loop-due-init

@@ -11,7 +11,8 @@ use Rattle.offpage_chain.proofs.check.check_chain_in.Goals as goal
 pub returns-then-reference-eq0-clause-exact : goal.returns-then-reference-eq0-clause-exact
 returns-then-reference-eq0-clause-exact g c =
     told0 (g.S.PageSource.content c.args.source.now)
-    (λ file fed was. rw c.at.ensures (chain_empty file (PlaceIn file c.args.pages.now) c.args.holder c.args.reference.now
+    (λ file fed was. rw c.at.ensures
+    (chain_empty file (PlaceIn file c.args.pages.now) c.args.holder c.args.reference.now
     (is_set c.args.marks.now)
     (λ bytes. TakesText c.args.text.now (fed ++ bytes)) c.if-reference-eq0.true))
 
@@ -59,7 +60,8 @@ returns-then-not-is_text-clause-exact g c =
 pub returns-clause-exact : goal.returns-clause-exact
 returns-clause-exact g c =
     told3 (g.S.PageSource.content c.args.source.now)
-    (λ file header holds fills fed was. chain_holds file (PlaceIn file c.args.pages.now) c.args.holder c.args.reference.now
+    (λ file header holds fills fed was. chain_holds file
+    (PlaceIn file c.args.pages.now) c.args.holder c.args.reference.now
     (is_set c.args.marks.now)
     (λ bytes. TakesText c.args.text.now (fed ++ bytes)) (omega (arith, c.if-reference-eq0.false))
     ((c.refers_here.ensures file header).0 c.if-not-refers_here.false) holds

@@ -32,7 +32,8 @@ returns-in_err-length-clause-exact g c =
     let check = rw c.loop-due.invariant.same at c.in_err-length.ensures.exact in
     rw (r.1, r.2) (told2 (g.S.PageSource.content c.args.source.now)
     (λ file along check. along_halts (walk_of file c.args.chain.now c.args.marks.now)
-    c.loop-due.marks c.args.text.now c.loop-due.text c.loop-due.due c.loop-due.count c.in_err-length.field-0.0 along c.loop-due-test.true check)
+    c.loop-due.marks c.args.text.now c.loop-due.text c.loop-due.due c.loop-due.count c.in_err-length.field-0.0 along
+    c.loop-due-test.true check)
     c.loop-due.invariant.told check)
 
 pub returns-in_err-length-clause-told : goal.returns-in_err-length-clause-told
@@ -74,7 +75,8 @@ loop-due-preserved g c =
           (c.loop-due.count + 1)) (sym c.next_part.ensures)
           (along_more (walk_of file c.args.chain.now c.args.marks.now)
           c.loop-due.marks c.mark.new.self c.args.text.now c.loop-due.text c.feed.new.self c.loop-due.due
-          c.loop-due.count c.in_ok-length.length c.check_page.new.page along c.loop-due-test.true check here part.0 part.1
+          c.loop-due.count c.in_ok-length.length c.check_page.new.page along c.loop-due-test.true check
+          here part.0 part.1
           (c.mark.ensures.more (is_set c.args.marks.now))
           (λ before fed. subst (λ (b : List ℕ). IsFed c.args.text.now c.feed.new.self
           (before ++ b)) c.part_bytes.ensures.bytes

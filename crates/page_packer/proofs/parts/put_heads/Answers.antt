@@ -10,7 +10,8 @@ returns-in-Some c =
     let heads = c.in-Some.heads in
     let page = c.args.page.now in
     let long : length page ≡ 16384 = ap length (sym c.bytes.ensures.same) ∙ c.bytes.ensures.size in
-    two_put page c.put_segment.new.page c.put_segment-in-Some.new.page (segment_header heads.space heads.page heads.leaf)
+    two_put page c.put_segment.new.page c.put_segment-in-Some.new.page
+    (segment_header heads.space heads.page heads.leaf)
     (segment_header heads.space heads.page heads.top) 74 84 c.put_segment.ensures c.put_segment-in-Some.ensures refl
     (omega arith)
     ∙ ap (λ (o : Option Heads). with_bytes page 74 (head_bytes o)) (sym c.in-Some.is)

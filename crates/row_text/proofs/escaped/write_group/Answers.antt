@@ -4,7 +4,8 @@ use Rattle.row_text.proofs.escaped.write_group.Goals as goal
 
 pub returns-then-plain-eq-GROUP-clause-text : goal.returns-then-plain-eq-GROUP-clause-text
 returns-then-plain-eq-GROUP-clause-text c =
-    plain_group c.args.text.now c.copy_front.new.room c.plain_bytes-plain.result (omega (arith, c.if-plain-eq-GROUP.true))
+    plain_group c.args.text.now c.copy_front.new.room c.plain_bytes-plain.result
+    (omega (arith, c.if-plain-eq-GROUP.true))
     c.requires.text c.copy_front.ensures.front c.plain_bytes-plain.ensures.plain
 
 pub returns-clause-text : goal.returns-clause-text

@@ -13,6 +13,8 @@ returns-then-bits-eq0-clause-plain c =
 
 pub returns-clause-plain : goal.returns-clause-plain
 returns-clause-plain c =
-    plain_run c.args.run.now c.load.result c.special.result c.top_bits-bits.result c.min.result c.requires c.load.ensures
+    plain_run c.args.run.now c.load.result c.special.result c.top_bits-bits.result c.min.result
+    c.requires c.load.ensures
     c.special.ensures c.top_bits-bits.ensures
-    (λ k lt is. omega (arith, is, c.lowest.ensures.below k (omega (arith, lt, c.min.ensures)))) (omega (arith, c.min.ensures))
+    (λ k lt is. omega (arith, is, c.lowest.ensures.below k (omega (arith, lt, c.min.ensures))))
+    (omega (arith, c.min.ensures))

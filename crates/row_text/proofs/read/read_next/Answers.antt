@@ -34,7 +34,8 @@ returns-clause-next c = λ columns is read.
     let led : drop c.args.at text ≡ before_value (length c.args.row.now) ++ drop place text =
     rw c.values-came.ensures at (c.in-Some.ensures.found.1) in
     let begins : BeginsColumn c.args.column.now c.in_ok-value.value (drop place text)
-    (drop c.in_ok-value.size (drop place text)) = subst (λ (t : List ℕ). BeginsColumn c.args.column.now c.in_ok-value.value t
+    (drop c.in_ok-value.size (drop place text)) =
+    subst (λ (t : List ℕ). BeginsColumn c.args.column.now c.in_ok-value.value t
     (drop c.in_ok-value.size t)) (take_rest text place) c.in_ok-value.ensures.found in
     subst (λ (values : List Value). HasRead columns text values (place + c.in_ok-value.size))
     (sym c.in_ok-push.ensures.ok)

@@ -12,5 +12,6 @@ returns-in_default c = λ row is.
 pub returns : goal.returns
 returns c =
     row_found c.args.schema.now c.args.line.now c.in-Some.text.now c.read_columns.result c.in-Some.ensures.found
-    (subst (λ (columns : List Column). FindsValues columns c.in-Some.text.now c.read_columns.result) c.columns.ensures.same
+    (subst (λ (columns : List Column). FindsValues columns c.in-Some.text.now c.read_columns.result)
+    c.columns.ensures.same
     c.read_columns.ensures)

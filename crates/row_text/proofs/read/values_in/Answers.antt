@@ -20,7 +20,8 @@ returns-in_err-values-clause-none c = λ _ text e.
 
 pub returns-clause-none : goal.returns-clause-none
 returns-clause-none c = λ is text e.
-    no_end c.args.line.now c.in_ok-named.named.now c.args.schema.now.table c.in_ok-rest.rest.now c.in_ok-values.values.now
+    no_end c.args.line.now c.in_ok-named.named.now c.args.schema.now.table c.in_ok-rest.rest.now
+    c.in_ok-values.values.now
     text c.in_ok-named.ensures.found
     (c.in_ok-rest.ensures.found ∙ ap (λ (name : List ℕ). name ++ c.in_ok-rest.rest.now) c.table.ensures)
     c.in_ok-values.ensures.found (c.ahead.ensures.none is) e

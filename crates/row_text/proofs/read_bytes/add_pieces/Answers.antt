@@ -14,5 +14,6 @@ loop-rest-preserved c =
     let cut : digits ++ more ≡ rest = ap (λ (t : List ℕ). t ++ more) c.split_at.ensures.front
     ∙ ap (λ (t : List ℕ). take 512 rest ++ t) c.split_at.ensures.back ∙ take-append-drop 512 rest in
     let are = c.write_bytes.ensures.are c.if-not-write_bytes.false in
-    takes_more c.args.list.now c.loop-rest.list c.extend.new.self c.args.text.now rest digits more c.write_bytes.new.room
+    takes_more c.args.list.now c.loop-rest.list c.extend.new.self c.args.text.now rest digits more
+    c.write_bytes.new.room
     c.loop-rest.invariant (sym cut) are.0 are.1 c.in_ok-extend.ensures.ok

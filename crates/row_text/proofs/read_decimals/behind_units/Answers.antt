@@ -1,7 +1,8 @@
 use Rattle.std.proofs.Common.{ℕ, ◌+◌, sym, ap, ◌∙◌}
 use Rattle.row_text.proofs.ReadDigits.{no_point}
 use Rattle.row_text.proofs.read_decimals.behind_units.Goals as goal
-use Rattle.row_text.proofs.read_decimals.behind_units.Goals.{then-text-from-via-then-text-from, then-text-from-via-else-text-from+then-text-ne46}
+use Rattle.row_text.proofs.read_decimals.behind_units.Goals.{then-text-from-via-then-text-from}
+use Rattle.row_text.proofs.read_decimals.behind_units.Goals.{then-text-from-via-else-text-from+then-text-ne46}
 
 pub returns-then-text-from : goal.returns-then-text-from
 returns-then-text-from c = λ n e.

@@ -39,7 +39,8 @@ negative_is n m e low =
 
 pub overflow_cast-result : goal.overflow_cast-result
 overflow_cast-result c =
-    let low = low_units c.args.p c.in_ok-units-in-Some.units (omega (arith, c.requires)) c.in_ok-units-in-Some.ensures.0 in
+    let low = low_units c.args.p c.in_ok-units-in-Some.units
+    (omega (arith, c.requires)) c.in_ok-units-in-Some.ensures.0 in
     fits_signed_from_abs w128 (pos c.in_ok-units-in-Some.units) low
 
 pub overflow_sub-result : goal.overflow_sub-result

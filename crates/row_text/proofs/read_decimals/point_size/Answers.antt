@@ -5,4 +5,9 @@ use Rattle.row_text.proofs.read_decimals.point_size.Goals as goal
 
 pub returns-else-count-eq0 : goal.returns-else-count-eq0
 returns-else-count-eq0 c = λ n.
-    omega (arith, c.from.ensures, ap length (point_is c.args.count n c.if-count-eq0.false), length-last_digits c.args.count n)
+    omega (
+      arith,
+      c.from.ensures,
+      ap length (point_is c.args.count n c.if-count-eq0.false),
+      length-last_digits c.args.count n,
+    )

@@ -1,4 +1,5 @@
-use Rattle.std.proofs.Common.{◌≡◌, length, drop, ◌<◌, ◌≤◌, ◌+◌, ◌-◌, ◌*◌, ◌/◌, ◌^◌, ℕ, List, ◌++◌, Option, Some, None, sym, ap, ◌∙◌, arith}
+use Rattle.std.proofs.Common.{◌≡◌, length, drop, ◌<◌, ◌≤◌, ◌+◌, ◌-◌, ◌*◌, ◌/◌, ◌^◌, ℕ, List, ◌++◌, Option, Some, None}
+use Rattle.std.proofs.Common.{sym, ap, ◌∙◌, arith}
 use Rattle.std.specs.Fmt.{decimal}
 use Rattle.std.proofs.lemmas.List.{take-append-drop}
 use Rattle.row_text.specs.calls.Words.{unsigned_text}
@@ -7,7 +8,8 @@ use Rattle.row_text.proofs.read_decimals.units_of.Goals as goal
 
 pub returns-in_err-whole : goal.returns-in_err-whole
 returns-in_err-whole c = rw c.from_residual.ensures (λ n low e.
-    let parts = unit_parts c.args.s n c.point_size-size.result c.args.text.now c.split_at.result.0.now c.split_at.result.1.now
+    let parts = unit_parts c.args.s n c.point_size-size.result c.args.text.now c.split_at.result.0.now
+    c.split_at.result.1.now
     c.point_size-size.ensures c.split_at.ensures.front c.split_at.ensures.back e in
     let most = most_power c.args.p (omega (arith, c.requires)) in
     let bad : ◌≡◌ {A = Option ℕ} None (Some (n / 10 ^ c.args.s)) =
@@ -16,13 +18,15 @@ returns-in_err-whole c = rw c.from_residual.ensures (λ n low e.
 
 pub returns-in_err-part : goal.returns-in_err-part
 returns-in_err-part c = rw c.from_residual-in_err-part.ensures (λ n low e.
-    let parts = unit_parts c.args.s n c.point_size-size.result c.args.text.now c.split_at.result.0.now c.split_at.result.1.now
+    let parts = unit_parts c.args.s n c.point_size-size.result c.args.text.now c.split_at.result.0.now
+    c.split_at.result.1.now
     c.point_size-size.ensures c.split_at.ensures.front c.split_at.ensures.back e in
     c.in_err-part.ensures n parts.part_is)
 
 pub returns-then-whole-ten_to : goal.returns-then-whole-ten_to
 returns-then-whole-ten_to c = λ n low e.
-    let parts = unit_parts c.args.s n c.point_size-size.result c.args.text.now c.split_at.result.0.now c.split_at.result.1.now
+    let parts = unit_parts c.args.s n c.point_size-size.result c.args.text.now c.split_at.result.0.now
+    c.split_at.result.1.now
     c.point_size-size.ensures c.split_at.ensures.front c.split_at.ensures.back e in
     let most = most_power c.args.p (omega (arith, c.requires)) in
     let power : c.ten_to.result ≡ 10 ^ (c.args.p - c.args.s) =
@@ -64,14 +68,16 @@ returns c =
     let whole = c.in_ok-whole.whole in
     let part = c.in_ok-part.part in
     let text = c.args.text.now in
-    let power : c.ten_to.result ≡ 10 ^ (c.args.p - s) = c.ten_to.ensures.value ∙ ap (λ (k : ℕ). 10 ^ k) c.from.ensures in
+    let power : c.ten_to.result ≡ 10 ^ (c.args.p - s) =
+    c.ten_to.ensures.value ∙ ap (λ (k : ℕ). 10 ^ k) c.from.ensures in
     let ten : c.ten_to-2.result ≡ 10 ^ s = c.ten_to-2.ensures.value ∙ ap (λ (k : ℕ). 10 ^ k) c.from-2.ensures in
     let fits = units_at c.args.p s whole part c.ten_to-2.result
     (omega (arith, c.requires)) (omega (arith, c.requires)) (omega (arith, c.if-whole-ten_to.false, power))
     c.in_ok-part.ensures.0 ten in
     let place : ℕ = length text - c.point_size-size.result in
     let is : text ≡ unsigned_text s (whole * c.ten_to-2.result + part) =
-    sym (take-append-drop place text) ∙ ap (λ (t : List ℕ). t ++ drop place text) (sym c.split_at.ensures.front ∙ c.in_ok-whole.ensures.found)
+    sym (take-append-drop place text)
+    ∙ ap (λ (t : List ℕ). t ++ drop place text) (sym c.split_at.ensures.front ∙ c.in_ok-whole.ensures.found)
     ∙ ap (λ (t : List ℕ). decimal whole ++ t) (sym c.split_at.ensures.back ∙ c.in_ok-part.ensures.1)
     ∙ units_text s whole part c.in_ok-part.ensures.0
     ∙ ap (λ (k : ℕ). unsigned_text s (whole * k + part)) (sym ten) in

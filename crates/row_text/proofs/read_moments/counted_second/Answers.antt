@@ -14,6 +14,7 @@ returns-then-not-is_counted c = λ s some most is.
     let one = day_is_of s c.args.moment some most c.requires.year c.requires.month c.requires.day is in
     let same : day ≡ s / 86400 = one_day day (s / 86400) c.args.moment.date.year c.args.moment.date.month
     c.args.moment.date.day c.in_ok-day.ensures.0 (omega (arith, most)) c.in_ok-day.ensures.1 one in
-    let e = whole_second s day c.args.moment.time.hour c.args.moment.time.minute c.args.moment.time.second c.args.moment is
+    let e = whole_second s day c.args.moment.time.hour c.args.moment.time.minute c.args.moment.time.second
+    c.args.moment is
     same refl refl refl in
     iff_false c.is_counted.ensures c.if-not-is_counted.true (omega (arith, e, some), omega (arith, e, most))

@@ -3,7 +3,8 @@ use Rattle.row_text.proofs.MomentWords.{moment_word, no_moment, other_moment}
 use Rattle.row_text.proofs.read_moments.date_time_value.Goals as goal
 
 pub returns-in_err-moment : goal.returns-in_err-moment
-returns-in_err-moment c = rw c.from_residual.ensures (no_moment c.args.f c.args.word.now (λ y mo d h mi s n whole part e.
+returns-in_err-moment c =
+    rw c.from_residual.ensures (no_moment c.args.f c.args.word.now (λ y mo d h mi s n whole part e.
     c.in_err-moment.ensures y mo d h mi s n e))
 
 pub returns-then-not-is_moment : goal.returns-then-not-is_moment

@@ -12,20 +12,23 @@ pub returns-in_err-date : goal.returns-in_err-date
 returns-in_err-date c = rw c.from_residual-in_err-date.ensures (λ y mo d h mi s n e.
     let inside = c.in_ok-inside.inside.now in
     let is = inside_one inside (moment_text c.args.f y mo d h mi s n) (sym c.in_ok-inside.ensures.found ∙ e) in
-    c.in_err-date.ensures y mo d (date_part c.args.f y mo d h mi s n inside c.split_at.result.0.now is c.split_at.ensures.front))
+    c.in_err-date.ensures y mo d
+    (date_part c.args.f y mo d h mi s n inside c.split_at.result.0.now is c.split_at.ensures.front))
 
 pub returns-in_err-time : goal.returns-in_err-time
 returns-in_err-time c = rw c.from_residual-in_err-time.ensures (λ y mo d h mi s n e.
     let inside = c.in_ok-inside.inside.now in
     let is = inside_one inside (moment_text c.args.f y mo d h mi s n) (sym c.in_ok-inside.ensures.found ∙ e) in
-    c.in_err-time.ensures h mi s (clock_part c.args.f y mo d h mi s n inside c.split_at.result.1.now c.split_at-2.result.0.now
+    c.in_err-time.ensures h mi s
+    (clock_part c.args.f y mo d h mi s n inside c.split_at.result.1.now c.split_at-2.result.0.now
     is c.split_at.ensures.back c.split_at-2.ensures.front))
 
 pub returns-in_err-micro : goal.returns-in_err-micro
 returns-in_err-micro c = rw c.from_residual-in_err-micro.ensures (λ y mo d h mi s n e.
     let inside = c.in_ok-inside.inside.now in
     let is = inside_one inside (moment_text c.args.f y mo d h mi s n) (sym c.in_ok-inside.ensures.found ∙ e) in
-    c.in_err-micro.ensures n (fraction_part c.args.f y mo d h mi s n inside c.split_at.result.1.now c.split_at-2.result.1.now
+    c.in_err-micro.ensures n
+    (fraction_part c.args.f y mo d h mi s n inside c.split_at.result.1.now c.split_at-2.result.1.now
     is c.split_at.ensures.back c.split_at-2.ensures.back))
 
 pub returns : goal.returns

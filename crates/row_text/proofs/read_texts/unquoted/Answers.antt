@@ -17,7 +17,8 @@ loop-byte-preserved c =
     let pushed = read_more text l.list c.push.new.self l.rest.now behind_byte l.invariant
     (byte_taken l.list c.push.new.self l.rest.now behind_byte _ _ c.in-Some-first_byte.ensures c.in_ok-push.ensures.ok
     c.split_at.ensures.back) in
-    let plain = read_more text c.push.new.self c.add_plain.new.list behind_byte more pushed c.in_ok-more.ensures.takes in
+    let plain = read_more text c.push.new.self c.add_plain.new.list behind_byte more pushed
+    c.in_ok-more.ensures.takes in
     read_more text c.add_plain.new.list c.add_some.new.list more c.in_ok-rest.rest.now plain c.in_ok-rest.ensures.takes
 
 pub returns-in_default-behind-clause-found : goal.returns-in_default-behind-clause-found

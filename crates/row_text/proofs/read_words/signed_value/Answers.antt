@@ -21,5 +21,6 @@ pub returns : goal.returns
 returns c =
     let fits : SFits w64 c.in_ok-number.number = search rules in
     let test = simp to_z-of_z at c.is_signed_number.ensures in
-    simp to_z-of_z (signed_word c.args.width c.in_ok-number.number c.args.word.now c.requires c.in_ok-number.ensures.found
+    simp to_z-of_z (signed_word c.args.width c.in_ok-number.number c.args.word.now c.requires
+    c.in_ok-number.ensures.found
     (test.0 c.if-not-is_signed_number.false))

@@ -36,13 +36,20 @@ loop-came-init g c =
 pub bounds-columns-came : goal.bounds-columns-came
 bounds-columns-came g c =
     let size = row_size c.args.schema.now.columns c.args.row.now c.requires in
-    omega (arith, c.loop-came-test.true, size, ap length c.values-values.ensures, ap length c.columns-columns.ensures.same)
+    omega (
+      arith,
+      c.loop-came-test.true,
+      size,
+      ap length c.values-values.ensures,
+      ap length c.columns-columns.ensures.same,
+    )
 
 pub put_next-requires-clause-known : goal.put_next-requires-clause-known
 put_next-requires-clause-known g c =
     let table = c.args.schema.now in
     let is = pair_at table c.args.row.now c.values-values.result.now c.columns-columns.result.now c.loop-came.came
-    c.index-columns-came.result c.index-values-came.result c.requires c.columns-columns.ensures.same c.values-values.ensures
+    c.index-columns-came.result c.index-values-came.result c.requires c.columns-columns.ensures.same
+    c.values-values.ensures
     c.loop-came-test.true c.index-columns-came.is c.index-values-came.is in
     subst IsKnown (sym is.column_is) (All-get_or IsKnown table.columns c.loop-came.came _ is.within
     c.columns-columns.ensures.table.kinds)
@@ -51,7 +58,8 @@ pub put_next-requires-clause-fits : goal.put_next-requires-clause-fits
 put_next-requires-clause-fits g c =
     let table = c.args.schema.now in
     let is = pair_at table c.args.row.now c.values-values.result.now c.columns-columns.result.now c.loop-came.came
-    c.index-columns-came.result c.index-values-came.result c.requires c.columns-columns.ensures.same c.values-values.ensures
+    c.index-columns-came.result c.index-values-came.result c.requires c.columns-columns.ensures.same
+    c.values-values.ensures
     c.loop-came-test.true c.index-columns-came.is c.index-values-came.is in
     pair_fits table c.args.row.now c.loop-came.came c.index-columns-came.result c.index-values-came.result c.requires is
 
@@ -62,7 +70,8 @@ returns-in_err-put_next g c =
     let row = c.args.row.now in
     let k = c.loop-came.came in
     let is = pair_at table row c.values-values.result.now c.columns-columns.result.now k
-    c.index-columns-came.result c.index-values-came.result c.requires c.columns-columns.ensures.same c.values-values.ensures
+    c.index-columns-came.result c.index-values-came.result c.requires c.columns-columns.ensures.same
+    c.values-values.ensures
     c.loop-came-test.true c.index-columns-came.is c.index-values-came.is in
     let piece : List ℕ = before_value k ++ value_text c.index-columns-came.result.kind c.index-values-came.result in
     let long : length c.values-values.result.now ≡ length row = ap length c.values-values.ensures in
@@ -70,7 +79,8 @@ returns-in_err-put_next g c =
     let whole : line_of table row ≡ line_up_to table row k ++ (piece ++ more.rest) =
     more.whole ∙ ap (λ (t : List ℕ). line_up_to table row k ++ ((before_value k ++ t) ++ more.rest))
     (sym (pair_text table row k c.index-columns-came.result c.index-values-came.result is)) in
-    subst (λ (t : List ℕ). Puts s c.args.sink.now c.put_next.new.sink t c.from_residual-in_err-put_next.result) (sym whole)
+    subst (λ (t : List ℕ). Puts s c.args.sink.now c.put_next.new.sink t c.from_residual-in_err-put_next.result)
+    (sym whole)
     (put_cut s c.args.sink.now c.loop-came.sink c.put_next.new.sink (line_up_to table row k) piece more.rest
     c.put_next.result _ c.from_residual-in_err-put_next.result c.loop-came.invariant c.put_next.ensures
     c.in_err-put_next.was c.from_residual-in_err-put_next.ensures.0)
@@ -82,7 +92,8 @@ loop-came-preserved g c =
     let row = c.args.row.now in
     let k = c.loop-came.came in
     let is = pair_at table row c.values-values.result.now c.columns-columns.result.now k
-    c.index-columns-came.result c.index-values-came.result c.requires c.columns-columns.ensures.same c.values-values.ensures
+    c.index-columns-came.result c.index-values-came.result c.requires c.columns-columns.ensures.same
+    c.values-values.ensures
     c.loop-came-test.true c.index-columns-came.is c.index-values-came.is in
     let piece : List ℕ = before_value k ++ value_text c.index-columns-came.result.kind c.index-values-came.result in
     let long : length c.values-values.result.now ≡ length row = ap length c.values-values.ensures in
@@ -104,5 +115,6 @@ returns g c =
     let whole : line_up_to table row c.loop-came.came ++ line_close ≡ line_of table row =
     ap (λ (k : ℕ). line_up_to table row k ++ line_close) all ∙ line_closes table row c.requires in
     subst (λ (t : List ℕ). Puts s c.args.sink.now c.put_pieces.new.sink t c.put_pieces.result) whole
-    (put_last s c.args.sink.now c.loop-came.sink c.put_pieces.new.sink (line_up_to table row c.loop-came.came) line_close
+    (put_last s c.args.sink.now c.loop-came.sink c.put_pieces.new.sink
+    (line_up_to table row c.loop-came.came) line_close
     c.put_pieces.result c.loop-came.invariant c.put_pieces.ensures)

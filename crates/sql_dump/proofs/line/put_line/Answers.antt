@@ -24,7 +24,8 @@ returns-in_err-flush-clause-moves g c =
     (told1 (g.S.PageSource.content c.args.source.now)
     (λ file keeps row reads. flush_ends (g.O.ByteSink.written c.args.sink.now) (g.O.ByteSink.written
     c.make_room.new.sink) (g.O.ByteSink.written c.flush.new.sink) c.args.buffer.now.bytes
-    c.make_room.new.buffer.bytes c.keep_line.new.buffer.bytes c.flush.new.self.bytes (line_of c.args.row.now.row.table row)
+    c.make_room.new.buffer.bytes c.keep_line.new.buffer.bytes c.flush.new.self.bytes
+    (line_of c.args.row.now.row.table row)
     c.in_ok-make_room.ensures.sent (keeps row reads) c.in_err-flush.ensures.puts.failed)
     keeps)
 

@@ -79,13 +79,21 @@ loop-c-init g c =
 
 pub cell-cell-requires : goal.cell-cell-requires
 cell-cell-requires g c =
-    omega (arith, column_count (ap (λ (on : RowOnLeaf). on.row) c.row.view_is) c.columns-c-end.ensures.same, c.loop-c-test.true)
+    omega (
+      arith,
+      column_count (ap (λ (on : RowOnLeaf). on.row) c.row.view_is) c.columns-c-end.ensures.same,
+      c.loop-c-test.true,
+    )
 
 pub returns-then-not-is_sound-clause-puts : goal.returns-then-not-is_sound-clause-puts
 returns-then-not-is_sound-clause-puts g c =
     let row = c.args.row.now.row in
     let within : c.loop-c.c < length row.table.columns =
-    omega (arith, column_count (ap (λ (on : RowOnLeaf). on.row) c.row.view_is) c.columns-c-end.ensures.same, c.loop-c-test.true) in
+    omega (
+      arith,
+      column_count (ap (λ (on : RowOnLeaf). on.row) c.row.view_is) c.columns-c-end.ensures.same,
+      c.loop-c-test.true,
+    ) in
     told0 (g.S.PageSource.content c.args.source.now)
     (λ file row_values reads. absurd (false≢true (c.if-not-is_sound.ensures.1 (sound_value file c.cell-cell.result _
     (cell_reads file row c.loop-c.c c.cell-cell.result row_values c.cell-cell.ensures within reads)))))
@@ -95,7 +103,11 @@ put_value-requires-clause-told g c =
     let i = c.loop-c.invariant in
     let row = c.args.row.now.row in
     let within : c.loop-c.c < length row.table.columns =
-    omega (arith, column_count (ap (λ (on : RowOnLeaf). on.row) c.row.view_is) c.columns-c-end.ensures.same, c.loop-c-test.true) in
+    omega (
+      arith,
+      column_count (ap (λ (on : RowOnLeaf). on.row) c.row.view_is) c.columns-c-end.ensures.same,
+      c.loop-c-test.true,
+    ) in
     rw i.same
     (told2 (g.S.PageSource.content c.args.source.now)
     (λ file can used.
@@ -114,7 +126,11 @@ returns-in_err-put_value-clause-puts g c =
     let row = c.args.row.now.row in
     let cell = c.cell-cell.result in
     let within : c.loop-c.c < length row.table.columns =
-    omega (arith, column_count (ap (λ (on : RowOnLeaf). on.row) c.row.view_is) c.columns-c-end.ensures.same, c.loop-c-test.true) in
+    omega (
+      arith,
+      column_count (ap (λ (on : RowOnLeaf). on.row) c.row.view_is) c.columns-c-end.ensures.same,
+      c.loop-c-test.true,
+    ) in
     let puts = rw i.same at c.in_err-put_value.ensures.puts in
     let r = err_from_is_err_and c.from_residual-in_err-put_value.result c.from_residual-in_err-put_value.ensures.1 in
     rw (r.1, r.2)
@@ -131,9 +147,14 @@ pub returns-in_err-put_value-clause-near : goal.returns-in_err-put_value-clause-
 returns-in_err-put_value-clause-near g c =
     let row = c.args.row.now.row in
     let within : c.loop-c.c < length row.table.columns =
-    omega (arith, column_count (ap (λ (on : RowOnLeaf). on.row) c.row.view_is) c.columns-c-end.ensures.same, c.loop-c-test.true) in
+    omega (
+      arith,
+      column_count (ap (λ (on : RowOnLeaf). on.row) c.row.view_is) c.columns-c-end.ensures.same,
+      c.loop-c-test.true,
+    ) in
     let table = subst (λ (on : RowOnLeaf). IsTable on.row.table) c.row.view_is c.columns-c-end.ensures.table in
-    let placed = subst (λ (on : RowOnLeaf). HavePlaces on.row.table on.row.places) c.row.view_is c.row.invariant.placed in
+    let placed = subst (λ (on : RowOnLeaf). HavePlaces on.row.table on.row.places) c.row.view_is
+    c.row.invariant.placed in
     λ all. c.in_err-put_value.ensures.near (cell_near row c.loop-c.c c.cell-cell.result table placed
     c.cell-cell.ensures within all) ∙ c.loop-c.invariant.near all
 
@@ -143,9 +164,14 @@ loop-c-preserved g c =
     let row = c.args.row.now.row in
     let cell = c.cell-cell.result in
     let within : c.loop-c.c < length row.table.columns =
-    omega (arith, column_count (ap (λ (on : RowOnLeaf). on.row) c.row.view_is) c.columns-c-end.ensures.same, c.loop-c-test.true) in
+    omega (
+      arith,
+      column_count (ap (λ (on : RowOnLeaf). on.row) c.row.view_is) c.columns-c-end.ensures.same,
+      c.loop-c-test.true,
+    ) in
     let table = subst (λ (on : RowOnLeaf). IsTable on.row.table) c.row.view_is c.columns-c-end.ensures.table in
-    let placed = subst (λ (on : RowOnLeaf). HavePlaces on.row.table on.row.places) c.row.view_is c.row.invariant.placed in
+    let placed = subst (λ (on : RowOnLeaf). HavePlaces on.row.table on.row.places) c.row.view_is
+    c.row.invariant.placed in
     let puts = rw i.same at c.in_ok-put_value.ensures.puts in
     let left = rw i.same at c.in_ok-put_value.ensures.left in
     record {

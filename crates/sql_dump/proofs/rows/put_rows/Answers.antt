@@ -44,7 +44,8 @@ put_line-requires g c =
     let i = c.loop-origin.invariant in
     let finds = rw (c.in-Some.is, i.same) at c.in_ok-origin.ensures.exact in
     let row : c.row-row.result.row ≡ row_on c.args.reader.now.table c.next.new.self.leaf.page c.in-Some.origin =
-    row_given c.in-Some.origin (ap (λ (on : RowOnLeaf). on.row) c.row-row.ensures) (c.in_ok-read.ensures.table ∙ i.table) c.page-page.ensures
+    row_given c.in-Some.origin (ap (λ (on : RowOnLeaf). on.row) c.row-row.ensures)
+    (c.in_ok-read.ensures.table ∙ i.table) c.page-page.ensures
     (rw i.table at c.in_ok-read.ensures.read) in
     let same = c.in_ok-origin.ensures.over.same ∙ i.same in
     record {
@@ -62,7 +63,8 @@ loop-origin-preserved g c =
     let table = c.args.reader.now.table in
     let finds = rw (c.in-Some.is, i.same) at c.in_ok-origin.ensures.exact in
     let row : c.row-row.result.row ≡ row_on table c.next.new.self.leaf.page c.in-Some.origin =
-    row_given c.in-Some.origin (ap (λ (on : RowOnLeaf). on.row) c.row-row.ensures) (c.in_ok-read.ensures.table ∙ i.table) c.page-page.ensures
+    row_given c.in-Some.origin (ap (λ (on : RowOnLeaf). on.row) c.row-row.ensures)
+    (c.in_ok-read.ensures.table ∙ i.table) c.page-page.ensures
     (rw i.table at c.in_ok-read.ensures.read) in
     let same = c.in_ok-origin.ensures.over.same ∙ i.same in
     let puts = rw (same, row) at c.in_ok-put_line.ensures.moves in
@@ -100,7 +102,8 @@ returns-in_err-put_line-clause-puts g c =
     let i = c.loop-origin.invariant in
     let finds = rw (c.in-Some.is, i.same) at c.in_ok-origin.ensures.exact in
     let row : c.row-row.result.row ≡ row_on c.args.reader.now.table c.next.new.self.leaf.page c.in-Some.origin =
-    row_given c.in-Some.origin (ap (λ (on : RowOnLeaf). on.row) c.row-row.ensures) (c.in_ok-read.ensures.table ∙ i.table) c.page-page.ensures
+    row_given c.in-Some.origin (ap (λ (on : RowOnLeaf). on.row) c.row-row.ensures)
+    (c.in_ok-read.ensures.table ∙ i.table) c.page-page.ensures
     (rw i.table at c.in_ok-read.ensures.read) in
     let same = c.in_ok-origin.ensures.over.same ∙ i.same in
     let puts = rw (same, row) at c.in_err-put_line.ensures.moves in

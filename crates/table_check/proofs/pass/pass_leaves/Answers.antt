@@ -31,7 +31,8 @@ returns-in_err-next_leaf-clause-exact g c =
     (told2 (g.S.PageSource.content c.args.source.now)
     (λ file t f root fields node j walked has.
     let some = t root fields node j walked has in
-    halts_nowhere (Unit {0}) (index_of file root fields node) some.0 c.in_err-next_leaf.field-0.0 c.next_leaf.new.self.leaf
+    halts_nowhere (Unit {0})
+    (index_of file root fields node) some.0 c.in_err-next_leaf.field-0.0 c.next_leaf.new.self.leaf
     (f root fields node some.0 walked some.1))
     i.told found)
 
@@ -39,7 +40,8 @@ pub returns-in_err-next_leaf-clause-hops : goal.returns-in_err-next_leaf-clause-
 returns-in_err-next_leaf-clause-hops g c =
     let r = err_from_is_err_and c.from_residual.result c.from_residual.ensures.1 in
     rw (r.1, r.2)
-    (λ n is. come_halts (Unit {0}) n c.args.cursor.now.leaf c.loop.cursor.leaf c.next_leaf.new.self.leaf c.loop.cursor.last
+    (λ n is. come_halts (Unit {0}) n c.args.cursor.now.leaf c.loop.cursor.leaf c.next_leaf.new.self.leaf
+    c.loop.cursor.last
     c.in_err-next_leaf.field-0.0 (c.loop.invariant.came n is) c.in_err-next_leaf.ensures.hops)
 
 pub returns-in_err-next_leaf-clause-keeps : goal.returns-in_err-next_leaf-clause-keeps

@@ -4,7 +4,8 @@ use Rattle.compact_record.specs.Reading.{field_count}
 use Rattle.page_source.proofs.Told.{told0}
 use Rattle.table_check.proofs.Progress.{unmarked_most}
 use Rattle.table_check.proofs.RecordMarks.{count_of_places, place_read, field_read}
-use Rattle.table_check.proofs.RecordMarks.{none_held, field_breaks, field_holds, all_held, field_steps, all_steps, steps_held}
+use Rattle.table_check.proofs.RecordMarks.{none_held, field_breaks, field_holds, all_held, field_steps, all_steps}
+use Rattle.table_check.proofs.RecordMarks.{steps_held}
 use Rattle.table_check.proofs.record.check_row_values.Goals as goal
 
 pub loop-i-init : goal.loop-i-init

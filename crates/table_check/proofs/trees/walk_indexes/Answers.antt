@@ -21,7 +21,8 @@ returns-in_err-clustered-clause-exact g c =
 pub loop-j-init : goal.loop-j-init
 loop-j-init g c =
     let first_list : c.push.new.list ≡ [] ++ c.in_ok-clustered.clustered ∷ [] =
-    c.in_ok-push.ensures.ends ∙ ap (λ (list : List TreeEnds). list ++ c.in_ok-clustered.clustered ∷ []) c.requires.none in
+    c.in_ok-push.ensures.ends
+    ∙ ap (λ (list : List TreeEnds). list ++ c.in_ok-clustered.clustered ∷ []) c.requires.none in
     let first_leaves = tree_leaves_more [] c.push.new.list c.in_ok-clustered.clustered first_list in record {
       same = c.in_ok-clustered.ensures.over.same;
       later = c.in_ok-clustered.ensures.over.cause.later;
@@ -68,7 +69,8 @@ loop-j-preserved g c =
     let ends = rw inv.same at c.in_ok-ends.ensures.ends in
     let walked = rw inv.same at c.in_ok-ends.ensures.walked in
     let more = c.in_ok-ends.ensures.leaves in
-    let grown = tree_leaves_more c.loop-j.list c.push-in-loop-j.new.list c.in_ok-ends.ends c.in_ok-push-2.ensures.ends in
+    let grown = tree_leaves_more c.loop-j.list c.push-in-loop-j.new.list c.in_ok-ends.ends
+    c.in_ok-push-2.ensures.ends in
     record {
       same = c.in_ok-ends.ensures.over.same ∙ inv.same;
       later = omega (arith, inv.later, c.in_ok-ends.ensures.over.cause.later);
@@ -97,7 +99,8 @@ loop-j-preserved g c =
           (λ file are check taken ends. walked_more file c.args.schema.now c.loop-j.j c.loop-j.taken
           c.walk_index-in-loop-j.new.taken c.in_ok-clustered.clustered
           c.in_ok-ends.ends
-          c.loop-j.leaf_segments.items c.push-in-loop-j.new.segments.items are check taken ends c.in_ok-push-2.ensures.segments)
+          c.loop-j.leaf_segments.items c.push-in-loop-j.new.segments.items are check taken ends
+          c.in_ok-push-2.ensures.segments)
           inv.told check taken ends;
     }
 

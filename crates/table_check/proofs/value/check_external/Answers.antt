@@ -49,7 +49,8 @@ returns-clause-checks g c =
           (λ bytes. TakesText c.feed.new.self (front_of local ++ bytes)) fits
           (text_behind kind local c.text_of-text.result c.feed.new.self c.text_of-text.ensures.takes feeds)
           c.check_chain_in.result
-          (subst (λ (r : Reference). Halts c.check_chain_in.result (ChainChecksBy file (place_on file leaf) leaf.number r
+          (subst (λ (r : Reference). Halts c.check_chain_in.result
+          (ChainChecksBy file (place_on file leaf) leaf.number r
           (is_set c.args.marks.now) (λ bytes. TakesText c.feed.new.self (front_of local ++ bytes))))
           c.cut.ensures.reference (chain (front_of local) was)))
           c.check_chain_in.ensures.exact;

@@ -34,7 +34,8 @@ returns-in_err-pass_leaves-clause-exact g c =
     err_from_is_err_and c.from_residual-in_err-pass_leaves.result c.from_residual-in_err-pass_leaves.ensures.1 in
     rw (r.1, r.2)
     (told2 (g.S.PageSource.content c.args.source.now)
-    (λ file is passes. pass_stops file c.args.schema.now (Unit {0}) c.in_err-pass_leaves.field-0.0 c.in_ok-cursor.cursor.leaf
+    (λ file is passes. pass_stops file c.args.schema.now
+    (Unit {0}) c.in_err-pass_leaves.field-0.0 c.in_ok-cursor.cursor.leaf
     c.pass_leaves.new.cursor.leaf c.in_ok-cursor.cursor.last passes is.walked
     (c.in_ok-cursor.ensures.taken (clustered_tree file c.args.schema.now) is.has_ends))
     c.requires.clustered c.in_err-pass_leaves.ensures.exact)

@@ -45,7 +45,8 @@ loop-n-init g c =
       };
       few = rw room.saved (record { rows_most = omega arith; leaves_most = omega arith; lost_most = omega arith });
       paid = omega (arith, c.in_ok-id.ensures.cost, members, unmarked_most c.in_ok-room.room.marks);
-      over = rw room.heard (over_source g.S.PageSource g.O.ByteSink g.E.ByteSink c.args.sink.now c.args.losses.now false same
+      over = rw room.heard
+          (over_source g.S.PageSource g.O.ByteSink g.E.ByteSink c.args.sink.now c.args.losses.now false same
           (omega (arith, c.in_ok-id.ensures.later, c.in-Ok.ensures.cause.later))
           (omega (arith, c.in_ok-id.ensures.asked, c.in-Ok.ensures.asked)));
       told =

@@ -63,7 +63,8 @@ returns-in_err-put_saved_row-clause-goes g c =
           (λ file told held under saves count moves. λ start met.
           let row = judged saves.row_values c.row-row.result c.args.room.now.page c.args.found.origin
           c.check_columns-room.ensures.over.later held found.record_of row_is saves.saves under met in
-          line_ends _ _ _ _ _ _ _ _ c.in_err-put_saved_row.field-0.0 (rw table_is at (moves saves.row_values saves.saves))
+          line_ends _ _ _ _ _ _ _ _ c.in_err-put_saved_row.field-0.0
+          (rw table_is at (moves saves.row_values saves.saves))
           (λ cut.
           met_cut c.in_err-put_saved_row.ensures.over.source_later refl (omega (arith, told, c.requires.held.below)) cut
           c.report_row.ensures.got row)

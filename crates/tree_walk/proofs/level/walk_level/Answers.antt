@@ -65,7 +65,8 @@ returns-in-None-clause-exact g c =
     told5 o
     (λ file s x m t f. level_holds (index_in file c.args.aim.now.tree) c.args.aim.now
     c.args.marks.now c.places.marks c.places.place c.places.walk.parent c.places.tally s c.check_here.new.marks
-    x m c.in_ok-found.found.tally c.sum-tally.result t c.sum-tally.ensures.live c.sum-tally.ensures.deleted c.sum-tally.ensures.whole
+    x m c.in_ok-found.found.tally c.sum-tally.result t c.sum-tally.ensures.live c.sum-tally.ensures.deleted
+    c.sum-tally.ensures.whole
     (c.in-None.ensures.end refl (index_in file c.args.aim.now.tree) c.args.aim.now.depth
     c.places.place.j f))
     i.told x m t f
@@ -81,7 +82,8 @@ returns-in-None-clause-marked g c =
     told5 o
     (λ file s x m t f. level_marked (index_in file c.args.aim.now.tree) c.args.aim.now
     c.args.marks.now c.places.marks c.places.place c.places.walk.parent c.places.tally s c.check_here.new.marks
-    x m c.in_ok-found.found.tally c.sum-tally.result t c.sum-tally.ensures.live c.sum-tally.ensures.deleted c.sum-tally.ensures.whole
+    x m c.in_ok-found.found.tally c.sum-tally.result t c.sum-tally.ensures.live c.sum-tally.ensures.deleted
+    c.sum-tally.ensures.whole
     (c.in-None.ensures.end refl (index_in file c.args.aim.now.tree) c.args.aim.now.depth
     c.places.place.j f))
     i.told x m t f
@@ -107,7 +109,8 @@ returns-in-None-clause-level g c =
     let v = told5 o
     (λ file s x m t f. level_is (index_in file c.args.aim.now.tree) c.args.aim.now
     c.args.marks.now c.places.marks c.places.place c.places.walk.parent c.places.tally s c.check_here.new.marks
-    x m c.in_ok-found.found.tally c.sum-tally.result t c.sum-tally.ensures.live c.sum-tally.ensures.deleted c.sum-tally.ensures.whole
+    x m c.in_ok-found.found.tally c.sum-tally.result t c.sum-tally.ensures.live c.sum-tally.ensures.deleted
+    c.sum-tally.ensures.whole
     (c.in-None.ensures.end refl (index_in file c.args.aim.now.tree) c.args.aim.now.depth
     c.places.place.j f))
     i.told x m t f in

@@ -19,7 +19,8 @@ invariant_of-self-in_default c =
     ∙ sym (map-append storage_of fields (field ∷ [])) ∙ ap (λ (xs : List Field). map storage_of xs) (sym grown) in
     let short : All IsShort c.push.new.self.items = subst (λ (xs : List Storage). All IsShort xs)
     (sym c.in_ok-push.ensures.items)
-    (All-push IsShort c.self.inside.stored.items c.storage_of.result c.self.invariant.2 c.storage_of.ensures.within) in (
+    (All-push IsShort c.self.inside.stored.items c.storage_of.result c.self.invariant.2
+    c.storage_of.ensures.within) in (
       rw grown (listed_more (record {
         fields = fields;
         nullable = c.self.inside.nullable;

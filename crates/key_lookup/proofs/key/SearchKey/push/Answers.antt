@@ -10,7 +10,8 @@ returns c =
     let places = c.self.inside.places.items in
     let bytes = c.args.bytes.now in
     let at : ℕ → Place = λ n. record { null = false; external = false; from = n; until = n + length bytes } in
-    let first = ap (λ (ps : List Place). map (cell_at c.extend_from_slice.new.self.items) ps) c.in_ok-push.ensures.items in
+    let first = ap (λ (ps : List Place). map (cell_at c.extend_from_slice.new.self.items) ps)
+    c.in_ok-push.ensures.items in
     let second = ap (λ (b : List ℕ). map (cell_at b) (places ++ at (length c.as_slice-from.result.now) ∷ []))
     c.in_ok-extend_from_slice.ensures.items in
     first ∙ second

@@ -15,4 +15,5 @@ pub returns-clause-whole : goal.returns-clause-whole
 returns-clause-whole c =
     let long : length c.self.inside.page ≡ 16384 = ap length (sym c.bytes.ensures.same) ∙ c.bytes.ensures.size in
     subst (λ (p : Packing). AreWhole p.records) c.self.view_is
-    (whole_filled c.self.inside.page c.self.inside.spots.items c.self.inside.count c.self.inside.top long c.self.invariant)
+    (whole_filled c.self.inside.page c.self.inside.spots.items c.self.inside.count c.self.inside.top long
+    c.self.invariant)

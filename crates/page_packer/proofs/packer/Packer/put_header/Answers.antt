@@ -11,7 +11,8 @@ returns c =
     let long : length page ≡ 16384 = ap length (sym c.bytes.ensures.same) ∙ c.bytes.ensures.size in
     let slots : c.slots_for-slots.result ≡ slots_for (length packing.records) =
     c.slots_for-slots.ensures.value ∙ ap (λ (n : ℕ). slots_for n) c.count.ensures.value in
-    let numbers = numbers_are packing c.slots_for-slots.result c.top-top.result c.count-count.result c.level.result slots
+    let numbers = numbers_are packing c.slots_for-slots.result c.top-top.result c.count-count.result
+    c.level.result slots
     c.top-top.ensures.value c.count-count.ensures.value c.level.ensures in
     header_put packing page c.put_numbers.new.page c.write_be.new.page c.put_heads.new.page c.args.index_id c.args.heads
     long

@@ -23,7 +23,8 @@ returns-clause-tally g c =
     let leaf = c.args.aim.now.tree.leaf.now in
     let is_leaf : c.fields_on-fields.result.now ≡ leaf = c.fields_on-fields.ensures
     ∙ ap (λ (b : Bool). cond b leaf node) (eq-eqb c.args.aim.now.level 0 z) in
-    subst (λ fields. IsTally (page_of file (child_in_hand c.args.walk.now node c.args.place)) fields c.in_ok-tally.tally)
+    subst (λ fields. IsTally
+    (page_of file (child_in_hand c.args.walk.now node c.args.place)) fields c.in_ok-tally.tally)
     is_leaf
     (subst (λ page. IsTally page c.fields_on-fields.result.now c.in_ok-tally.tally) (p ∙ ap (page_of file) n)
     (c.in_ok-tally.ensures.tally z)))
