@@ -13,9 +13,9 @@ use Rattle.column_values.specs.declared.utf8.Progress.{Progress}
 use Rattle.column_values.specs.declared.utf8.Joined.TheVariants.{Whole, Front, Neither}
 use Rattle.column_values.specs.Characters.{IsCharacter, HasCharacters}
 use Rattle.column_values.specs.Utf8Reader.{State, Bad, Good, Reader, Any, Limited, IsPending, IsCut, StandsFor, WasFed}
-use Rattle.column_values.specs.Utf8Reader.{CountsUpTo, CanFeed, IsAtEnd, TakesText, IsFed}
+use Rattle.column_values.specs.Utf8Reader.{CountsUpTo, CanFeed, IsAtEnd, TakesText}
 use Rattle.column_values.specs.Utf8View.{pending_bytes, state_of, reader_of, IsFront, Joins, state_after, StepsTo}
-use Rattle.column_values.specs.Utf8View.{CanStep, RoomFor, UpTo, ReadsOn}
+use Rattle.column_values.specs.Utf8View.{RoomFor, UpTo, ReadsOn}
 use Rattle.column_values.proofs.Utf8Texts.{before, same_cut, front_pending}
 
 -- one character more
@@ -204,18 +204,6 @@ reads_characters count n bytes are few = record {
   room = λ more r. omega (arith, r, few);
   few = λ most low. omega (arith, low, few);
 }
-
--- one character more can be counted
-pub can_step : (state : State) (n : ℕ) → 1 ≤ n → RoomFor state n → CanStep state
-can_step Bad n some room = tt
-can_step (Good count pending) n some room = omega (arith, some, room)
-
--- what was read on is fed
-pub reads_feed : (limit : Option ℕ) (old new : Progress) (bytes : List ℕ)
-    → ReadsOn (state_of old) (state_of new) bytes → IsFed (reader_of limit old) (reader_of limit new) bytes
-reads_feed None old new bytes reads = record { fed = λ text was. tt; same = λ text. (λ t. t, λ t. t) }
-reads_feed (Some limit) old new bytes reads =
-    record { fed = λ text was. reads.stands text was; same = λ text. (λ t. t, λ t. t) }
 
 pub room_of : (limit : ℕ) (state : State) (more : ℕ) → CanFeed (Limited limit state) more → RoomFor state more
 room_of limit Bad more can = tt

@@ -7,7 +7,6 @@ pub mod Members
 pub mod Marks
 pub mod Times
 pub mod Told
-pub mod Asked
 pub mod SparseFiles
 pub mod Texts
 pub mod Decided

@@ -10,7 +10,7 @@ use Rattle.space_header.specs.declared.address.Address.{Address}
 use Rattle.space_header.specs.declared.address.Base.{Base}
 use Rattle.space_header.specs.declared.address.Node.{Node}
 use Rattle.space_header.specs.Header.{IsNull, extent_address, node_address}
-use Rattle.space_header.specs.Linked.{PointsTo, Leads, Linked}
+use Rattle.space_header.specs.Linked.{Leads, Linked}
 
 -- addresses of members differ, and none is null
 pub record IsAddressing (address : ℕ → Address) (IsMember : ℕ → Type 0) : Type 0 where
@@ -97,32 +97,6 @@ linked_from_leads base node address M a xs n m h =
           (λ b e. cc) h;
       members = m;
       leads = h;
-    }
-
--- nodes that agree at the members link the same lists
-leads_same : (node other : ℕ → Node) (address : ℕ → Address) (last : Address) (before : Option ℕ) (found : Address)
-    (xs : List ℕ)
-    → All (λ n. node n ≡ other n) xs → Leads node address last before found xs
-    → Leads other address last before found xs
-leads_same node other address last before found [] s h = h
-leads_same node other address last before found (x ∷ xs) s h =
-    let e : node x ≡ other x = All-head (λ n. node n ≡ other n) x xs s in (
-      h.0,
-      subst (λ z. PointsTo address z.prev before) e h.1,
-      leads_same node other address last (Some x) (other x).next xs (All-tail (λ n. node n ≡ other n) x xs s)
-          (subst (λ z. Leads node address last (Some x) z.next xs) e h.2),
-    )
-
-pub linked_same : (base : Base) (node other : ℕ → Node) (address : ℕ → Address) (IsMember : ℕ → Type 0) (xs : List ℕ)
-    → ((n : ℕ) → IsMember n → node n ≡ other n) → Linked base node address IsMember xs
-    → Linked base other address IsMember xs
-linked_same base node other address M xs s h =
-    record {
-      count = h.count;
-      distinct = h.distinct;
-      members = h.members;
-      leads =
-          leads_same node other address base.last None base.first xs (λ k d l. s _ (h.members k d l)) h.leads;
     }
 
 -- addresses of extents
