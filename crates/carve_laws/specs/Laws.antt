@@ -27,7 +27,7 @@ pub record IsLatestPage (image file : List ℕ) (space n : ℕ) : Type 0 where
   pub occurs : Occurs image (page_of file n)
   pub latest : IsLatest image space n (page_of file n)
 
--- so is each page of a file that isn't known to be free
+-- each page of a file that isn't known to be free stands by itself, occurs in the image, and is the latest there
 abbrev pub UsedPagesOccur : List ℕ → List ℕ → ℕ → Type 0
 UsedPagesOccur image file space =
     (n : ℕ) → n < page_count file → ¬ (IsUnused file (λ _. false) n) → IsLatestPage image file space n

@@ -10,9 +10,9 @@ use std::alloc::Global;
 /// How the pages that were edited are sealed.
 #[derive(Clone, Copy)]
 pub enum Frame {
-    /// With the end of their LSN, and checksums of this kind.
+    /// Pages are sealed with the end of their LSN, and checksums of this kind.
     Sums(SumKind),
-    /// Not at all.
+    /// Pages aren't sealed at all.
     AsIs,
 }
 
@@ -25,7 +25,7 @@ pub enum Edit {
         at: usize,
         bytes: ByteList,
     },
-    /// Bytes that change those from a byte on, by exclusive-or.
+    /// Bytes that change the bytes of a page from a byte on, by exclusive-or.
     Turn {
         page: u32,
         at: usize,

@@ -61,7 +61,7 @@ impl EditedPages {
         Ok(())
     }
 
-    /// Keeps the pages of another one, each in place of that with its number.
+    /// Keeps the pages of other edited pages, each in place of the page with its number.
     pub fn put_all(&mut self, alloc: Global, other: &EditedPages) -> Result<(), NoMemory> {
         for (n, leaf) in &other.leaves {
             self.put(alloc, *n, leaf.page.bytes())?;
@@ -84,7 +84,7 @@ impl EditedPages {
 }
 
 impl EditedPages {
-    /// Makes the edit, over the pages that lie under these.
+    /// Makes the edit on the edited pages, over the pages that lie under them.
     pub fn edit(
         &mut self,
         alloc: Global,
@@ -130,8 +130,8 @@ impl EditedPages {
         }
     }
 
-    /// The page with this number, which counts as edited from now on. It is that of the pages under these where none is
-    /// kept yet.
+    /// The page with this number, which counts as edited from now on. If none is kept yet, it is that of the pages
+    /// that lie under the edited ones.
     fn open<'a>(
         &'a mut self,
         alloc: Global,

@@ -27,9 +27,9 @@ const KNOWN: [(&str, Which); 8] = [
 pub struct Base {
     /// The pages of the file that aren't zeros.
     pub pages: EditedPages,
-    /// How many bytes it has.
+    /// How many bytes the file has.
     pub size: u64,
-    /// The schema text of its table.
+    /// The schema text of the file's table.
     pub schema: ByteList,
 }
 

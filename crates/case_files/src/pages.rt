@@ -93,7 +93,7 @@ impl<'a> CasePages<'a> {
         &self.fetched
     }
 
-    /// How many pages it was asked for, those that it didn't give too.
+    /// How many pages the file was asked for, also those that it didn't give.
     pub fn fetches(&self) -> u64 {
         self.fetches
     }

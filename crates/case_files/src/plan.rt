@@ -9,13 +9,13 @@ use std::alloc::Global;
 /// How many bytes the file has.
 #[derive(Clone, Copy)]
 pub enum Size {
-    /// As many as before.
+    /// The file has as many bytes as before.
     AsIs,
     /// A file of so many whole pages.
     Pages(u64),
-    /// At most so many bytes of it.
+    /// At most so many bytes of the file.
     Cut(u64),
-    /// So many zeros after its end.
+    /// The file with so many zeros after its end.
     More(u64),
 }
 

@@ -6,7 +6,7 @@ use crate::words::{Range, number};
 use page_source::{ByteList, NoMemory};
 use std::alloc::Global;
 
-/// The most lines that one stands for.
+/// The most lines that one line stands for.
 const MOST: u64 = 1_000_000;
 
 /// A line that stands for many: the texts between which its number stands.

@@ -52,7 +52,7 @@ impl CaseStore {
         self.held.find(0).is_some()
     }
 
-    /// How many bytes its file has.
+    /// How many bytes the store's file has.
     pub fn bytes(&self) -> u64 {
         u64::from(self.size) * PAGE_SIZE as u64
     }

@@ -7,7 +7,7 @@ use std::alloc::Global;
 /// The most bytes that an escape may repeat.
 const MOST: usize = 17_000_000;
 
-/// How many of them are added at a time.
+/// How many bytes are added at a time.
 const BLOCK: usize = 256;
 
 /// The bytes that a text spells: `\n` is a line feed, `\\` a backslash, `\xHH` any byte, and `\{N}` behind a byte makes

@@ -35,7 +35,7 @@ pub struct Unread {
 }
 
 impl Unread {
-    /// None.
+    /// No page of which fetches fail.
     pub fn none(alloc: Global) -> Unread {
         Unread {
             pages: Vec::new(alloc),

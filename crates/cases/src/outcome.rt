@@ -199,7 +199,7 @@ pub struct Outcome {
 }
 
 impl Outcome {
-    /// One that wrote nothing.
+    /// The outcome of a command that wrote nothing.
     pub fn stopped(alloc: Global, end: End) -> Outcome {
         Outcome {
             end: Err(end),
@@ -207,9 +207,9 @@ impl Outcome {
         }
     }
 
-    /// The words for it, in the form in which the wanted ones stand: `ends` of any sound answer or broken rule, the
-    /// length and the checksum of the text, or the text itself. What was written before a call failed has to be the
-    /// front of the whole text.
+    /// The words for an outcome, in the form in which the wanted ones stand: `ends` of any sound answer or broken
+    /// rule, the length and the checksum of the text, or the text itself. What was written before a call failed has to
+    /// be the front of the whole text.
     pub fn said_as(
         &self,
         alloc: Global,

@@ -34,12 +34,12 @@ impl Report {
         self.tried.saturating_sub(self.failed)
     }
 
-    /// How many came out otherwise.
+    /// How many tries came out otherwise.
     pub fn failed(&self) -> u64 {
         self.failed
     }
 
-    /// What came instead, a line for each of them.
+    /// What came of the tries that came out otherwise, a line for each.
     pub fn came(&self) -> &[u8] {
         self.came.bytes()
     }

@@ -45,7 +45,7 @@ impl Task<'static> {
 }
 
 impl Task<'_> {
-    /// The words for it behind what came.
+    /// The words for a task, which stand behind what came of it.
     pub fn which(self) -> &'static [u8] {
         match self {
             Task::Check => b" of check",
@@ -133,7 +133,7 @@ impl<'a> Ready<'a> {
         &mut self.over
     }
 
-    /// The pages that lie under these.
+    /// The pages that lie under the edited ones.
     pub fn under(&self) -> &'a EditedPages {
         &self.base.pages
     }
@@ -219,7 +219,7 @@ impl<'a> Ready<'a> {
     }
 }
 
-/// How it ended, with what the sink was given.
+/// How a command ended, with what the sink was given.
 pub fn written_of(
     alloc: Global,
     end: Result<(), End>,

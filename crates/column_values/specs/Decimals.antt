@@ -27,7 +27,7 @@ signed_groups groups (negsuc n) = complemented (grouped groups (suc n))
 unfoldable pub decimal_bytes : ℕ → ℕ → ℤ → List ℕ
 decimal_bytes p s units = with_top_turned (signed_groups (decimal_groups p s) units)
 
--- so many digits at the most, and these bytes
+-- the number has so many digits at the most, and these bytes
 pub record SpellsDecimal (p s : ℕ) (units : ℤ) (bytes : List ℕ) : Type 0 where
   pub few : nat_abs units < 10 ^ p
   pub digits : bytes ≡ decimal_bytes p s units

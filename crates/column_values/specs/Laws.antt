@@ -26,7 +26,7 @@ IsTransitive kinds = (a b c : Key) → IsBelow kinds a b → IsBelow kinds b c �
 abbrev pub IsReflexive : List FieldType → Type 0
 IsReflexive kinds = (a : Key) → AreEqualKeys kinds a a
 
--- equal keys are so both ways
+-- if one key is equal to another, the other is equal to it
 abbrev pub Symmetric : List FieldType → Type 0
 Symmetric kinds = (s t : Key) → AreEqualKeys kinds s t → AreEqualKeys kinds t s
 
@@ -50,7 +50,7 @@ HasOneSpelling =
     (kind : ColumnType) (value : Value) (a b : List ℕ) → IsColumnType kind → AreBytes a → AreBytes b
     → Spell kind value a → Spell kind value b → a ≡ b
 
--- these spell one value at the most
+-- bytes spell one value of a type at the most
 abbrev pub HasOneValue : Type 0
 HasOneValue =
     (kind : ColumnType) (v w : Value) (bytes : List ℕ) → IsColumnType kind

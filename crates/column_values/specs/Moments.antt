@@ -71,7 +71,7 @@ pub record SpellsYear (year : ℕ) (bytes : List ℕ) : Type 0 where
   pub size : length bytes ≡ 1
   pub counted : year ≡ year_of (num bytes 0 1)
 
--- the bytes that spell them
+-- the bytes that spell a fraction of a second, and a year
 abbrev pub fraction_bytes : ℕ → ℕ → List ℕ
 fraction_bytes f micro = be_bytes (fraction_length f) (micro / fraction_unit f)
 

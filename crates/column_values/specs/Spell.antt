@@ -95,7 +95,7 @@ Spell types.Year (values.Year year) bytes = SpellsYear year bytes
 Spell (types.Decimal p s) (values.Decimal units) bytes = SpellsDecimal p s units bytes
 Spell _ _ bytes = ⊥
 
--- they spell some value
+-- the bytes spell some value of the type
 abbrev pub IsSpelling : ColumnType → List ℕ → Type 0
 IsSpelling kind bytes = (value : Value) × Spell kind value bytes
 
@@ -123,7 +123,8 @@ abbrev pub Finds : ColumnType → List ℕ → Option Value → Type 0
 Finds kind bytes (Some value) = Spell kind value bytes
 Finds kind bytes None = ¬ (IsSpelling kind bytes)
 
--- the same; memory is taken for texts and bytes alone
+-- what decoding bytes answers: the value that they spell, or that there is none; memory is taken for texts and bytes
+-- alone
 abbrev pub Decodes : ColumnType → List ℕ → Result Value ValueError → Type 0
 Decodes kind bytes (Ok value) = Spell kind value bytes
 Decodes kind bytes (Err BadValue) = ¬ (IsSpelling kind bytes)

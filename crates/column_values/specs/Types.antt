@@ -91,7 +91,8 @@ is_variable_kind kind = is_long_kind kind
 abbrev pub is_big_kind : ColumnType → Bool
 is_big_kind kind = nat_lt 255 (greatest_length kind) || is_long_kind kind
 
--- the same of fields; row id, transaction id, roll pointer and child page are fixed
+-- whether a record keeps the length of a field, and whether that may take two bytes; row id, transaction id, roll
+-- pointer and child page have fixed lengths
 abbrev pub is_variable : FieldType → Bool
 is_variable (Column kind) = is_variable_kind kind
 is_variable _ = false
@@ -165,7 +166,7 @@ pub record AreListed (fields : Fields) : Type 0 where
   pub nullables : nullable_count fields.fields ≤ fields.nullable
   pub leaving : (i : ℕ) → (field_at fields i).may_leave ≡ true → MayLeave fields i
 
--- and the key is among them
+-- the fields go together, and the key is among them
 pub record AreFields (fields : Fields) : Type 0 where
   pub listed : AreListed fields
   pub has_keys : fields.keys ≤ length fields.fields

@@ -7,7 +7,7 @@ use Rattle.column_values.specs.Characters.{IsFurther, HasCharacters}
 abbrev pub GoesOn : ℕ → ℕ → ℕ → Type 0
 GoesOn x y z = (0xC2 ≤ z) ⊎ (0xE0 ≤ y) ⊎ (0xF0 ≤ x)
 
--- or each is whole
+-- each character that began in the three bytes before is whole
 pub record IsClosed (x y z : ℕ) : Type 0 where
   pub four : x < 0xF0
   pub three : y < 0xE0
@@ -39,7 +39,7 @@ AllFollow bytes = (i : ℕ) → i < length bytes → FollowsAt (behind_zeros byt
 abbrev pub is_start : ℕ → Bool
 is_start byte = nat_lt byte 0x80 || nat_le 0xC0 byte
 
--- a character begins behind so many bytes, or each is whole there
+-- a character begins behind so many bytes, or the bytes end there and each character is whole
 abbrev pub EndsAt : List ℕ → ℕ → Type 0
 EndsAt bytes at =
     ((at < length bytes) × (0xC0 ≤ slice_index bytes at))

@@ -20,7 +20,7 @@ abbrev pub state_of : Progress → State
 state_of kept.Bad = Bad
 state_of (kept.Good characters pending) = Good characters (pending_bytes pending)
 
--- no limit, no state
+-- a reader of texts up to a limit has a state; a reader without a limit has none
 abbrev pub reader_of : Option ℕ → Progress → Reader
 reader_of None progress = Any
 reader_of (Some limit) progress = Limited limit (state_of progress)
@@ -56,7 +56,7 @@ abbrev pub CanStep : State → Type 0
 CanStep Bad = Unit {0}
 CanStep (Good count pending) = count < 8589934591
 
--- so many more can be counted
+-- so many more characters can be counted
 abbrev pub RoomFor : State → ℕ → Type 0
 RoomFor Bad more = Unit {0}
 RoomFor (Good count pending) more = count + more ≤ 8589934591

@@ -26,24 +26,25 @@ pub enum FieldType {
 /// A field of an index's records (dict0mem).
 #[derive(Clone, Copy, Debug, PartialEq, Eq)]
 pub struct Field {
-    /// What it holds.
+    /// What the field holds.
     pub kind: FieldType,
-    /// Whether it may be null, so that each record has a null bit for it.
+    /// Whether the field may be null, so that each record has a null bit for it.
     pub nullable: bool,
-    /// Whether a part of its value may stand on pages of its own, as only big columns behind the key may (btr0cur).
+    /// Whether a part of the field's value may stand on pages of its own, as only big columns behind the key may
+    /// (btr0cur).
     pub may_leave: bool,
 }
 
 /// How a record keeps a field (rem0rec): all that its bytes are found by.
 #[derive(Clone, Copy, Debug, PartialEq, Eq)]
 pub struct Storage {
-    /// Whether each record has a null bit for it.
+    /// Whether each record has a null bit for the field.
     pub nullable: bool,
-    /// Whether a record keeps its length.
+    /// Whether a record keeps the length of the field.
     pub variable: bool,
-    /// Whether that length may take two bytes.
+    /// Whether the length of the field may take two bytes.
     pub big: bool,
-    /// Whether a part of its value may stand on pages of its own.
+    /// Whether a part of the field's value may stand on pages of its own.
     pub may_leave: bool,
     /// The length of the field, if it isn't variable.
     pub length: usize,
@@ -68,7 +69,7 @@ fn storage_of(field: Field) -> Storage
 #[derive(Debug, Drop)]
 pub struct FieldList {
     fields: Vec<Field>,
-    /// How a record keeps each of them.
+    /// How a record keeps each of the fields.
     stored: Vec<Storage>,
     nullable: u32,
     keys: u32,
@@ -122,7 +123,7 @@ impl FieldList {
         &self.fields
     }
 
-    /// How a record keeps each of them.
+    /// How a record keeps each of the fields.
     pub fn stored(&self) -> &[Storage]
         ensures same { result.now ≡ map storage_of self.now.fields }
         ensures short { All IsShort result.now }

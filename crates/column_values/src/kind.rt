@@ -33,7 +33,7 @@ pub enum ColumnType {
     Timestamp { f: u8 },
     /// One byte: 0, or the years since 1900.
     Year,
-    /// Of `p` digits, 1 to 38, `s` of them behind the point, at most 30: four bytes for each nine digits on either
-    /// side of the point, and one to four for what is left over there (decimal).
+    /// A number of `p` digits, 1 to 38, `s` of them behind the point, at most 30: four bytes for each nine digits on
+    /// either side of the point, and one to four for what is left over there (decimal).
     Decimal { p: u8, s: u8 },
 }

@@ -8,22 +8,22 @@ use thiserror::Error;
 pub enum Value {
     /// No value. A record has a null bit for it and no bytes, so no bytes spell it.
     Null,
-    /// Of a whole number type that is signed.
+    /// A value of a whole number type that is signed.
     Signed(i64),
-    /// Of a whole number type that is `unsigned`.
+    /// A value of a whole number type that is `unsigned`.
     Unsigned(u64),
-    /// The year is at most 9999, the month 12 and the day 31; each may be 0.
+    /// A date: the year is at most 9999, the month 12 and the day 31; each may be 0.
     Date {
         year: u16,
         month: u8,
         day: u8,
     },
-    /// Of a text type: its bytes, of `char` without the spaces that fill it.
+    /// The bytes of a value of a text type, of `char` without the spaces that fill it.
     Text(ByteList),
-    /// Of `binary`, `varbinary` or a blob kind: all its bytes.
+    /// All bytes of a value of `binary`, `varbinary` or a blob kind.
     Bytes(ByteList),
-    /// In no time zone. The parts are those of a date, an hour up to 23, a minute and a second up to 59, and
-    /// microseconds up to 999,999.
+    /// A date and a time of day, in no time zone. The parts are those of a date, an hour up to 23, a minute and a
+    /// second up to 59, and microseconds up to 999,999.
     DateTime {
         year: u16,
         month: u8,
@@ -41,7 +41,7 @@ pub enum Value {
     },
     /// The year 0, or one from 1901 to 2155.
     Year(u16),
-    /// In units of 10 to the power -S, where the type has S digits behind the point; of at most 38 digits.
+    /// A decimal in units of 10 to the power -S, where the type has S digits behind the point; of at most 38 digits.
     Decimal(i128),
 }
 

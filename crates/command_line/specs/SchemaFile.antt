@@ -13,7 +13,7 @@ use Rattle.command_line.specs.declared.schema_file.SchemaStop.TheVariants.{Refus
 abbrev pub IsRefusedText : List ℕ → ℕ → SchemaWhy → Type 0
 IsRefusedText schema line why = SchemaChecks schema (Some (record { line = line; why = why }))
 
--- it is that of no table
+-- the schema text is that of no table
 abbrev pub IsOfNoTable : List ℕ → Type 0
 IsOfNoTable schema = (table : TableDef) → ¬ (IsTextOf table schema)
 

@@ -14,7 +14,7 @@ next_field page origin = num page (origin - 2) 2
 unfoldable pub next_origin : List ℕ → ℕ → ℕ
 next_origin page origin = if next_field page origin == 0 then 0 else (origin + next_field page origin) % 16384
 
--- its number in the heap
+-- the number of a record in the heap
 unfoldable pub heap_number : List ℕ → ℕ → ℕ
 heap_number page origin = num page (origin - 4) 2 / 8
 
@@ -22,7 +22,7 @@ heap_number page origin = num page (origin - 4) 2 / 8
 unfoldable pub status_of : List ℕ → ℕ → ℕ
 status_of page origin = slice_index page (origin - 3) % 8
 
--- how many records it owns, 0 where it owns none
+-- how many records a record owns, 0 if it owns none
 unfoldable pub owned_by : List ℕ → ℕ → ℕ
 owned_by page origin = slice_index page (origin - 5) % 16
 
@@ -30,6 +30,6 @@ owned_by page origin = slice_index page (origin - 5) % 16
 unfoldable pub is_minimum : List ℕ → ℕ → Bool
 is_minimum page origin = slice_index page (origin - 5) / 16 % 2 == 1
 
--- the delete mark, bit 5 of it
+-- the delete mark, bit 5 of the first byte of the header
 unfoldable pub is_deleted : List ℕ → ℕ → Bool
 is_deleted page origin = slice_index page (origin - 5) / 32 % 2 == 1

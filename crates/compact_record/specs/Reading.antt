@@ -97,7 +97,7 @@ place_of page origin fields i =
       until = origin + local_before page origin fields i + local_length page origin fields i;
     }
 
--- where all of them lie
+-- where all fields of a record lie
 unfoldable pub places_of : List ℕ → ℕ → Fields → List Place
 places_of page origin fields = map (place_of page origin fields) (range_with_len 0 (field_count fields))
 
@@ -131,7 +131,7 @@ pub record Reading : Type 0 where
   pub places : List Place
   pub members : ℕ
 
--- the record is spelled so, and lies there
+-- null bits and lengths are spelled as they must be, and the record and its fields lie where the reading says
 pub record IsReading (page : List ℕ) (origin : ℕ) (fields : Fields) (reading : Reading) : Type 0 where
   pub spelled : IsSpelled page origin fields
   pub stands : reading.origin ≡ origin

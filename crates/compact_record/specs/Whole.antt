@@ -8,6 +8,6 @@ pub record FieldLiesWhole (page : List ℕ) (origin : ℕ) (fields : Fields) (i 
   pub here : is_external page origin fields i ≡ false
   pub fits : local_length page origin fields i ≤ fixed_length (field_at fields i).kind
 
--- so it is with each field of the record at this origin
+-- each field of the record at this origin lies whole on the page, in no more bytes than its type takes
 abbrev pub LiesWhole : List ℕ → Fields → ℕ → Type 0
 LiesWhole page fields origin = (i : ℕ) → i < field_count fields → FieldLiesWhole page origin fields i

@@ -108,7 +108,7 @@ bytes_below fields parts = all_null_bytes fields parts ++ all_lengths fields par
 unfoldable pub value_bytes : List Part → List ℕ
 value_bytes parts = flat_map local_bytes parts
 
--- the five bytes before the origin: it owns none, and no record is next
+-- the five bytes before the origin of a record that owns none and has no record next
 abbrev pub header_bytes : ℕ → ℕ → Bool → List ℕ
 header_bytes heap kind minimum =
     (if minimum then 16 else 0) ∷ (heap * 8 + kind) / 256 ∷ (heap * 8 + kind) % 256 ∷ 0 ∷ 0 ∷ []
@@ -118,11 +118,11 @@ unfoldable pub record_bytes : Fields → List Part → ℕ → ℕ → Bool → 
 record_bytes fields parts heap kind minimum =
     reverse (bytes_below fields parts) ++ header_bytes heap kind minimum ++ value_bytes parts
 
--- how far its origin stands from its first byte
+-- how far a record's origin stands from its first byte
 unfoldable pub origin_in : Fields → List Part → ℕ
 origin_in fields parts = length (bytes_below fields parts) + 5
 
--- and how many bytes it has
+-- how many bytes a record has
 unfoldable pub size_of_record : Fields → List Part → ℕ
 size_of_record fields parts = origin_in fields parts + length (value_bytes parts)
 

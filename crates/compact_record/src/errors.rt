@@ -6,7 +6,8 @@ use thiserror::Error;
 /// Why a record wasn't read.
 #[derive(Clone, Copy, Debug, PartialEq, Eq, Error)]
 pub enum LocateError {
-    /// Its null bits or lengths aren't spelled as they must be, or it begins before the heap does, at byte 120.
+    /// The record's null bits or lengths aren't spelled as they must be, or it begins before the heap does, at byte
+    /// 120.
     #[error("the record isn't spelled as it must be")]
     BadRecord,
     /// Memory ran out.

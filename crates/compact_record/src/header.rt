@@ -50,7 +50,8 @@ pub fn status(page: &Page, origin: usize) -> u8
     page.bytes()[origin - 3] % 8
 }
 
-/// How many records it owns, 0 where it owns none (REC_NEW_N_OWNED): four bits, in the fifth byte before the origin.
+/// How many records a record owns, 0 if it owns none (REC_NEW_N_OWNED): four bits, in the fifth byte before its
+/// origin.
 #[tactic(auto, unfolding(crate::specs::Header::owned_by))]
 pub fn owned(page: &Page, origin: usize) -> u8
     requires { HasHeaderBytes origin }

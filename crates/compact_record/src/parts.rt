@@ -19,7 +19,7 @@ pub enum Part {
 }
 
 impl Part {
-    /// Whether it has no value.
+    /// Whether the part has no value.
     pub(crate) fn is_null(&self) -> bool
         ensures { result ≡ is_null_part self.now }
     {

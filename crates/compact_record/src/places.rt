@@ -13,13 +13,13 @@ use page_source::Page;
 /// Where a field lies on its page (rem0rec).
 #[derive(Clone, Copy, Debug, PartialEq, Eq)]
 pub struct Place {
-    /// Whether it is null, by its null bit: it has no bytes.
+    /// Whether the field is null, by its null bit: it has no bytes.
     pub null: bool,
-    /// Whether its last 20 bytes are a reference to the rest of its value (btr0cur).
+    /// Whether the last 20 bytes of the field are a reference to the rest of its value (btr0cur).
     pub external: bool,
-    /// The offset of its first byte on the page.
+    /// The offset of the field's first byte on the page.
     pub from: usize,
-    /// The offset of the byte behind its last one, which may lie past the page.
+    /// The offset of the byte behind the field's last one, which may lie past the page.
     pub until: usize,
 }
 

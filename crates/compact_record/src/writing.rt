@@ -222,9 +222,9 @@ fn put_values(page: &mut Page, at: usize, parts: &Parts) -> usize
 /// Where a record was placed.
 #[derive(Clone, Copy, Debug, PartialEq, Eq)]
 pub struct RecordPlace {
-    /// The offset where its fields begin.
+    /// The offset where the record's fields begin.
     pub origin: usize,
-    /// The offset of the byte behind its last.
+    /// The offset of the byte behind the record's last.
     pub end: usize,
 }
 

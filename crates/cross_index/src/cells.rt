@@ -126,7 +126,7 @@ impl Cells {
         }
     }
 
-    /// How many there are.
+    /// How many values there are.
     pub(crate) fn len(&self) -> usize
         ensures { result ≡ length self.now }
     {

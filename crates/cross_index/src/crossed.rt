@@ -13,7 +13,7 @@ pub struct Crossed {
     pub entries: u64,
 }
 
-/// Why a comparison has no such numbers.
+/// Why a comparison of indexes and rows has no numbers.
 #[derive(Clone, Copy, Debug, PartialEq, Eq, Error)]
 pub enum CrossStop {
     /// The first broken rule.

@@ -28,7 +28,7 @@ pub(crate) struct Gathered {
     pub(crate) at: Vec<usize>,
     /// The fields that are kept of each row.
     pub(crate) kept: Vec<usize>,
-    /// Their values, row after row.
+    /// The values of the kept fields, row after row.
     pub(crate) cells: Cells,
     /// How many rows there are.
     pub(crate) count: usize,

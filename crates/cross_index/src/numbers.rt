@@ -14,7 +14,7 @@ const MOST: usize = 4_294_967_295;
 pub(crate) struct Numbers {
     /// The numbers before the first that doesn't fit four bytes.
     small: Vec<u32>,
-    /// The first that doesn't fit four bytes, and all after it.
+    /// The first number that doesn't fit four bytes, and all after it.
     large: Vec<usize>,
 }
 
@@ -37,7 +37,7 @@ impl Numbers {
         }
     }
 
-    /// How many there are.
+    /// How many numbers there are.
     pub(crate) fn len(&self) -> usize
         ensures { result ≡ length self.now }
     {

@@ -37,7 +37,7 @@ ExtentChecks file extent =
     (Then (Holds ExtentPastEnd (descriptor_page extent) (All (λ n. n < size_of file) (used_in file extent)))
     (Holds ExtentSystem (descriptor_page extent) (extent % 256 ≡ 0 → HasSystemPages file extent))))
 
--- a later descriptor page is one
+-- a page is framed, and has the type of a later descriptor page
 abbrev pub IsDescriptorPage : List ℕ → ℕ → Type 0
 IsDescriptorPage file n = Framed file n × (kind_of (page_of file n) ≡ descriptor_kind)
 
@@ -63,7 +63,7 @@ DescriptorChecks file k =
     Then (Where (0 < k) (DescriptorPageChecks file (16384 * k)))
     (Each (extents_on file k) (ExtentCheckOn file k))
 
--- the checks of all of them
+-- the checks of all descriptor pages and their extents
 abbrev pub AllDescriptorChecks : List ℕ → Option Fault → Type 0
 AllDescriptorChecks file = Each (descriptor_pages file) (DescriptorChecks file)
 

@@ -40,18 +40,18 @@ descriptor_byte extent = 150 + 40 * (extent % 256)
 unfoldable pub extent_of : List ℕ → ℕ → Extent
 extent_of file extent = extent_at (page_of file (descriptor_page extent)) (descriptor_byte extent)
 
--- all of them
+-- the descriptors of all extents of a file
 unfoldable pub extents_of : List ℕ → List Extent
 extents_of file = map (extent_of file) (range_with_len 0 (extent_count file))
 
--- its list node and its state
+-- the list node and the state of an extent
 abbrev pub extent_node : List ℕ → ℕ → Node
 extent_node file extent = (extent_of file extent).node
 
 abbrev pub extent_state : List ℕ → ℕ → ℕ
 extent_state file extent = (extent_of file extent).state
 
--- the list nodes of all of them
+-- the list nodes of all extents
 unfoldable pub extent_nodes : List ℕ → List Node
 extent_nodes file = map (extent_node file) (range_with_len 0 (extent_count file))
 
@@ -65,7 +65,7 @@ pub record IsDescribed (file : List ℕ) (extent : ℕ) (descriptor : Extent) : 
   pub same : extent_of file extent ≡ descriptor
   pub below : extent < extent_count file
 
--- whether a page is used: below the free limit, and so marked
+-- whether a page is used: below the free limit, and marked so in its descriptor
 unfoldable pub is_used : List ℕ → ℕ → Bool
 is_used file n =
     nat_lt n (limit_of file)
@@ -96,7 +96,7 @@ is_system_page n = nat_lt (n % 16384) 2
 abbrev pub is_fragment_page : List ℕ → ℕ → Bool
 is_fragment_page file n = is_used file n && is_fragment_extent file (n / 64) && not (is_system_page n)
 
--- that, below the stated size
+-- a used page of a fragment extent that is no system page, below the stated size
 abbrev pub IsFragmentPage : List ℕ → ℕ → Type 0
 IsFragmentPage file n = (n < size_of file) × (is_fragment_page file n ≡ true)
 

@@ -15,7 +15,7 @@ use Rattle.space_header.specs.Header.{header_space, stated_size, free_limit, spa
 abbrev pub without_data_directory : ℕ → ℕ
 without_data_directory flags = flags - 1024 * (flags / 1024 % 2)
 
--- without that bit the flags are these
+-- without the bit for DATA DIRECTORY the flags of the page are these
 abbrev pub HasFlags : List ℕ → ℕ → Type 0
 HasFlags page flags = without_data_directory (space_flags page) ≡ flags
 

@@ -48,7 +48,7 @@ fn fits_use(extent: &Extent, e: u32) -> bool
     }
 }
 
-/// Whether its used pages are below the size.
+/// Whether the used pages of an extent are below the size.
 fn is_within(extent: &Extent, e: u32, size: u32) -> bool
     requires { e < 65536 }
     ensures { (file : List ℕ) → IsDescribed file e extent.now → IsTrue result ↔ All (λ n. n < size) (used_in file e) }
@@ -63,7 +63,7 @@ fn is_within(extent: &Extent, e: u32, size: u32) -> bool
     extent.used < 1 << (size - first)
 }
 
-/// Whether it is a fragment extent whose first two pages are used.
+/// Whether an extent is a fragment extent whose first two pages are used.
 fn has_system_pages(extent: &Extent, e: u32) -> bool
     ensures { (file : List ℕ) → IsDescribed file e extent.now → IsTrue result ↔ HasSystemPages file e }
 {

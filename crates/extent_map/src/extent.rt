@@ -25,7 +25,7 @@ const BITMAP: usize = 24;
 pub struct Extent {
     /// XDES_ID, 8 bytes at 0: the segment that has the extent, where the state is FSEG.
     pub id: u64,
-    /// XDES_FLST_NODE, 12 bytes at 8: its node in the list of extents where it stands.
+    /// XDES_FLST_NODE, 12 bytes at 8: the extent's node in the list of extents where it stands.
     pub node: Node,
     /// XDES_STATE, 4 bytes at 20: FREE 1, FREE_FRAG 2, FULL_FRAG 3, FSEG 4.
     pub state: u32,

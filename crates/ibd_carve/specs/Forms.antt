@@ -23,7 +23,7 @@ abbrev pub IsForm : List (List ℕ) → Form → Type 0
 IsForm words ListImage = (image : List ℕ) × (words ≡ codes "list" ∷ image ∷ [])
 IsForm words (TakeSpace space) = AsksToTake words space
 
--- they have no form
+-- the words have no form
 abbrev pub HasNoForm : List (List ℕ) → Type 0
 HasNoForm words = (form : Form) → ¬ (IsForm words form)
 

@@ -35,7 +35,7 @@ EndsTake out out_now (Ok taken) SinkFault = GrowsByPart out out_now (taken_line 
 EndsTake out out_now (Ok taken) status = ⊥
 EndsTake out out_now (Err stop) status = status ≡ status_of_stop stop
 
--- such a status ends a take before its line is written
+-- a status that ends a take before its line is written
 abbrev pub ComesBeforeLine : CarveStatus → Type 0
 ComesBeforeLine Done = ⊥
 ComesBeforeLine SinkFault = ⊥
@@ -47,7 +47,7 @@ pub record TakesSpace {Q F O : Type 0} (q : SourceOf Q) (f : PageFileOf F) (o : 
   pub result : Result Taken TakeStop
   pub ends : EndsTake (o.written out) (o.written out_now) result status
   pub told : TakesTold (q.left image) space (f.held file) (f.held file_now) result
-  -- a fault of that object was counted
+  -- a fault was counted of the object that the status blames
   pub source : status ≡ SourceFault → Rose (q.faults image) (q.faults image_now)
   pub store : status ≡ StoreFault → Rose (f.faults file) (f.faults file_now)
   pub sink : status ≡ SinkFault → Rose (o.faults out) (o.faults out_now)

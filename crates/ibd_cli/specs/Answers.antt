@@ -50,7 +50,7 @@ status_of_dump dumps.Source = statuses.SourceFault
 status_of_dump dumps.Sink = statuses.SinkFault
 status_of_dump dumps.Memory = statuses.Memory
 
--- of a comparison
+-- the status of a command that a comparison stops
 abbrev pub status_of_cross : CrossStop → Status
 status_of_cross (crosses.Broken fault) = statuses.Broken fault
 status_of_cross (crosses.Missing index row) = statuses.CrossMissing index row
@@ -58,7 +58,7 @@ status_of_cross (crosses.Extra index page) = statuses.CrossExtra index page
 status_of_cross crosses.Source = statuses.SourceFault
 status_of_cross crosses.Memory = statuses.Memory
 
--- of a look-up
+-- the status of a command that a look-up stops
 abbrev pub status_of_get : GetStop → Status
 status_of_get gets.Refused = statuses.KeyRefused
 status_of_get gets.Absent = statuses.Absent
@@ -67,7 +67,7 @@ status_of_get gets.Source = statuses.SourceFault
 status_of_get gets.Sink = statuses.SinkFault
 status_of_get gets.Memory = statuses.Memory
 
--- of a build
+-- the status of a command that a build stops
 abbrev pub status_of_build : BuildStop → Status
 status_of_build (builds.RootPlace line) = statuses.SchemaRefused line whys.Root
 status_of_build (builds.RowsRefused line why) = statuses.RowsRefused line why
@@ -76,7 +76,7 @@ status_of_build builds.Source = statuses.SourceFault
 status_of_build builds.Store = statuses.StoreFault
 status_of_build builds.Memory = statuses.Memory
 
--- and of a sample
+-- the status of a command that a sample stops
 abbrev pub status_of_sample : SampleStop → Status
 status_of_sample samples.Full = statuses.Full
 status_of_sample samples.Memory = statuses.Memory
@@ -116,7 +116,7 @@ Ends task key file table statuses.SinkFault old new = HasPart task key file tabl
 Ends task key file table statuses.Memory old new = new ≡ old
 Ends task key file table _ old new = ⊥
 
--- such a status ends a task that has read its schema
+-- a status that ends a task after its schema was read
 abbrev pub IsOfFile : Task → Status → Type 0
 IsOfFile task (statuses.SchemaRefused line why) = ⊥
 IsOfFile task status = IsOfTask task status

@@ -33,7 +33,7 @@ pub record Objects (Q R O T : Type 0) : Type 0 where
   pub out : O
   pub target : T
 
--- what these tell
+-- what the objects of a build tell
 pub record Meanings (Q R O T : Type 0) : Type 1 where
   pub schema : SourceOf Q
   pub rows : SourceOf R
@@ -45,7 +45,7 @@ pub record Texts : Type 0 where
   pub schema : List ℕ
   pub rows : List ℕ
 
--- they are told
+-- the objects tell the texts that a build reads
 pub record TellsTexts {Q R O T : Type 0} (g : Meanings Q R O T) (objects : Objects Q R O T) (texts : Texts)
     : Type 0 where
   pub schema : g.schema.left objects.schema ≡ Some texts.schema
@@ -64,7 +64,7 @@ abbrev pub IsRefusedForBuild : List ℕ → ℕ → SchemaWhy → Type 0
 IsRefusedForBuild schema line why =
     IsRefusedText schema line why ⊎ ((why ≡ whys.Root) × HasMisplacedRoot schema line)
 
--- of the table of the schema, and of the text of the rows, each where it is told
+-- a fact of some table and some rows, those of the schema text and of the rows text if these are told
 abbrev pub OfTableRows : Option (List ℕ) → Option (List ℕ) → (TableDef → Rows → Type 0) → Type 0
 OfTableRows schema rows Fact = OfSchema schema (λ table. OfRows table rows (Fact table))
 
@@ -92,7 +92,7 @@ pub record ReadsTexts {Q R O T : Type 0} (g : Meanings Q R O T) (old now : Objec
   pub schema : IfSome (g.schema.left old.schema) (λ text. g.schema.left now.schema ≡ Some [])
   pub rows : IfSome (g.rows.left old.rows) (λ text. g.rows.left now.rows ≡ Some [])
 
--- of the table and the rows that were read
+-- a fact of the table and the rows that a build read
 abbrev pub OfBuilt : {Q R O T : Type 0} → Meanings Q R O T → Objects Q R O T → (TableDef → Rows → Type 0) → Type 0
 OfBuilt g old Fact = OfTableRows (g.schema.left old.schema) (g.rows.left old.rows) Fact
 
@@ -132,7 +132,7 @@ EndsBuild g old now Memory =
     LacksHead (g.target.told now.target) × LeavesUncalledOrSized g old now × (now.out ≡ old.out)
 EndsBuild g old now _ = ⊥
 
--- such a status ends a build that has put all pages
+-- a status that ends a build after all pages were put
 abbrev pub HasBuilt : Status → Type 0
 HasBuilt Done = ⊤
 HasBuilt SinkFault = ⊤
@@ -157,18 +157,18 @@ pub record ServesBuild {Q R O T : Type 0} (g : Meanings Q R O T) (old now : Obje
     : Type 0 where
   -- the schema text is read first, and at most one byte more than it may have
   pub read : IfSome (g.schema.left old.schema) (λ text. IsReadUpTo 65537 text (g.schema.left now.schema))
-  -- where it is that of no table, no row is read and nothing is written
+  -- if the schema text is that of no table, no row is read and nothing is written
   pub untouched : (text : List ℕ) → g.schema.left old.schema ≡ Some text → IsOfNoTable text
       → (now.rows ≡ old.rows) × WritesNothing old now
-  -- where it is refused, as such or by a root, that ends it
+  -- a refusal of the schema text, as such or by a root, ends the build
   pub alone : (text : List ℕ) (line : ℕ) (why : SchemaWhy) → g.schema.left old.schema ≡ Some text
       → IsRefusedForBuild text line why → EndsAs (SchemaRefused line why) status
-  -- how it ends, and how its objects stand
+  -- how the build ends, and how its objects stand
   pub ends : EndsBuild g old now status
   -- where the texts are told, the status is the one that they define
   pub complete : (texts : Texts) (given : Status) (output : List ℕ) → TellsTexts g old texts
       → GivesBuilt texts given output → EndsAs given status
-  -- a fault of that object was counted
+  -- a fault was counted of the object that the status blames
   pub source : status ≡ SourceFault
       → Rose (g.schema.faults old.schema) (g.schema.faults now.schema)
       ⊎ Rose (g.rows.faults old.rows) (g.rows.faults now.rows)

@@ -25,18 +25,18 @@ IsForm words (Sample n) = (n ≤ 200000) × (words ≡ codes "sample" ∷ decima
 abbrev pub key_word : List (List ℕ) → List ℕ
 key_word words = slice_index_or words 3 []
 
--- they have no form
+-- the words have no form
 abbrev pub HasNoForm : List (List ℕ) → Type 0
 HasNoForm words = (form : Form) → ¬ (IsForm words form)
 
--- they are no build
+-- the words are no build
 abbrev pub AsksNoBuild : List (List ℕ) → Type 0
 AsksNoBuild words = ¬ (IsForm words Build)
 
--- they are no sample
+-- the words are no sample
 abbrev pub AsksNoSample : List (List ℕ) → Type 0
 AsksNoSample words = (n : ℕ) → ¬ (IsForm words (Sample n))
 
--- they are no command on a table
+-- the words are no command on a table
 abbrev pub AsksNoTable : List (List ℕ) → Type 0
 AsksNoTable words = (task : Task) → ¬ (IsForm words (Table task))

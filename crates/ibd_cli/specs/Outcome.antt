@@ -28,11 +28,11 @@ pub record Told : Type 0 where
   pub schema : List ℕ
   pub file : List ℕ
 
--- of the table of the schema
+-- a fact of the table of the schema
 abbrev pub OfTable : Told → (TableDef → Type 0) → Type 0
 OfTable told Fact = (table : TableDef) × IsTextOf table told.schema × Fact table
 
--- of some table, that of the schema text where it is told
+-- a fact of some table, that of the schema text if it is told
 abbrev pub OfSchema : Option (List ℕ) → (TableDef → Type 0) → Type 0
 OfSchema schema Fact = (table : TableDef) × IfSome schema (IsTextOf table) × Fact table
 
@@ -59,7 +59,7 @@ pub record HasCrossedLine (file : List ℕ) (table : TableDef) (output : List �
   pub numbers : IsCrossed file table crossed
   pub written : output ≡ crossed_line crossed
 
--- of the key that a text spells
+-- a fact of the key that a text spells
 abbrev pub OfKey : TableDef → List ℕ → (Key → Type 0) → Type 0
 OfKey table text Fact = (sought : Key) × SpellsKey table text sought × Fact sought
 
@@ -76,7 +76,7 @@ abbrev pub FirstOf : Task → List ℕ → List ℕ → TableDef → Option Faul
 FirstOf Get key file table fault = OfKey table key (λ sought. GetFirst file table sought fault)
 FirstOf _ key file table fault = First file table fault
 
--- whether it asks for a sound file
+-- the file is sound, or the task doesn't ask for that
 abbrev pub IsValidFor : Task → List ℕ → TableDef → Type 0
 IsValidFor Get file table = ⊤
 IsValidFor _ file table = IsValid file table
@@ -92,7 +92,7 @@ abbrev pub IsNoKeyOf : Task → List ℕ → TableDef → Type 0
 IsNoKeyOf Get key table = IsNoKey table key
 IsNoKeyOf _ key table = ⊥
 
--- it names a row that isn't there
+-- the task names a row that isn't there
 abbrev pub IsAbsentOf : Task → List ℕ → List ℕ → TableDef → Type 0
 IsAbsentOf Get key file table = OfKey table key (IsAbsent file table)
 IsAbsentOf _ key file table = ⊥

@@ -29,7 +29,7 @@ use Rattle.command_line.specs.Reading.{IsReadUpTo}
 use Rattle.command_line.specs.SchemaFile.{IsRefusedText, IsOfNoTable}
 use Rattle.ibd_cli.specs.Outcome.{OfSchema, checked_line, crossed_line, IsNoKeyOf, FirstOf, Told, Gives, task_steps}
 
--- it ended as the inputs define, unless an object failed or memory ran out
+-- a command ended as the inputs define, unless an object failed or memory ran out
 abbrev pub EndsAs : Status → Status → Type 0
 EndsAs given SourceFault = ⊤
 EndsAs given SinkFault = ⊤
@@ -66,7 +66,7 @@ pub record ReadsInputs {F Q : Type 0} (f : FileOf F) (q : SourceOf Q) (task : Ta
   -- a refused key is no key of the table, and the file is untouched
   pub unkeyed : status ≡ KeyRefused
       → IfSome (q.left schema) (IsNoKeyIn task key) × (file_now ≡ file) × (steps_now ≡ steps)
-  -- where it is none, the file is untouched in any case, and the refusal ends it
+  -- if the text of the key is no key of the table, the file is untouched in any case, and the refusal ends the task
   pub unsought : (text : List ℕ) → q.left schema ≡ Some text → IsNoKeyIn task key text
       → (file_now ≡ file) × (steps_now ≡ steps) × EndsAs KeyRefused status
   -- a broken rule is one of the file
@@ -89,7 +89,8 @@ LeavesPart task key told old new =
     → (text : List ℕ) × Gives task key told Done text × GrowsByPart old new text)
     × (((output : List ℕ) → ¬ (Gives task key told Done output)) → new ≡ old)
 
--- so it is with a dump and a row; a check and a comparison have written nothing
+-- if the file can't be read, a dump and a row wrote a prefix of the output, if there is one; a check and a comparison
+-- wrote nothing
 abbrev pub LeavesUnread : Task → List ℕ → Told → Option (List ℕ) → Option (List ℕ) → Type 0
 LeavesUnread Check key told old new = new ≡ old
 LeavesUnread Dump key told old new = LeavesPart Dump key told old new
@@ -108,11 +109,11 @@ Leaves task key told SinkFault old new schema =
 Leaves task key told Memory old new schema = new ≡ old
 Leaves task key told status old new schema = Gives task key told status [] × (new ≡ old)
 
--- such a status comes before the line of numbers
+-- a status that comes before the line of numbers
 abbrev pub ComesBeforeLine : Status → Type 0
 ComesBeforeLine status = (status ≢ Done) × (status ≢ SinkFault)
 
--- such a status comes before the first byte of the output, whatever the inputs tell
+-- a status that comes before the first byte of the output, whatever the inputs tell
 abbrev pub ComesBefore : Task → Status → Type 0
 ComesBefore Check status = ComesBeforeLine status
 ComesBefore Cross status = ComesBeforeLine status
@@ -127,7 +128,7 @@ ComesBefore Get Absent = ⊤
 ComesBefore Get Memory = ⊤
 ComesBefore Get _ = ⊥
 
--- such a status ends the command, whatever the objects tell
+-- a status that ends the command, whatever the objects tell
 abbrev pub IsOfTask : Task → Status → Type 0
 IsOfTask task Done = ⊤
 IsOfTask task (SchemaRefused line why) = ⊤
@@ -172,14 +173,14 @@ pub record Serves {F Q O : Type 0} (f : FileOf F) (q : SourceOf Q) (o : SinkOf O
   -- what is written, where the inputs are told
   pub leaves : (told : Told) → Tells f q file schema told
       → Leaves task key told status (o.written out) (o.written out_now) (q.left schema_now)
-  -- and if they define no output, the sink itself is as before
+  -- if the inputs define no output, the sink itself is as before
   pub silent : (told : Told) → Tells f q file schema told
       → ((output : List ℕ) → ¬ (Gives task key told Done output)) → out_now ≡ out
-  -- and whatever they tell
+  -- a status that comes before the first byte leaves the sink itself as before, whatever the inputs tell
   pub unwritten : ComesBefore task status → out_now ≡ out
   pub some : status ≡ Done → OfSchema (q.left schema)
       (λ table. WritesSome task table (o.written out) (o.written out_now))
-  -- what it takes of the file, where the inputs are told
+  -- what the command takes of the file, if the inputs are told
   pub few : (told : Told) → Tells f q file schema told → (table : TableDef) → IsTextOf table told.schema
       → TakesFew task key told.file table (record { steps = steps; fetches = f.fetches file })
       (record { steps = steps_now; fetches = f.fetches file_now })

@@ -35,7 +35,7 @@ GivesSample n Done output =
 GivesSample n Full output = IsTooMany n × (output ≡ [])
 GivesSample n _ output = ⊥
 
--- how it ends, and how its output stands
+-- how a sample ends, and how its output stands
 abbrev pub EndsSample : {O : Type 0} → SinkOf O → ℕ → O → O → Status → Type 0
 EndsSample o n out out_now Done =
     (line : List ℕ) × GivesSample n Done line × GrowsBy (o.written out) (o.written out_now) line
@@ -47,11 +47,11 @@ EndsSample o n out out_now _ = ⊥
 
 -- the whole promise of a sample
 pub record ServesSample {O : Type 0} (o : SinkOf O) (n : ℕ) (out out_now : O) (status : Status) : Type 0 where
-  -- how it ends, and how its output stands
+  -- how the sample ends, and how its output stands
   pub ends : EndsSample o n out out_now status
   -- the status is the one that n defines
   pub complete : (given : Status) (output : List ℕ) → GivesSample n given output → EndsAs given status
-  -- and its line is one text
+  -- the line of a sample is one text
   pub line : (a b : List ℕ) → GivesSample n Done a → GivesSample n Done b → a ≡ b
   -- a fault of the output was counted
   pub sink : status ≡ SinkFault → Rose (o.faults out) (o.faults out_now)

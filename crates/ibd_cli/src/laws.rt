@@ -26,7 +26,7 @@ pub fn inputs_have_one_outcome()
     finds_one_line();
 }
 
-/// So has a build, by its two texts.
+/// A build has one status and one output at the most, by its two texts.
 pub fn texts_have_one_outcome()
     ensures { TextsHaveOneOutcome }
 {

@@ -41,7 +41,7 @@ pub enum Status {
     Full,
     /// The least key that only one side has is that of a row, counted from 1, which this index lacks.
     CrossMissing { index: u32, row: u64 },
-    /// It is that of an entry of this index, on this leaf page, which is of no row.
+    /// The least key that only one side has is that of an entry of this index, on this leaf page, which is of no row.
     CrossExtra { index: u32, page: u32 },
     /// The text is that of no key of the table. The file wasn't touched.
     KeyRefused,
@@ -72,7 +72,7 @@ impl Status {
         }
     }
 
-    /// What `main` returns, so that the process ends with that number.
+    /// What `main` returns, so that the process ends with the status's number.
     pub fn exit_code(&self) -> ExitCode
         ensures { exit_status result ≡ status_number self.now }
     {

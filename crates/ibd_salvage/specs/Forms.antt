@@ -20,6 +20,6 @@ AskFor words kind (Some id) =
 abbrev pub IsForm : List (List ℕ) → Form → Type 0
 IsForm words form = AskFor words form.kind form.index
 
--- they have no form
+-- the words have no form
 abbrev pub HasNoForm : List (List ℕ) → Type 0
 HasNoForm words = (kind : RecordKind) (index : Option ℕ) → ¬ (AskFor words kind index)

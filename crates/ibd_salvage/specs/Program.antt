@@ -32,7 +32,7 @@ pub record Runs {F Q O E : Type 0} (g : Meanings F Q O E) (words : List (List �
   -- the line of the status is the last that is written to the standard error
   pub between : E
   pub line : IsPut g.err between now.err (status_line status)
-  -- before it no object is called if there is nothing to do
+  -- if there is nothing to do, no object is called before the line of the status
   pub untouched : HasNoForm words → LeavesAll old (before_line now between) steps steps_now
-  -- or else this is what a salvage does to the objects, and how it ends
+  -- if there is something to do, this is what a salvage does to the objects, and how it ends
   pub serves : (form : Form) → IsForm words form → Serves g form old (before_line now between) steps steps_now status

@@ -42,27 +42,27 @@ pub record IsSalvage (content : List ℕ) (table : TableDef) (form : Form) (befo
   pub salvages : SalvagesRegardless content (record { table = table; kind = form.kind; given = form.index }) before
       now heard heard_now result old new
 
--- such a status ends a run before the file is gone through
+-- a status that ends a run before the file is gone through
 abbrev pub ComesBefore : SalvageStatus → Type 0
 ComesBefore (SchemaRefused line why) = ⊤
 ComesBefore Memory = ⊤
 ComesBefore RootLost = ⊤
 ComesBefore _ = ⊥
 
--- such a status ends a salvage whose schema text was read
+-- a status that ends a salvage after its schema text was read
 abbrev pub IsOfFile : SalvageStatus → Type 0
 IsOfFile Usage = ⊥
 IsOfFile (SchemaRefused line why) = ⊥
 IsOfFile status = ⊤
 
--- it ended so, unless an input couldn't be read or memory ran out
+-- a salvage ended so, unless an input couldn't be read or memory ran out
 abbrev pub EndsAs : SalvageStatus → SalvageStatus → Type 0
 EndsAs given SourceFault = ⊤
 EndsAs given Memory = ⊤
 EndsAs given status = status ≡ given
 
--- what it leaves of the file and both outputs, whatever they tell: the file is as before and few pages of it were
--- fetched, an object is blamed only where its count of faults rose, and nothing is written where no id is found or
+-- what a salvage leaves of the file and both outputs, whatever they tell: the file is as before and few pages of it
+-- were fetched, an object is blamed only if its count of faults rose, and nothing is written if no id is found or
 -- memory ran out
 pub record SavesOver {F O E : Type 0} (f : FileOf F) (o : SinkOf O) (e : SinkOf E) (file file_now : F) (out out_now : O)
     (err err_now : E) (steps steps_now : ℕ) (status : SalvageStatus) : Type 0 where
@@ -103,9 +103,9 @@ pub record Serves {F Q O E : Type 0} (g : Meanings F Q O E) (form : Form) (old n
       → g.file.content old.file ≡ Some content → IsTextOf table text
       → IsSalvage content table form (counts_of g.file old.file) (counts_of g.file now.file) (g.err.faults old.err)
       (g.err.faults now.err) (outputs_of g old) (outputs_of g now) status
-  -- before that nothing is written, whatever the inputs tell
+  -- a status that ends the run before the file is gone through leaves both outputs as before, whatever the inputs tell
   pub unwritten : ComesBefore status → (now.out ≡ old.out) × (now.err ≡ old.err)
-  -- a fault of that object was counted
+  -- a fault was counted of the object that the status blames
   pub source : status ≡ SourceFault
       → Rose (g.file.faults old.file) (g.file.faults now.file)
       ⊎ Rose (g.schema.faults old.schema) (g.schema.faults now.schema)

@@ -16,7 +16,7 @@ pub record AreLsnsOf (held : PageMap) (lsns : List (Option ℕ)) : Type 0 where
   pub each : (n : ℕ) → slice_index_or lsns n None ≡ option_map lsn_of (get held n)
   pub last : (n : ℕ) → length lsns ≡ n + 1 → slice_index_or lsns n None ≢ None
 
--- those that are there
+-- the LSNs of a list that are there
 abbrev pub known : List (Option ℕ) → List ℕ
 known lsns = filter_map (λ lsn. lsn) lsns
 

@@ -44,7 +44,7 @@ pub record KeepsOld (old new : Kept) (n : ℕ) (page : List ℕ) : Type 0 where
   pub older : ¬ (IsNewer old.lsns n (lsn_of page))
   pub same : new ≡ old
 
--- it is newer, or the first, and was put
+-- the page is newer than the one that is kept, or the first, and was put
 pub record PutsNew (old new : Kept) (n : ℕ) (page : List ℕ) : Type 0 where
   pub newer : IsNewer old.lsns n (lsn_of page)
   pub notes : Notes old.lsns new.lsns n (lsn_of page)

@@ -6,7 +6,7 @@ use Rattle.page_source.specs.Memory.{CallLog}
 use Rattle.page_source.specs.MemoryCodes.{call_log_code}
 use Rattle.page_source.specs.SourceCodes.{page_map_code}
 
--- the pages that it holds, and its calls so far
+-- the pages that a file in memory holds, and its calls so far
 pub record HeldFile : Type 0 where
   pub held : PageMap
   pub calls : CallLog

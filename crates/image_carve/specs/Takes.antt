@@ -26,7 +26,7 @@ pub record HasPart (image : List ℕ) (space : ℕ) (start now : Option PageMap)
   pub carved : IsCarved (take upto image) space held
   pub holds : IsTold start now held
 
--- the file holds this but for one page
+-- the file holds the map but for one page
 abbrev pub HoldsBut : Option PageMap → Option PageMap → PageMap → ℕ → Type 0
 HoldsBut None now held n = now ≡ None
 HoldsBut (Some start) now held n = HoldsOthers (Some held) now n
@@ -46,7 +46,7 @@ Takes image space start now (Err Source) = HasPart image space start now
 Takes image space start now (Err Store) = HasPartBut image space start now
 Takes image space start now (Err Memory) = HasPart image space start now
 
--- the same where the image is told, if its bytes can be counted, and the file holds nothing at the start
+-- what a take answers if the image is told, its bytes can be counted, and the file holds nothing at the start
 abbrev pub TakesTold : Option (List ℕ) → ℕ → Option PageMap → Option PageMap → Result Taken TakeStop → Type 0
 TakesTold None space start now result = Unit {0}
 TakesTold (Some image) space start now result =

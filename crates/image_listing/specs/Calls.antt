@@ -15,7 +15,7 @@ pub record ListsAll (image : List ℕ) (left out out_now : Option (List ℕ)) : 
   pub read : left ≡ Some []
   pub text : GrowsBy out out_now (listing_text lines)
 
--- it grew by a prefix of that text
+-- the image was read to its end, and the output grew by a prefix of the text of its listing
 pub record ListsSome (image : List ℕ) (left out out_now : Option (List ℕ)) : Type 0 where
   pub lines : List Line
   pub listing : IsListing image lines
@@ -29,7 +29,7 @@ Lists image left out out_now (Err Sink) = ListsSome image left out out_now
 Lists image left out out_now (Err Source) = ⊤
 Lists image left out out_now (Err Memory) = ⊤
 
--- it stops before the first byte is written
+-- an answer of a listing that stopped before the first byte was written
 abbrev pub ComesBeforeText : Result (Unit {0}) ListStop → Type 0
 ComesBeforeText (Err Source) = ⊤
 ComesBeforeText (Err Memory) = ⊤

@@ -14,7 +14,7 @@ pub record Sight : Type 0 where
   pub number : ℕ
   pub page : List ℕ
 
--- in the order of spaces, and of numbers in a space
+-- the order of pages: by space, and by number in a space
 abbrev pub ComesBefore : Sight → Sight → Type 0
 ComesBefore a b = (a.space < b.space) ⊎ ((a.space ≡ b.space) × (a.number < b.number))
 
@@ -44,7 +44,7 @@ abbrev pub is_of_index : Option ℕ → List ℕ → Bool
 is_of_index None page = true
 is_of_index (Some id) page = is_index_page page && (index_id_of page == id)
 
--- such a line counts this page
+-- the line of a space, or of one of its indexes, counts this page
 abbrev pub is_counted : ℕ → Option ℕ → Sight → Bool
 is_counted space index sight = (sight.space == space) && is_of_index index sight.page
 

@@ -10,7 +10,7 @@ use Rattle.image_listing.specs.declared.catalogue.Version.{Version}
 use Rattle.image_listing.specs.declared.lines.Tally.{Tally}
 use Rattle.image_listing.specs.Listing.{Line}
 
--- by space, and a space before its indexes
+-- the order of lines: by space, and a space before its indexes
 abbrev pub line_cmp : ℕ × Option ℕ → ℕ × Option ℕ → Ordering
 line_cmp a b = ordering_then (nat_cmp a.0 b.0) (option_cmp nat_cmp a.1 b.1)
 
@@ -27,7 +27,7 @@ counts key space index = (space == key.0) && has_index key.1 index
 abbrev pub no_page : Tally
 no_page = record { leaves = 0; pages = 0; newest = 0 }
 
--- with one page more
+-- a tally with one page more
 abbrev pub with_page : Tally → Version → Tally
 with_page tally version = record {
   leaves = tally.leaves + cond version.leaf 1 0;
@@ -35,7 +35,7 @@ with_page tally version = record {
   newest = max tally.newest version.lsn;
 }
 
--- the same of a line that may be new
+-- the tally of a line, which may be new, with one page more
 abbrev pub next_tally : Option Tally → Version → Tally
 next_tally tally version = with_page (unwrap_or tally no_page) version
 

@@ -31,7 +31,7 @@ pub record Puts {K X : Type 0} (cmp : K → K → Ordering) (old now : BTreeMap 
   pub here : get cmp now key ≡ Some value
   pub others : (q : K) → q ≢ key → get cmp now q ≡ get cmp old q
 
--- by space and number
+-- the order of pages: by space and number
 abbrev pub page_cmp : ℕ × ℕ → ℕ × ℕ → Ordering
 page_cmp a b = ordering_then (nat_cmp a.0 b.0) (nat_cmp a.1 b.1)
 
@@ -41,6 +41,6 @@ IsKept image space n (Some version) =
     (page : List ℕ) × Newest image space n (Some page) × (version ≡ version_of page)
 IsKept image space n None = Newest image space n None
 
--- that of each page is
+-- the newest version of each page is kept, and nothing of a page that is nowhere
 abbrev pub IsCatalogue : List ℕ → BTreeMap (ℕ × ℕ) Version → Type 0
 IsCatalogue image pages = (space n : ℕ) → IsKept image space n (get page_cmp pages (space, n))

@@ -20,18 +20,18 @@ const INDEX_ID: usize = 66;
 /// What is kept of a version of a page.
 #[derive(Clone, Copy, Debug, PartialEq, Eq)]
 pub(crate) struct Version {
-    /// The LSN of its last change.
+    /// The LSN of the page's last change.
     pub lsn: u64,
-    /// The id of its index, if it is an index page.
+    /// The id of the page's index, if it is an index page.
     pub index: Option<u64>,
-    /// Whether it is a leaf.
+    /// Whether the page is a leaf.
     pub leaf: bool,
 }
 
 /// The newest version of each page that was met.
 #[derive(Debug, Drop)]
 pub(crate) struct Catalogue {
-    /// By space and number.
+    /// The versions by the spaces and the numbers of their pages.
     pub pages: BTreeMap<(u32, u32), Version>,
 }
 

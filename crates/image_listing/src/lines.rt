@@ -25,7 +25,7 @@ pub(crate) struct Tally {
 /// The lines of a listing, in their order.
 #[derive(Debug, Drop)]
 pub(crate) struct Lines {
-    /// By space, and by index for the line of one.
+    /// The tally of each line: by space, and by index for the line of an index.
     pub tallies: BTreeMap<(u32, Option<u64>), Tally>,
 }
 
@@ -89,7 +89,7 @@ impl Lines {
 }
 
 impl Tally {
-    /// With one page more.
+    /// The tally with one page more.
     fn with_page(self, version: Version) -> Tally
         requires { HasRoom self }
         ensures { result ≡ with_page self version }

@@ -10,7 +10,7 @@ use Rattle.index_page.specs.PageChecks.{PageChecks}
 abbrev pub HasOneChain : Type 0
 HasOneChain = (page chain : List ℕ) → IsChain page chain → chain ≡ records_of page
 
--- and so is the free list
+-- the free list is the free records that are met one after another
 abbrev pub HasOneFreeList : Type 0
 HasOneFreeList = (page chain free : List ℕ) → IsChain page chain → IsFreeList page chain free → free ≡ free_of page
 

@@ -19,15 +19,15 @@ bits_of words n = bit_at (slice_index words (n / 64)) (n % 64) == 1
 abbrev pub none_seen : Seen
 none_seen n = false
 
--- one more
+-- one more number is marked
 unfoldable pub with_mark : Seen → ℕ → Seen
 with_mark seen n k = if k == n then true else seen k
 
--- all from one number up to another
+-- all numbers from one up to another are marked
 unfoldable pub with_span : Seen → ℕ → ℕ → Seen
 with_span seen from to k = if nat_le from k && nat_lt k to then true else seen k
 
--- none of these is marked
+-- none of the numbers from one up to another is marked
 abbrev pub IsUnmarked : Seen → ℕ → ℕ → Type 0
 IsUnmarked seen from to = (k : ℕ) → from ≤ k → k < to → seen k ≡ false
 

@@ -32,7 +32,7 @@ pub record HasEnds (page : List ℕ) : Type 0 where
 abbrev pub IsOrigin : List ℕ → ℕ → Type 0
 IsOrigin page origin = (125 ≤ origin) × (origin ≤ heap_top page)
 
--- so may those of the n records from the first on
+-- the fields of each of the n records from the first on may begin at its origin
 abbrev pub AreOrigins : List ℕ → ℕ → ℕ → Type 0
 AreOrigins page first n = (k : ℕ) → k < n → IsOrigin page (record_at page first k)
 

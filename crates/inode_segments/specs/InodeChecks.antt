@@ -59,13 +59,13 @@ StepAt file is_fragment full reached address holder before =
     Then (Holds InodeList holder (IsStep file is_fragment reached address))
     (InodePageChecks (page_of file address.page) address.page (space_of (page_of file 0)) full before)
 
--- those of step k of a list
+-- the checks of step k of a list
 abbrev pub StepChecks : List ℕ → (ℕ → Bool) → Bool → List ℕ → Base → ℕ → Option Fault → Type 0
 StepChecks file is_fragment full earlier base k =
     StepAt file is_fragment full (earlier ++ stepped_pages file base k) (step_address file base k)
     (holder_of_step file base k) (step_before file base k)
 
--- the base counts these steps, and its last address is that of the last
+-- the base counts these steps, and its last address is that of the last step
 pub record EndsAfter (base : Base) (count : ℕ) (before : Option Address) : Type 0 where
   pub counted : base.length ≡ count
   pub last : IsAddress base.last before
@@ -108,11 +108,11 @@ SegmentCheck file before place =
     Then (Holds SegmentMagic place.page ((inode_of file place).magic ≡ inode_magic))
     (Holds SegmentId place.page (IsNewId file before (segment_id file place)))
 
--- of all of them
+-- the checks of all segments
 abbrev pub SegmentChecks : List ℕ → Option Fault → Type 0
 SegmentChecks file = EachOf (segments file) (SegmentCheck file)
 
--- all of these checks
+-- all checks of the inode lists and of the segments
 abbrev pub AllInodeChecks : List ℕ → (ℕ → Bool) → Option Fault → Type 0
 AllInodeChecks file is_fragment = Then (InodeListsChecks file is_fragment) (SegmentChecks file)
 

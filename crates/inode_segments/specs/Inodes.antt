@@ -82,7 +82,7 @@ inodes_on file n = places_on n (page_of file n)
 unfoldable pub segments : List ℕ → List Address
 segments file = flat_map (inodes_on file) (inode_pages file)
 
--- how many there are
+-- how many segments there are
 abbrev pub segment_count : List ℕ → ℕ
 segment_count file = length (segments file)
 
@@ -90,7 +90,7 @@ segment_count file = length (segments file)
 abbrev pub inode_of : List ℕ → Address → Inode
 inode_of file place = inode_at (page_of file place.page) place.offset
 
--- those of all segments
+-- the inodes of all segments
 unfoldable pub inodes_of : List ℕ → List Inode
 inodes_of file = map (inode_of file) (segments file)
 

@@ -11,11 +11,11 @@ pub record InodesView : Type 0 where
   pub inodes : List Inode
   pub pages : List Bool
 
--- none yet, of so many pages
+-- no inode is kept yet, of so many pages
 abbrev pub none_kept : ℕ → InodesView
 none_kept size = record { places = []; inodes = []; pages = replicate size false }
 
--- they are those of a file
+-- the inodes that are kept are those of a file
 pub record AreKept (file : List ℕ) (kept : InodesView) : Type 0 where
   pub places : kept.places ≡ segments file
   pub inodes : kept.inodes ≡ inodes_of file

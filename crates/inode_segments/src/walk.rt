@@ -25,9 +25,9 @@ const NODE: u16 = 38;
 /// A step along a list of inode pages.
 #[derive(Clone, Copy)]
 struct Step {
-    /// Where it goes.
+    /// The address that the step goes to.
     address: Address,
-    /// The page that holds this address.
+    /// The page that holds the address that the step goes to.
     holder: u32,
     /// The address of the step before.
     before: Option<Address>,

@@ -68,9 +68,9 @@ pub record TouchesNothing {S O : Type 0} (old new : S) (sink sink_now : O) (step
   pub out : sink_now ≡ sink
   pub steps_same : steps_now ≡ steps
 
--- what a look-up leaves of the two objects, told or not: the file is as before, a fault is answered only if the count
--- of that object rose, nothing is written if there is no row or no memory, and each page that the file was asked for
--- was counted
+-- what a look-up leaves of the two objects, told or not: the file is as before, a fault of an object is answered only
+-- if the count of that object rose, nothing is written if there is no row or no memory, and each page that the file
+-- was asked for was counted
 pub record GetsOver {S O : Type 0} (g : FileOf S) (o : SinkOf O) (old new : S) (sink sink_now : O)
     (steps steps_now : ℕ) (result : Result (Unit {0}) GetStop) : Type 0 where
   pub same : g.content new ≡ g.content old

@@ -12,7 +12,7 @@ use Rattle.key_lookup.specs.declared.tree.Tree.{Tree}
 abbrev pub index_in : List ℕ → Tree → Index
 index_in file tree = index_of file tree.root tree.leaf.now tree.node.now
 
--- what is said of that index, if the file tells its bytes
+-- what is said of the index that a tree is, if the file tells its bytes
 abbrev pub OfIndex : {S : Type 0} → FileOf S → S → Tree → (Index → Type 0) → Type 0
 OfIndex g source tree Fact = OfFile g source (λ file. Fact (index_in file tree))
 

@@ -20,7 +20,7 @@ use std::marker::Model;
 pub(crate) struct SearchKey {
     /// The bytes of all fields.
     bytes: Vec<u8>,
-    /// Where those of each field lie among them.
+    /// Where the bytes of each field lie among all bytes.
     places: Vec<Place>,
 }
 

@@ -36,7 +36,7 @@ use tree_walk::{Cursor, Next, Stand, Walk, check_node};
 /// PAGE_LEVEL, the level of an index page.
 const LEVEL: usize = 64;
 
-/// PAGE_INDEX_ID, its index.
+/// PAGE_INDEX_ID, the id of the index of an index page.
 const INDEX_ID: usize = 66;
 
 /// The least origin of a record of the heap.
@@ -46,9 +46,9 @@ const FIRST_ORIGIN: usize = 125;
 #[derive(Clone, Copy, Debug, PartialEq, Eq)]
 pub(crate) struct Due {
     pub stand: Stand,
-    /// The node pointer that leads to it, whose key is its low separator; a leftmost page has none.
+    /// The node pointer that leads to the page, whose key is the page's low separator; a leftmost page has none.
     pub low: Option<usize>,
-    /// The node pointer whose key is its high separator, if there is one.
+    /// The node pointer whose key is the page's high separator, if there is one.
     pub next: Next,
     pub fault: Fault,
 }

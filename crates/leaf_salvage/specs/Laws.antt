@@ -14,11 +14,11 @@ pub record HasReadable (page : List ℕ) (fields : Fields) : Type 0 where
   pub spelled : AreSpelled page fields (heap_of page)
   pub room : All (HasRoom page fields) (heap_of page)
 
--- they can if the checks of the leaf hold
+-- the records of a leaf can be read if the checks of the leaf hold
 abbrev pub WholeLeavesCanBeRead : Type 0
 WholeLeavesCanBeRead = (page : List ℕ) (fields : Fields) → LeafChecks page fields None → HasReadable page fields
 
--- these hold on each index page that is a leaf
+-- the checks of a leaf hold on each index page that is a leaf
 abbrev pub IndexLeavesAreWhole : Type 0
 IndexLeavesAreWhole =
     (page : List ℕ) (fields : Fields) (root leftmost : Bool)

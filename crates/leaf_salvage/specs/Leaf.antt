@@ -20,7 +20,7 @@ use Rattle.leaf_salvage.specs.Standing.{Stands}
 abbrev pub IsZeros : List ℕ → Type 0
 IsZeros page = page ≡ replicate 16384 0
 
--- it says that it is a leaf of this index
+-- the page says that it is a leaf of this index
 pub record IsLeafOf (page : List ℕ) (id : ℕ) : Type 0 where
   pub kind : kind_of page ≡ index_kind
   pub level : level_of page ≡ 0

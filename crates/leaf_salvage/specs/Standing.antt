@@ -27,7 +27,7 @@ pub record HasIndexId (page : List ℕ) (n id : ℕ) : Type 0 where
   pub kind : kind_of page ≡ index_kind
   pub same : id ≡ index_id_of page
 
--- the id that a page tells, none if it isn't such a page
+-- the id of the index that a page tells, none if no page of an index stands there
 abbrev pub TellsIndexId : List ℕ → ℕ → Option ℕ → Type 0
 TellsIndexId page n (Some id) = HasIndexId page n id
 TellsIndexId page n None = (id : ℕ) → ¬ (HasIndexId page n id)

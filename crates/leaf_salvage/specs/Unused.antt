@@ -25,13 +25,13 @@ pub record IsMap (file : List ℕ) (missed : ℕ → Bool) (d : ℕ) : Type 0 wh
 abbrev pub is_clear_on : List ℕ → ℕ → Bool
 is_clear_on map n = is_bit_clear map (descriptor_byte (n / 64) + 24) (n % 64)
 
--- its descriptor calls page n free; a descriptor page says nothing of itself
+-- the descriptor of page n calls it free; a descriptor page says nothing of itself
 pub record IsMarkedFree (file : List ℕ) (missed : ℕ → Bool) (n : ℕ) : Type 0 where
   pub other : n ≢ map_page n
   pub map : IsMap file missed (map_page n)
   pub free : is_clear_on (page_of file (map_page n)) n ≡ false
 
--- it isn't below the free limit
+-- page n isn't below the free limit
 pub record IsPastLimit (file : List ℕ) (missed : ℕ → Bool) (n : ℕ) : Type 0 where
   pub other : n ≢ 0
   pub map : IsMap file missed 0

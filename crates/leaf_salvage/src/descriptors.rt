@@ -76,7 +76,7 @@ fn copy(to: &mut Page, from: &Page)
 }
 
 impl Descriptors {
-    /// Before the first page.
+    /// What the descriptor pages tell before the first page was met: nothing.
     pub fn new(alloc: Global) -> Result<Descriptors, NoMemory>
         ensures { IfOk result (λ known. (file : List ℕ) (missed : ℕ → Bool) → Knows file missed 0 known) }
     {

@@ -5,10 +5,10 @@ use page_source::Rule;
 /// What a page is to an index.
 #[derive(Clone, Copy, Debug, PartialEq, Eq)]
 pub enum Verdict {
-    /// No leaf of it: another page, or zeros.
+    /// No leaf of the index: another page, or zeros.
     Other,
-    /// A page that breaks this rule, and may have been a leaf of it.
+    /// A page that breaks this rule, and may have been a leaf of the index.
     Lost(Rule),
-    /// A leaf of it, whole by itself.
+    /// A leaf of the index, whole by itself.
     Leaf,
 }

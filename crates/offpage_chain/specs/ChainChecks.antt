@@ -21,7 +21,7 @@ pub record IsChainPlace (file : List ℕ) (segment : ℕ) (taken : Bool) (n : �
   pub blob : IsBlobPage file segment n
   pub new : taken ≡ false
 
--- in a space that wasn't audited: any page below the size that is new
+-- the chain may go on at a page of a space that wasn't audited: any page below the size that is new
 pub record IsNewPlace (file : List ℕ) (taken : Bool) (n : ℕ) : Type 0 where
   pub below : n < size_of file
   pub new : taken ≡ false
@@ -30,11 +30,11 @@ pub record IsNewPlace (file : List ℕ) (taken : Bool) (n : ℕ) : Type 0 where
 abbrev pub PlaceChecks : Type 1
 PlaceChecks = ℕ → Bool → ℕ → Option Fault → Type 0
 
--- in an audited space: that it is such a page of the segment
+-- what is asked of a page in an audited space: that it is a new blob page of the segment
 abbrev pub AuditedPlace : List ℕ → ℕ → PlaceChecks
 AuditedPlace file segment holder taken n = Holds ChainPlace holder (IsChainPlace file segment taken n)
 
--- in a space that wasn't: that it is such a page, its frame and its type
+-- what is asked of a page in a space that wasn't audited: that it is a new page below the size, its frame and its type
 abbrev pub UnauditedPlace : List ℕ → PlaceChecks
 UnauditedPlace file holder taken n =
     FetchedChecks file (record { rule = ChainPlace; page = holder }) (IsNewPlace file taken n) blob_kind n
@@ -50,7 +50,7 @@ abbrev pub PageCheck : List ℕ → PlaceChecks → ℕ → Bool → ℕ → ℕ
 PageCheck file Ask holder taken left n =
     Then (Ask holder taken n) (Holds ChainLength n (IsChainPart (page_of file n) left))
 
--- of the page behind these ones
+-- the checks of the page of the chain that comes behind these pages
 abbrev pub PartCheck : List ℕ → PlaceChecks → ℕ → Reference → (ℕ → Bool) → List ℕ → ℕ
     → Option Fault → Type 0
 PartCheck file Ask holder reference taken before n =
@@ -66,7 +66,7 @@ ChainChecksBy file Ask holder reference taken IsText =
     (Then (EachOf (chain_pages file reference) (PartCheck file Ask holder reference taken))
     (Holds TextSpelling holder (IsText (bytes_on file (chain_pages file reference))))))
 
--- those of the chain in an audited space
+-- the checks of the chain in an audited space
 abbrev pub ChainChecks : List ℕ → ℕ → ℕ → Reference → (ℕ → Bool) → (List ℕ → Type 0) → Option Fault → Type 0
 ChainChecks file segment holder reference taken IsText =
     ChainChecksBy file (AuditedPlace file segment) holder reference taken IsText

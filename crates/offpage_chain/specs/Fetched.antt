@@ -12,6 +12,6 @@ abbrev pub FramedChecks : List ℕ → Fault → ℕ → ℕ → Option Fault �
 FramedChecks file fault kind n =
     Then (Holds Frame n (Framed file n)) (Check fault (kind_of (page_of file n) ≡ kind))
 
--- those of a page that is first fetched here: whether it may be, its frame, and its type
+-- the checks of a page that is first fetched here: whether it may be, its frame, and its type
 abbrev pub FetchedChecks : List ℕ → Fault → Type 0 → ℕ → ℕ → Option Fault → Type 0
 FetchedChecks file fault IsPlace kind n = Then (Check fault IsPlace) (FramedChecks file fault kind n)

@@ -12,13 +12,13 @@ reference_in bytes = record {
   length = num bytes 16 4;
 }
 
--- they are written as 0
+-- the flags and the high bytes of the length are written as 0
 unfoldable pub reference_bytes : Reference → List ℕ
 reference_bytes reference =
     be_bytes 4 reference.space ++ be_bytes 4 reference.page ++ be_bytes 4 reference.offset
     ++ replicate 4 0 ++ be_bytes 4 reference.length
 
--- its fields fit their bytes
+-- the fields of a reference fit their bytes
 pub record FitsReference (reference : Reference) : Type 0 where
   pub space : reference.space < 2 ^ 32
   pub page : reference.page < 2 ^ 32

@@ -43,8 +43,8 @@ pub record IsReferenceTo (reference : Reference) (numbers bytes : List ℕ) : Ty
   pub first : reference.page ≡ slice_index numbers 0
   pub size : reference.length ≡ length bytes
 
--- the reference leads along exactly these pages to these bytes: they can be read where the file has the pages, and
--- they are a chain of a segment that uses them
+-- the reference leads along exactly these pages to these bytes: the bytes can be read if the file has the pages, and
+-- the pages are a chain of a segment that uses them
 pub record LeadsAlong (file : List ℕ) (reference : Reference) (numbers bytes : List ℕ) : Type 0 where
   pub pages : chain_pages file reference ≡ numbers
   pub bytes_are : bytes_on file numbers ≡ bytes

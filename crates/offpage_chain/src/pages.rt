@@ -26,9 +26,10 @@ const PART_HEADER: u32 = 38;
 /// The pages that a chain may go on at.
 #[derive(Clone, Copy)]
 pub enum ChainPages<'a> {
-    /// Those that this segment of an audited space uses.
+    /// The pages that this segment of an audited space uses.
     Audited { space: &'a Space, segment: u32 },
-    /// Those of a space of which the header alone was checked. The frame and type of each are checked with the chain.
+    /// The pages of a space of which the header alone was checked. The frame and type of each are checked with the
+    /// chain.
     Unaudited { header: &'a SpaceHeader },
 }
 
@@ -65,7 +66,7 @@ fn is_new_place(header: &SpaceHeader, marks: &Marks, n: u32) -> bool
 }
 
 impl ChainPages<'_> {
-    /// How many pages their space has.
+    /// How many pages the space has.
     pub fn size(&self) -> u32
         ensures { result ≡ page_total self.now }
     {
@@ -75,7 +76,7 @@ impl ChainPages<'_> {
         }
     }
 
-    /// The id of their space.
+    /// The id of the space.
     fn space_id(&self) -> u32
         ensures { (file : List ℕ) → AreOf file self.now → result ≡ space_of (page_of file 0) }
     {
@@ -85,7 +86,7 @@ impl ChainPages<'_> {
         }
     }
 
-    /// Whether a reference is to a page of their space.
+    /// Whether a reference is to a page of the space.
     pub(crate) fn refers_here(&self, reference: &Reference) -> bool
         ensures { (file : List ℕ) → AreOf file self.now → IsTrue result ↔ RefersHere file reference.now }
     {

@@ -26,7 +26,7 @@ impl Model for ChainReader {
 }
 
 impl ChainReader {
-    /// Before the first part.
+    /// A reader of the value of a reference, before its first part.
     pub fn new(reference: &Reference) -> ChainReader
         ensures { result ≡ record { page = reference.now.page; lacks = reference.now.length } }
     {

@@ -22,7 +22,7 @@ Entry = List Part
 abbrev pub entry_at : List Entry → ℕ → Entry
 entry_at entries k = slice_index_or entries k []
 
--- the bytes that their records take, and whether these fit one page
+-- the bytes that the records of entries take, and whether these records fit one page
 abbrev pub entries_size : Fields → List Entry → ℕ
 entries_size fields entries = sum_by (size_of_record fields) entries
 
@@ -38,19 +38,19 @@ unfoldable pub packing_with : Fields → ℕ → (ℕ → Bool) → List Entry �
 packing_with fields level marks entries =
     record { level = level; records = map (pushed_entry fields level marks) (enumerate_from 0 entries) }
 
--- on a page of a tree the first entry of a lowest page has it
+-- on a page of a tree the first entry of a lowest page has the minimum mark
 abbrev pub lowest_mark : Bool → ℕ → Bool
 lowest_mark lowest_first k = lowest_first && (k == 0)
 
 abbrev pub packing_of : Fields → ℕ → Bool → List Entry → Packing
 packing_of fields level lowest_first entries = packing_with fields level (lowest_mark lowest_first) entries
 
--- their page, which may be the leftmost one of its level
+-- the page of some entries, which may be the leftmost one of its level
 abbrev pub page_of_entries : Fields → ℕ → Bool → List Entry → ℕ → ℕ → ℕ → Option Heads → List ℕ
 page_of_entries fields level leftmost entries prev next index_id heads =
     packed_page (packing_of fields level (is_lowest_first (is_leaf level) leftmost) entries) prev next index_id heads
 
--- their keys rise; a lowest first one counts as below every key
+-- the keys of the entries rise; a lowest first one counts as below every key
 abbrev pub EntriesRise : Fields → Bool → List Entry → Type 0
 EntriesRise fields lowest_first entries =
     (k : ℕ) → k + 1 < length entries → ((k ≡ 0) × (lowest_first ≡ true))
@@ -65,7 +65,7 @@ pub record SuitPage (fields : Fields) (level : ℕ) (root leftmost : Bool) (entr
   pub rise : EntriesRise fields (is_lowest_first (is_leaf level) leftmost) entries
   pub some_entry : length entries ≡ 0 → (is_leaf level ≡ true) × (root ≡ true)
 
--- so they may make that page, if they have room there
+-- these entries suit a page that stands so in its tree, and have room there
 pub record MakePage (fields : Fields) (level : ℕ) (root leftmost : Bool) (entries : List Entry) : Type 0 where
   pub suit : SuitPage fields level root leftmost entries
   pub room : entries_fit fields entries ≡ true

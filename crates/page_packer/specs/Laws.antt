@@ -38,7 +38,7 @@ HoldsPushed packing page =
     → packing ≡ packing_with fields packing.level marks entries → SuitPage fields packing.level root leftmost entries
     → HoldsRecords page fields (is_leaf packing.level) root leftmost marks entries
 
--- so it does, if what was pushed fits, also when it is sealed
+-- if what was pushed fits, the page of a packing holds it, also when the page is sealed
 abbrev pub PacksPushed : Type 0
 PacksPushed =
     (packing : Packing) (page : List ℕ) (prev next index_id : ℕ) (heads : Option Heads)
@@ -147,12 +147,12 @@ PacksNumbers =
 abbrev pub HasOwnBody : Type 0
 HasOwnBody = (page : List ℕ) → HasBodyOf page page
 
--- sealing keeps it
+-- sealing a page keeps its body
 abbrev pub SealingKeepsBody : Type 0
 SealingKeepsBody =
     (other page : List ℕ) (n space lsn kind : ℕ) → Seals other page n space lsn kind → HasBodyOf other page
 
--- so does the sealed page itself, where its numbers fit
+-- the sealed page has the body of the page, if its numbers fit their fields
 abbrev pub SealedHasBody : Type 0
 SealedHasBody =
     (page : List ℕ) (n space lsn kind : ℕ) → length page ≡ 16384 → n < 2 ^ 32 → space < 2 ^ 32 → lsn < 2 ^ 64

@@ -39,7 +39,7 @@ pushed_record level k fields parts minimum =
 abbrev pub none_packed : ℕ → Packing
 none_packed level = record { level = level; records = [] }
 
--- one more record, of these parts
+-- a packing with one more record, of these parts
 unfoldable pub with_record : Packing → Fields → List Part → Bool → Packing
 with_record packing fields parts minimum =
     record packing {
@@ -67,7 +67,7 @@ fits_more packing size = sizes_fit (length packing.records + 1) (total_size pack
 abbrev pub pushed_at : List Pushed → ℕ → Pushed
 pushed_at records k = slice_index_or records k (record { bytes = []; origin = 0 })
 
--- its origin stands behind a header, and no later than its end
+-- a record's origin stands behind a header, and no later than its end
 pub record IsWhole (r : Pushed) : Type 0 where
   pub least : 5 ≤ r.origin
   pub most : r.origin ≤ length r.bytes
@@ -79,7 +79,7 @@ pub record AreWhole (records : List Pushed) : Type 0 where
 unfoldable pub start_of : List Pushed → ℕ → ℕ
 start_of records k = 120 + total_size (take k records)
 
--- its origin; behind the last record stands the supremum
+-- the origin of record k; behind the last record stands the supremum
 unfoldable pub origin_at : List Pushed → ℕ → ℕ
 origin_at records k =
     if nat_lt k (length records) then start_of records k + (pushed_at records k).origin else supremum
@@ -92,7 +92,7 @@ packed_chain records = map (origin_at records) (range_with_len 0 (length records
 unfoldable pub owned_at : ℕ → ℕ → ℕ
 owned_at count k = if ((k + 1) % 4 == 0) && nat_le (k + 1) (4 * (slots_for count - 2)) then 4 else 0
 
--- and the supremum, with itself
+-- how many records the supremum owns, with itself
 unfoldable pub owned_by_supremum : ℕ → ℕ
 owned_by_supremum count = count + 1 - 4 * (slots_for count - 2)
 
@@ -146,7 +146,7 @@ header_numbers packing =
     slots_for (length packing.records) ∷ (120 + total_size packing.records) ∷ (32768 + (length packing.records + 2))
     ∷ 0 ∷ 0 ∷ 0 ∷ 5 ∷ 0 ∷ length packing.records ∷ 0 ∷ 0 ∷ 0 ∷ 0 ∷ packing.level ∷ []
 
--- bytes 38 to 93: these, the index id and the segment headers
+-- bytes 38 to 93: the numbers of the header, the index id and the segment headers
 unfoldable pub page_header : Packing → ℕ → Option Heads → List ℕ
 page_header packing index_id heads =
     flat_map (be_bytes 2) (header_numbers packing) ++ be_bytes 8 index_id ++ head_bytes heads

@@ -20,20 +20,20 @@ pub struct Heads {
     pub space: u32,
     /// The page of the two inodes.
     pub page: u32,
-    /// The byte of that page where the inode of the leaf segment begins.
+    /// The byte where the inode of the leaf segment begins, on the page of the two inodes.
     pub leaf: u16,
-    /// And that of the segment for the pages above.
+    /// The byte where the inode of the segment for the pages above begins, on the page of the two inodes.
     pub top: u16,
 }
 
 /// Where a record lies on the page that is filled.
 #[derive(Clone, Copy, Debug, PartialEq, Eq)]
 pub(crate) struct Spot {
-    /// The offset of its first byte.
+    /// The offset of the record's first byte.
     pub(crate) start: u16,
-    /// The offset where its fields begin.
+    /// The offset where the record's fields begin.
     pub(crate) origin: u16,
-    /// The offset of the byte behind its last.
+    /// The offset of the byte behind the record's last.
     pub(crate) end: u16,
 }
 

@@ -61,7 +61,7 @@ pub(crate) fn owned_at(count: usize, k: usize) -> u8
     }
 }
 
-/// How many the supremum owns, with itself.
+/// How many records the supremum owns, with itself.
 #[tactic(auto, unfolding(crate::specs::Packing::owned_by_supremum))]
 pub(crate) fn owned_by_supremum(count: usize) -> u8
     requires { count ≤ 4096 }

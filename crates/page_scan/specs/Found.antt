@@ -26,7 +26,7 @@ lsn_of page = num page 16 8
 abbrev pub table_kinds : List ℕ
 table_kinds = inode_kind ∷ bitmap_kind ∷ header_kind ∷ descriptor_kind ∷ blob_kind ∷ index_kind ∷ []
 
--- it is page n of this space, and stands by itself
+-- the page is page n of this space, and stands by itself
 pub record IsPageOf (page : List ℕ) (space n : ℕ) : Type 0 where
   pub stands : Stands page n
   pub below : n < most_pages
@@ -34,7 +34,7 @@ pub record IsPageOf (page : List ℕ) (space n : ℕ) : Type 0 where
   pub some_space : space ≢ 0
   pub has_kind : Contains table_kinds (kind_of page)
 
--- such a page is found at this place
+-- page n of this space is found at this place
 pub record IsFound (image : List ℕ) (o space n : ℕ) : Type 0 where
   pub place : IsPlace image o
   pub page : IsPageOf (page_at image o) space n

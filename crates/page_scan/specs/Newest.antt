@@ -1,4 +1,4 @@
--- Of the versions of a page that are found in an image the newest one.
+-- The newest of the versions of a page that are found in an image.
 use Rattle.std.specs.Prelude.{◌≡◌, ◌≤◌, ℕ, List, All, Contains, Option, Some, None}
 use Rattle.page_scan.specs.Found.{IsFound, page_at, lsn_of}
 

@@ -33,7 +33,7 @@ Scans rest (Err e) page rest_now = PassesSome rest rest_now
 abbrev pub rest_of : List ℕ → Option (List ℕ) → Option (List ℕ)
 rest_of ahead left = option_map (λ bytes. ahead ++ bytes) left
 
--- the same of a rest that is told, if its bytes can be counted
+-- what a scan answers of a rest of an image that is told, if its bytes can be counted
 abbrev pub ScansTold : {E : Type 0} → Option (List ℕ) → Result (Option FoundPage) E → List ℕ → Option (List ℕ)
     → Type 0
 ScansTold None result page rest_now = rest_now ≡ None

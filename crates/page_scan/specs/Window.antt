@@ -13,7 +13,7 @@ pub record LooksLikePage (bytes : List ℕ) : Type 0 where
   pub below : num bytes 4 4 < most_pages
   pub some_space : space_of bytes ≢ 0
 
--- it is no page, of whatever space and number
+-- the bytes are no page, of whatever space and number
 abbrev pub IsNoPage : List ℕ → Type 0
 IsNoPage bytes = (space n : ℕ) → ¬ (IsPageOf bytes space n)
 
@@ -40,7 +40,7 @@ abbrev pub SeesNext : List ℕ → ℕ → Option FoundPage → List ℕ → Typ
 SeesNext bytes passed None page = Passes bytes passed × (page_size ≤ length bytes → sector_size ≤ passed)
 SeesNext bytes passed (Some found) page = SeesFirst bytes passed found page
 
--- what was ahead, and what is ahead after those bytes
+-- what was ahead, and what is ahead after the bytes that were passed
 abbrev pub Looks : List ℕ → List ℕ → Option FoundPage → List ℕ → Type 0
 Looks ahead ahead_now found page =
     (passed : ℕ) × (passed ≤ length ahead) × (ahead_now ≡ drop passed ahead) × SeesNext ahead passed found page

@@ -42,7 +42,7 @@ impl Model for Scanner {
 }
 
 impl Scanner {
-    /// Before the first sector. It takes all its memory here.
+    /// A window before the first sector of an image. It takes all its memory here.
     pub fn new(alloc: Global) -> Result<Scanner, NoMemory>
         ensures { IfOk result (λ scanner. scanner ≡ []) }
     {

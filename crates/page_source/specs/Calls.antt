@@ -25,7 +25,8 @@ pub record StopsOver {S A : Type 0} (g : FileOf S) (old new : S) (steps steps_no
   pub cause : StopsWithCause (g.faults old) (g.faults new) result
   pub asked : AsksNoMore g old new steps steps_now
 
--- the same of a call that takes no memory
+-- a call that takes no memory leaves the file as before, its count of faults never fell, it is blamed only if the
+-- count rose, and each page that it was asked for was counted
 pub record HaltsOver {S A : Type 0} (g : FileOf S) (old new : S) (steps steps_now : ℕ) (result : Result A Halt)
     : Type 0 where
   pub same : g.content new ≡ g.content old

@@ -34,7 +34,7 @@ abbrev pub Halts : {A : Type 0} → Result A Halt → (Option Fault → Type 0) 
 Halts (Ok a) checks = checks None
 Halts (Err halt) checks = HaltsAt halt checks
 
--- the same of a call that looks at a page in hand
+-- the answer of a call that looks at a page in hand is the first fault of these checks
 abbrev pub Finds : {A : Type 0} → Result A Fault → (Option Fault → Type 0) → Type 0
 Finds (Ok a) checks = checks None
 Finds (Err fault) checks = checks (Some fault)
@@ -44,7 +44,7 @@ pub record StopsWithCause {A : Type 0} (before now : ℕ) (result : Result A Sto
   pub later : before ≤ now
   pub source : result ≡ Err stops.Source → Rose before now
 
--- the same of a call that takes no memory
+-- the count of the source never falls, and the source is blamed only if it rose, by a call that takes no memory
 pub record HaltsWithCause {A : Type 0} (before now : ℕ) (result : Result A Halt) : Type 0 where
   pub later : before ≤ now
   pub source : result ≡ Err Source → Rose before now

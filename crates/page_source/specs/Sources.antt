@@ -1,5 +1,5 @@
 -- Further files in memory: one whose pages are held or zeros, one that keeps which pages were fetched, and one that
--- changes. And what is seen of real files.
+-- changes; and what is seen of real files.
 use Rattle.std.specs.Prelude.{◌≡◌, ℕ, Option, Bool, true, if◌then◌else◌, nat_lt, List, [], ◌∷◌, ◌++◌, length, take}
 use Rattle.std.specs.Fs.{new_options, with_read, with_write, with_create, with_truncate}
 use Rattle.std.specs.declared.fs.options.OpenOptions.{OpenOptions}
@@ -41,7 +41,7 @@ pub record ChangingFile : Type 0 where
 abbrev pub seen_next : ChangingFile → List ℕ
 seen_next file = if nat_lt (one_more file.made) file.at then file.first else file.second
 
--- after a call that failed or not
+-- the file after a call that failed or not
 abbrev pub after_seen : ChangingFile → Bool → ChangingFile
 after_seen file failed = record file { made = one_more file.made; faults = count_after file.faults failed }
 

@@ -20,7 +20,7 @@ use std::io::{Error, ErrorKind};
 use std::marker::Model;
 use std::sync::ledger::Ledger;
 
-/// To be read, and for nothing else.
+/// How a file is opened to be read, and for nothing else.
 fn for_reading() -> OpenOptions
     ensures { result ≡ for_reading }
 {
@@ -29,7 +29,7 @@ fn for_reading() -> OpenOptions
     how
 }
 
-/// To be written, made if there is none, and emptied.
+/// How a file is opened to be written, made if there is none, and emptied.
 fn anew() -> OpenOptions
     ensures { result ≡ anew }
 {

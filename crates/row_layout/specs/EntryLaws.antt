@@ -57,7 +57,7 @@ EntriesDiffer =
     → AreTableRows table rows → length rows < 281474976710656 → RowsRise table rows
     → HaveOwnKeys (leaf_fields table j) (row_entries table j rows)
 
--- whatever the numbers of pages are, their parts have the same lengths
+-- the parts of leaf entries have the same lengths, whatever the numbers of pages are
 abbrev pub EntriesAreAlike : Type 0
 EntriesAreAlike =
     (table : TableDef) (rows : List (List Value)) (stored : List (List Stored)) (n m : ℕ → ℕ → ℕ → ℕ) (j : ℕ)

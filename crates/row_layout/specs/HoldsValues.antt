@@ -23,7 +23,7 @@ use Rattle.tree_layout.specs.Entries.{Entry}
 use Rattle.tree_layout.specs.Entries.{IsRowOf}
 use Rattle.row_layout.specs.StoredRow.{Stored, stored_at, off_bytes, parts_of_row, fitted_row}
 
--- a BLOB page that the segment uses has these bytes, and that one is next
+-- page n is a BLOB page that the segment uses, has these bytes, and leads to page `next`
 pub record HoldsValuePart (file : List ℕ) (segment n next : ℕ) (bytes : List ℕ) : Type 0 where
   pub blob : IsBlobPage file segment n
   pub size : part_length (page_of file n) ≡ length bytes

@@ -70,11 +70,11 @@ abbrev pub going_over : Format → ℕ
 going_over Compact = 788
 going_over Dynamic = 40
 
--- the bytes that go
+-- the bytes of a field that go off the page
 abbrev pub off_bytes : Format → Stored → List ℕ
 off_bytes format field = drop (kept_prefix format) field.bytes
 
--- the reference to the page where they begin
+-- the reference to the page where the bytes of a field that go off the page begin
 abbrev pub reference_to : Format → ℕ → Stored → Reference
 reference_to format n field = record {
   space = 1;
@@ -83,7 +83,7 @@ reference_to format n field = record {
   length = length (off_bytes format field);
 }
 
--- what stays of them on the page
+-- what stays on the page of a field whose other bytes go off it
 abbrev pub off_local : Format → ℕ → Stored → List ℕ
 off_local format n field = take (kept_prefix format) field.bytes ++ reference_bytes (reference_to format n field)
 
@@ -98,7 +98,7 @@ unfoldable pub parts_of_row : Format → (ℕ → ℕ) → List Stored → List 
 parts_of_row format first row =
     map (λ i. part_of_field format (first i) (stored_at row i)) (range_with_len 0 (length row))
 
--- how many bytes its record has, whatever these pages are; with so many or more it is too long
+-- how many bytes the record of a row has, whatever pages its values go on in; with so many or more it is too long
 abbrev pub size_of_row : TableDef → List Stored → ℕ
 size_of_row table row = size_of_record (leaf_fields table 0) (parts_of_row table.format (λ i. 0) row)
 
@@ -128,7 +128,7 @@ with_off i [] = []
 with_off zero (field ∷ row) = record field { off = true } ∷ row
 with_off (suc i) (field ∷ row) = field ∷ with_off i row
 
--- the longest one that may go, the first of equals
+-- a row of which the longest field that may go off the page goes, the first of equals
 unfoldable pub longest_off : TableDef → List Stored → List Stored
 longest_off table row =
     with_off (position_or_len (λ n. n == greatest (going_lengths table row)) (going_lengths table row)) row

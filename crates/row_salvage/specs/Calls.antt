@@ -50,7 +50,7 @@ pub record AnswersCell (file : List ℕ) (missed : ℕ → Bool) (leaf : ℕ) (c
   pub judged : IsJudged file missed leaf cell (is_set before) (record { loss = loss; looked = looked })
   pub marked : Marked (is_set before) after looked
 
--- the same of all columns of a row
+-- the answer of the checks of all columns of a row, and the pages that were looked at are marked
 pub record AnswersRow (file : List ℕ) (missed : ℕ → Bool) (row : RowOnLeaf) (before after : List Bool)
     (losses : List (Option Loss)) : Type 0 where
   pub columns : List Judged

@@ -11,10 +11,10 @@ day_number year month day = unsigned_abs (days_from_civil (pos year) month day)
 unfoldable pub year_of_day : ℕ → ℕ
 year_of_day n = 1969 + count_by (λ year. nat_le (day_number year 1 1) n) (range_with_len 1970 69)
 
--- its month: so many months of the year began by then
+-- the month of a day: so many months of the year began by then
 unfoldable pub month_of_day : ℕ → ℕ
 month_of_day n = count_by (λ month. nat_le (day_number (year_of_day n) month 1) n) (range_with_len 1 12)
 
--- and its day in the month
+-- the place of a day in its month, from 1 on
 unfoldable pub day_of_day : ℕ → ℕ
 day_of_day n = n + 1 - day_number (year_of_day n) (month_of_day n) 1

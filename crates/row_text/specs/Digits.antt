@@ -22,10 +22,10 @@ behind_point count n = if count == 0 then [] else 46 ∷ last_digits count n
 abbrev pub sign_text : ℤ → List ℕ
 sign_text units = if int_lt units (pos 0) then codes "-" else []
 
--- a number of units before the point, where `s` of its digits stand behind it
+-- the text of a decimal up to its point, with its sign; `s` of its digits stand behind the point
 abbrev pub whole_text : ℕ → ℤ → List ℕ
 whole_text s units = sign_text units ++ decimal (unsigned_abs units / 10 ^ s)
 
--- and all of it
+-- the text of a decimal
 abbrev pub decimal_text : ℕ → ℤ → List ℕ
 decimal_text s units = whole_text s units ++ behind_point s (unsigned_abs units)

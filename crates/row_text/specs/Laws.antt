@@ -1,5 +1,5 @@
--- What a writer adds, piece by piece, is the line of the row, in whatever parts a long value comes; a row has one line,
--- and a line is that of one row, and the same of keys.
+-- What a writer adds, piece by piece, is the line of the row, in whatever parts a long value comes. A row has one
+-- line, and a line is that of one row; a key has one text, and a text is that of one key.
 use Rattle.std.specs.Prelude.{◌≡◌, ℕ, ◌+◌, ◌<◌, true, List, [], ◌++◌, length, take, flat_map, slice_index_or}
 use Rattle.std.specs.List.{join_with_byte}
 use Rattle.column_values.specs.declared.kind.ColumnType.{ColumnType}
@@ -21,17 +21,17 @@ line_up_to table row k = line_open table ++ join_with_byte comma (take k (texts_
 abbrev pub text_at : TableDef → List Value → ℕ → List ℕ
 text_at table row k = value_text (column_at table k).kind (slice_index_or row k Null)
 
--- up to no value it is what the writer begins with
+-- the line of a row up to no value is what the writer begins with
 abbrev pub LineOpens : Type 0
 LineOpens = (table : TableDef) (row : List Value) → line_up_to table row 0 ≡ line_open table
 
--- one value more is what stands before it, and its text
+-- the line of a row up to one value more is what stands before it, and its text
 abbrev pub LineGoesOn : Type 0
 LineGoesOn =
     (table : TableDef) (row : List Value) (k : ℕ) → IsTableRow table row → k < length row
     → line_up_to table row (k + 1) ≡ line_up_to table row k ++ (before_value k ++ text_at table row k)
 
--- up to the last value and with its close it is the line
+-- the line of a row up to its last value, and with its close, is the whole line
 abbrev pub LineCloses : Type 0
 LineCloses =
     (table : TableDef) (row : List Value) → IsTableRow table row
@@ -53,7 +53,7 @@ PartIsValue =
     (kind : ColumnType) (value : Value) (bytes : List ℕ) → is_long kind ≡ true → Spell kind value bytes
     → in_one_part kind bytes ≡ value_text kind value
 
--- so are these bytes in any parts
+-- the bytes of a long value in whatever parts, with what stands before and behind them, are the value that they spell
 abbrev pub all_bytes : List (List ℕ) → List ℕ
 all_bytes parts = flat_map (λ part. part) parts
 
@@ -88,7 +88,7 @@ HasOneKeyText =
     (table : TableDef) (values : List Value) (a b : List ℕ) → IsKeyTextOf table values a → IsKeyTextOf table values b
     → a ≡ b
 
--- and a text is that of one key at the most
+-- a text is that of one key at the most
 abbrev pub HasOneKey : Type 0
 HasOneKey =
     (table : TableDef) (v w : List Value) (text : List ℕ) → IsTable table → IsKeyTextOf table v text

@@ -25,7 +25,7 @@ escape_letter byte =
 abbrev pub escaped : ℕ → List ℕ
 escaped byte = if escape_letter byte == 0 then byte ∷ [] else backslash ∷ escape_letter byte ∷ []
 
--- a text, each of its bytes so
+-- a text as it stands in a line, byte by byte
 unfoldable pub escaped_text : List ℕ → List ℕ
 escaped_text text = flat_map escaped text
 
@@ -33,7 +33,7 @@ escaped_text text = flat_map escaped text
 abbrev pub is_escaped : ℕ → Bool
 is_escaped byte = not (escape_letter byte == 0)
 
--- each of its bytes stands for itself
+-- each byte of the text stands for itself
 abbrev pub IsPlain : List ℕ → Type 0
 IsPlain text = All (λ byte. escape_letter byte ≡ 0) text
 
@@ -58,7 +58,7 @@ clock_text hour minute second = two_digits hour ++ 58 ∷ two_digits minute ++ 5
 abbrev pub time_text : ℕ → ℕ → ℕ → ℕ → ℕ → List ℕ
 time_text f hour minute second micro = clock_text hour minute second ++ behind_point f (micro / 10 ^ (6 - f))
 
--- both
+-- a date and a time of day, with a space between
 abbrev pub moment_text : ℕ → ℕ → ℕ → ℕ → ℕ → ℕ → ℕ → ℕ → List ℕ
 moment_text f year month day hour minute second micro =
     date_text year month day ++ 32 ∷ time_text f hour minute second micro

@@ -13,7 +13,7 @@ pub record Writer : Type 0 where
   pub came : ℕ
   pub lacks : ℕ
 
--- the line up to the values, and its close
+-- what stands before the values of a line, and what stands behind them
 abbrev pub line_open : TableDef → List ℕ
 line_open table = codes "INSERT INTO `" ++ table.table ++ codes "` VALUES ("
 
@@ -38,7 +38,7 @@ is_long (Utf8Varchar n) = true
 is_long (Utf8Text n) = true
 is_long _ = false
 
--- and whose bytes are a text
+-- a value that may be written in parts, and whose bytes are a text
 abbrev pub is_text : ColumnType → Bool
 is_text (Varchar n) = true
 is_text (Text n) = true

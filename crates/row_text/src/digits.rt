@@ -10,7 +10,7 @@ pub(crate) fn two_digits(number: u16) -> [u8; 2]
     [b'0' + (number / 10 % 10) as u8, b'0' + (number % 10) as u8]
 }
 
-/// The last four digits.
+/// The last four digits of a number.
 pub(crate) fn four_digits(number: u16) -> [u8; 4]
     ensures { result ≡ four_digits number }
 {

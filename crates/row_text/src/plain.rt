@@ -9,7 +9,7 @@ use crate::pieces::CHUNK;
 /// How many bytes of a text are looked at together.
 const RUN: usize = 32;
 
-/// How many where fewer are left.
+/// How many bytes of a text are looked at together, if fewer are left.
 const SHORT_RUN: usize = 8;
 
 /// Whether each byte of a run stands for itself. All are looked at, without a way out at the first that doesn't, so

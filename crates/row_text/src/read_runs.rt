@@ -10,7 +10,7 @@ use crate::lanes::{LANES, plain_length};
 /// How many bytes are looked at one by one before a vector of them is, since escapes often stand close together.
 const FEW: usize = 4;
 
-/// How many bytes both take.
+/// How many bytes a step takes: a few one by one, and then a vector of them.
 const STEP: usize = FEW + LANES;
 
 /// What stands in the table of bytes for no byte.

@@ -27,7 +27,7 @@ fn first_end(text: &[u8]) -> Option<usize>
     text.iter().position(|byte| is_end(*byte))
 }
 
-/// The text up to there.
+/// The text up to the first place before which a value may end.
 fn word_of(text: &[u8]) -> &[u8]
     ensures cut { text.now ≡ result.now ++ drop (length result.now) text.now }
     ensures ends { EndsValue (drop (length result.now) text.now) }
@@ -54,7 +54,7 @@ fn greatest_signed(width: u8) -> i64
     }
 }
 
-/// The greatest one of an unsigned type.
+/// The greatest number of an unsigned type of so many bytes.
 fn greatest_unsigned(width: u8) -> u64
     requires { IsWidth width }
     ensures { result + 1 ≡ 256 ^ width }
@@ -77,7 +77,7 @@ fn is_signed_number(width: u8, number: i64) -> bool
     number >= -1 - greatest && number <= greatest
 }
 
-/// Whether an unsigned type has it.
+/// Whether an unsigned type of so many bytes has the number.
 fn is_unsigned_number(width: u8, number: u64) -> bool
     requires { IsWidth width }
     ensures { IsTrue result ↔ (number < 256 ^ width) }

@@ -23,7 +23,9 @@ use std::marker::Model;
 /// backquotes, `VALUES`, and the values of a row in parentheses, between commas. Each call fails where the sink does.
 #[derive(Debug, Drop)]
 pub struct RowWriter {
+    /// How many values of the row came.
     came: u32,
+    /// How many bytes a long value still lacks.
     lacks: u64,
 }
 
@@ -147,7 +149,7 @@ impl RowWriter {
     }
 
     /// Whether the text of the next bytes of a long value is known to be these bytes, which are counted then: so that
-    /// they may be added as they are. Else nothing changes, and `part` adds their text.
+    /// they may be added as they are. Otherwise nothing changes, and `part` adds their text.
     pub fn is_as_it_is(&mut self, kind: &ColumnType, bytes: &[u8]) -> bool
         requires long { is_long kind.now ≡ true }
         requires lacks { length bytes.now ≤ self.old.lacks }

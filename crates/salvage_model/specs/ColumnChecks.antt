@@ -55,7 +55,7 @@ PartChecks file missed space holder taken left before n =
     (Then (Keeps looked ChainPlace holder (kind_of (page_of file n) ≡ blob_kind))
     (Keeps looked ChainLength n (IsChainPart (page_of file n) left)))))
 
--- of the page after these ones of a chain from a leaf
+-- the checks of the page that comes after these ones of a chain from a leaf
 abbrev pub PartCheck : List ℕ → (ℕ → Bool) → ℕ → ℕ → Reference → (ℕ → Bool) → List ℕ → ℕ → Option Lost → Type 0
 PartCheck file missed space leaf reference taken before n =
     PartChecks file missed space (before_place leaf before (length before)) (seen taken before n)
@@ -70,7 +70,7 @@ PartsChecksBy file missed space leaf reference taken IsText =
     (Then (EachOf (chain_pages file reference) (PartCheck file missed space leaf reference taken))
     (Keeps (chain_pages file reference) TextSpelling leaf (IsText (bytes_on file (chain_pages file reference))))))
 
--- of that of a value with these local bytes
+-- the checks of the chain of a value with these local bytes
 abbrev pub PartsChecks : List ℕ → (ℕ → Bool) → ℕ → ℕ → ColumnType → List ℕ → (ℕ → Bool) → Option Lost → Type 0
 PartsChecks file missed space leaf kind local taken =
     PartsChecksBy file missed space leaf (reference_of local) taken (IsTextBehind kind local)

@@ -14,7 +14,7 @@ abbrev pub IsId : List ℕ → TableDef → Option ℕ → ℕ → Type 0
 IsId file table (Some given) id = id ≡ given
 IsId file table None id = TellsId file table id
 
--- none was given, and the root tells none
+-- no id was given, and the root tells none
 pub record HasNoId (file : List ℕ) (table : TableDef) (given : Option ℕ) : Type 0 where
   pub none : given ≡ None
   pub untold : (id : ℕ) → ¬ (TellsId file table id)

@@ -11,7 +11,7 @@ pub record Judged : Type 0 where
   pub loss : Option Loss
   pub looked : List ℕ
 
--- the same as an answer of the checks
+-- the verdict on a column as an answer of the checks
 abbrev pub lost_by : Option Loss → List ℕ → Option Lost
 lost_by None looked = None
 lost_by (Some loss) looked = Some (record { loss = loss; looked = looked })

@@ -54,7 +54,7 @@ SoundFilesLoseNothing =
     (file : List ℕ) (table : TableDef) (outcomes : List Outcome) → IsTable table → IsValid file table
     → HasOwnId file table → IsSaved (whole_job file table) outcomes → LosesNothing file table outcomes
 
--- and there is such a salvage
+-- there is a salvage of the job
 pub record HasOutcomes (job : Job) : Type 0 where
   pub outcomes : List Outcome
   pub is_saved : IsSaved job outcomes
@@ -82,7 +82,7 @@ pub record StandsOn (job : Job) (n : ℕ) (row : SavedRow) : Type 0 where
   pub place : Contains (places_of job.kind (page_of job.file n)) row.place
   pub whole : is_whole_row (losses_in row.columns) ≡ true → IsWholeLine job n row
 
--- this holds of each row that is saved, and none is saved twice
+-- each row that is saved is a record of the kind, of a leaf that stands whole by itself, and none is saved twice
 pub record RowsStand (job : Job) (outcomes : List Outcome) : Type 0 where
   pub stand : (n : ℕ) (row : SavedRow) → HasRow outcomes n row → StandsOn job n row
   pub once : (n : ℕ) (rows : List SavedRow) → slice_get outcomes n ≡ Some (Leaf rows)

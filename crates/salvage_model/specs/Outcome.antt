@@ -88,7 +88,7 @@ ComesOf job n taken Other = Is job n verdicts.Other
 ComesOf job n taken (Lost rule) = Is job n (verdicts.Lost rule)
 ComesOf job n taken (Leaf rows) = Is job n verdicts.Leaf × AreSavedRows job n taken rows
 
--- it has no further rows
+-- the outcome of page n has no further rows
 abbrev pub IsFull : Job → ℕ → Outcome → Type 0
 IsFull job n (Leaf rows) = length rows ≡ length (places_of job.kind (page_of job.file n))
 IsFull job n _ = ⊤

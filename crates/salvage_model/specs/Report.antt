@@ -13,14 +13,14 @@ unfoldable pub losses_of_rows : TableDef → ℕ → List SavedRow → List ℕ
 losses_of_rows table n rows =
     flat_map (λ (r : SavedRow). row_losses table n (r.place + 1) (losses_in r.columns)) rows
 
--- of page n
+-- what is lost of page n
 abbrev pub losses_on : TableDef → ℕ → Outcome → List ℕ
 losses_on table n Unread = unread_line n
 losses_on table n (Lost rule) = broken_line n rule
 losses_on table n (Leaf rows) = losses_of_rows table n rows
 losses_on table n _ = []
 
--- of all pages
+-- what is lost of all pages
 unfoldable pub losses_of : TableDef → List Outcome → List ℕ
 losses_of table outcomes = flat_map (λ (p : ℕ × Outcome). losses_on table p.0 p.1) (enumerate_from 0 outcomes)
 

@@ -13,7 +13,7 @@ use Rattle.salvage_model.specs.SavedLine.{saved_line}
 abbrev pub WholeLinesAreLines : Type 0
 WholeLinesAreLines = (table : TableDef) (row : List Value) → saved_line table (map Some row) ≡ line_of table row
 
--- and the values are those that are read of it
+-- no value of a row is lost, and the values that are saved are those that are read of it
 pub record IsReadWhole (file : List ℕ) (row : RowView) (saved : List (Option Value)) : Type 0 where
   pub row_values : List Value
   pub same : saved ≡ map Some row_values

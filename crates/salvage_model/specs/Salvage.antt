@@ -31,7 +31,7 @@ pub record Missed : Type 0 where
   pub pages : List ℕ
   pub parts : List ℕ
 
--- the source counted a fault for each of them
+-- the source counted a fault for each page that couldn't be fetched
 abbrev pub HaveCause : ℕ → ℕ → Missed → Type 0
 HaveCause before now missed = RoseBy before now (length missed.pages + length missed.parts)
 
@@ -58,7 +58,7 @@ pub record Told : Type 1 where
   pub first : List Outcome → Type 0
   pub ended : List Outcome → Type 0
 
--- of a report that is heeded: it has everything, or a prefix of what some first pages give
+-- what is said of a report that is heeded: it has everything, or a prefix of what some first pages give
 abbrev pub heeded : TableDef → Written → Written → Told
 heeded table old new = record {
   all = λ outcomes. GrowsBy old.losses new.losses (report_of table outcomes);
@@ -66,8 +66,8 @@ heeded table old new = record {
   ended = λ outcomes. GrowsByPart old.losses new.losses (report_of table outcomes);
 }
 
--- of one whose failures end nothing: it has everything that was met, or a prefix of that if its own count of faults
--- rose
+-- what is said of a report whose failures end nothing: it has everything that was met, or a prefix of that if its own
+-- count of faults rose
 abbrev pub unheeded : TableDef → Written → Written → ℕ → ℕ → Told
 unheeded table old new faults faults_now = record {
   all = λ outcomes. Reports old.losses new.losses faults faults_now (report_of table outcomes);
@@ -100,7 +100,8 @@ pub record HasBegun (file : List ℕ) (wanted : Wanted) (before now : ℕ) (old 
   pub text : GrowsByPart old new (text_of wanted.table outcomes)
   pub report : Report outcomes
 
--- the same up to a row for whose line other pages are read a second time
+-- up to a row for whose line other pages are read a second time, some first pages were gone through, and of what they
+-- give a prefix was written
 pub record HasBegunLongRow (file : List ℕ) (wanted : Wanted) (before now : ℕ) (old new : Option (List ℕ))
     (Report : List Outcome → Type 0) : Type 0 where
   pub begun : HasBegun file wanted before now old new Report
@@ -136,7 +137,7 @@ abbrev pub Salvages : List ℕ → Wanted → Counts → Counts → Result Saved
 Salvages file wanted before now result old new =
     SalvagesBy (heeded wanted.table old new) file wanted before now result old new
 
--- the same if a failure of the report, whose faults are counted too, ends nothing
+-- the answer over a file that is told, if a failure of the report, whose faults are counted too, ends nothing
 abbrev pub SalvagesRegardless : List ℕ → Wanted → Counts → Counts → ℕ → ℕ → Result Saved SalvageStop → Written → Written
     → Type 0
 SalvagesRegardless file wanted before now faults faults_now result old new =

@@ -18,7 +18,7 @@ pub record AreFirst (job : Job) (outcomes : List Outcome) : Type 0 where
   pub each : Follow (λ before n outcome. ComesOf job n (is_in (looked_of_pages before)) outcome) outcomes
   pub full : (n : ℕ) → n + 1 < length outcomes → IsFull job n (slice_index_or outcomes n Unused)
 
--- those of all pages
+-- the outcomes of all pages, each after the pages before it
 pub record IsSaved (job : Job) (outcomes : List Outcome) : Type 0 where
   pub first : AreFirst job outcomes
   pub all : length outcomes ≡ reach_of job.file
@@ -32,7 +32,7 @@ rows_on _ = []
 abbrev pub rows_of : List Outcome → List SavedRow
 rows_of outcomes = flat_map rows_on outcomes
 
--- their lines, in the order of the pages
+-- the line of a row, and the lines of all rows in the order of the pages
 abbrev pub line_of_row : TableDef → SavedRow → List ℕ
 line_of_row table row = saved_line table row.row_values
 

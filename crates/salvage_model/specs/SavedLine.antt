@@ -14,7 +14,7 @@ abbrev pub saved_text : ColumnType → Option Value → List ℕ
 saved_text kind (Some value) = value_text kind value
 saved_text kind None = codes "DEFAULT"
 
--- those of all columns, joined by commas
+-- the texts of the values of all columns, joined by commas
 abbrev pub saved_values : List Column → List (Option Value) → List ℕ
 saved_values columns row =
     join_with_byte comma (map (λ (pair : Column × Option Value). saved_text (pair.0).kind pair.1) (zip columns row))

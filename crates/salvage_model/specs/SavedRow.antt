@@ -20,11 +20,11 @@ pub record SavesRow (file : List ℕ) (row : RowView) (losses : List (Option Los
   pub each : (c : ℕ) → c < length row.table.columns
       → SavesValue file (cell_of_column row c) (slice_index_or losses c None) (slice_index_or row_values c None)
 
--- nothing of it is lost
+-- nothing of the row is lost
 abbrev pub is_whole_row : List (Option Loss) → Bool
 is_whole_row losses = list_all is_none losses
 
--- the pages that are read once more for its line
+-- the pages of a value that are read once more for the line of its row, and those of all values of the row
 abbrev pub pages_unless : Option Loss → List ℕ → List ℕ
 pages_unless None pages = pages
 pages_unless (Some loss) pages = []
@@ -34,7 +34,7 @@ saved_pages file row losses =
     flat_map (λ c. pages_unless (slice_index_or losses c None) (pages_of_cell file (cell_of_column row c)))
     (range_with_len 0 (length row.table.columns))
 
--- its values can be read in so many fetches
+-- the values of a row that aren't lost can be read in so many fetches
 pub record CanSave (file : List ℕ) (row : RowView) (losses : List (Option Loss)) (left : ℕ) : Type 0 where
   pub row_values : List (Option Value)
   pub saves : SavesRow file row losses row_values

@@ -7,7 +7,7 @@ use page_source::Fault;
 pub enum Loss {
     /// A broken rule.
     Broken(Fault),
-    /// A page of its chain, which couldn't be fetched.
+    /// A page of the value's chain, which couldn't be fetched.
     Unread(u32),
 }
 

@@ -13,7 +13,7 @@ use Rattle.sample_table.specs.Sample.{sample_table, sample_rows}
 abbrev pub bytes_of : SparseFile → List ℕ
 bytes_of file = file_of file.size file.held
 
--- it is the file of these rows, is sound, and has these rows
+-- the file is that of these rows, is sound, and has these rows
 pub record IsSampleFile (rows : Rows) (file : SparseFile) : Type 0 where
   pub fits : FitsSpace sample_table rows
   pub is : bytes_of file ≡ layout_file sample_table rows

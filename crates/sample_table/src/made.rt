@@ -7,11 +7,11 @@ use thiserror::Error;
 /// What the made table came to.
 #[derive(Clone, Copy, Debug, PartialEq, Eq)]
 pub struct Sample {
-    /// The numbers of its file.
+    /// The numbers of the made table's file.
     pub checked: Checked,
-    /// How many bytes its dump has.
+    /// How many bytes the dump of the file has.
     pub bytes: u64,
-    /// Their CRC-32C.
+    /// The CRC-32C of the dump.
     pub sum: u32,
 }
 

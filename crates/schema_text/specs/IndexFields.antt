@@ -87,7 +87,7 @@ leaf_fields table j =
     let list = key_fields table j ++ rest_fields table j in
     record { fields = list; nullable = nullable_count list; keys = length (key_fields table j) }
 
--- the fields of its node pointers: the key and the child page
+-- the fields of an index's node pointers: the key and the child page
 unfoldable pub node_fields : TableDef → ℕ → Fields
 node_fields table j = record {
   fields = key_fields table j ++ child_field ∷ [];

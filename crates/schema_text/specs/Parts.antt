@@ -15,7 +15,7 @@ pub record HasColumns (table : TableDef) : Type 0 where
   pub kinds : All (λ (c : Column). IsColumnType c.kind) table.columns
   pub differ : AllPairs (λ (c d : Column). c.name ≢ d.name) table.columns
 
--- its indexes so far, which stand behind some column
+-- the indexes of a table so far, which stand behind some column
 pub record HasIndexes (table : TableDef) : Type 0 where
   pub behind : 1 ≤ length table.indexes → 1 ≤ length table.columns
   pub few : length table.indexes ≤ 16

@@ -70,7 +70,7 @@ IsSizedWord first =
     (first ≡ codes "char") ⊎ (first ≡ codes "varchar") ⊎ (first ≡ codes "binary") ⊎ (first ≡ codes "varbinary")
     ⊎ (first ≡ codes "datetime") ⊎ (first ≡ codes "timestamp")
 
--- such a type with any word in the place of its number, and so a varchar of utf8mb4 and a decimal
+-- a type that one number follows, with any word in the place of the number; and so a varchar of utf8mb4 and a decimal
 abbrev pub IsSizedForm : Line → Type 0
 IsSizedForm words =
     (first : List ℕ) × (size : List ℕ) × IsSizedWord first × (words ≡ first ∷ size ∷ [])
@@ -198,7 +198,7 @@ pub record AreLinesOf (table : TableDef) (lines : List Line) : Type 0 where
   pub part : IsPart table
   pub spelled : lines ≡ schema_words table
 
--- the checks of a line behind these
+-- the checks of a line behind these earlier lines
 abbrev pub BehindChecks : List Line → Line → Option SchemaWhy → Type 0
 BehindChecks earlier line why = (table : TableDef) × AreLinesOf table earlier × NextChecks table line why
 

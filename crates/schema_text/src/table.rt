@@ -19,11 +19,11 @@ pub enum Format {
 /// A column of a table.
 #[derive(Debug, Drop)]
 pub struct Column {
-    /// One to 64 characters, each of one byte.
+    /// The name of the column: one to 64 characters, each of one byte.
     pub name: ByteList,
-    /// The type of its values.
+    /// The type of the column's values.
     pub kind: ColumnType,
-    /// Whether a row may hold no value here.
+    /// Whether a row may hold no value of the column.
     pub nullable: bool,
 }
 
@@ -57,13 +57,13 @@ impl ColumnList {
 /// An index of a table.
 #[derive(Debug, Drop)]
 pub struct IndexDef {
-    /// Empty for the clustered index.
+    /// The name of the index, empty for the clustered one.
     pub name: ByteList,
-    /// The number of its root page, from 3 on.
+    /// The number of the index's root page, from 3 on.
     pub root: u32,
-    /// The columns that it names, at most 16; none for a clustered index on the hidden row id.
+    /// The columns that the index names, at most 16; none for a clustered index on the hidden row id.
     pub columns: ColumnList,
-    /// The line of the schema text that declares it, counted from 1.
+    /// The line of the schema text that declares the index, counted from 1.
     pub line: u32,
 }
 
@@ -118,7 +118,7 @@ impl Schema {
         self.table.bytes()
     }
 
-    /// The format of its rows.
+    /// The format of the table's rows.
     pub fn format(&self) -> Format
         ensures { result ≡ self.now.format }
     {

@@ -23,14 +23,14 @@ pub(crate) fn is(word: &[u8], text: &[u8]) -> bool
     word == text
 }
 
-/// The place of the first such byte.
+/// The place of the first byte of a text that is this one.
 fn first_place(text: &[u8], byte: u8) -> Option<usize>
     ensures { result ≡ position (λ b. b == byte) text.now }
 {
     text.iter().position(|b| *b == byte)
 }
 
-/// What stands before the first such byte, and what follows it.
+/// What stands before the first byte of a text that is this one, and what follows it.
 pub(crate) fn cut(text: &[u8], byte: u8) -> Option<(&[u8], &[u8])>
     ensures found { IfSome result (λ parts. text.now ≡ parts.0.now ++ byte ∷ parts.1.now) }
     ensures first { MatchOption result (Lacks byte text.now) (λ parts. Lacks byte parts.0.now) }

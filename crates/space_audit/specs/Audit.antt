@@ -31,7 +31,7 @@ pub record IsFragmentUse (file : List ℕ) (n : ℕ) : Type 0 where
   pub used : IsUsed file n
   pub fragment : is_fragment_extent file (n / 64) ≡ true
 
--- a slot is empty, or has such a page
+-- a slot is empty, or has a used page of a fragment extent, below the size
 abbrev pub IsSlot : List ℕ → ℕ → Type 0
 IsSlot file slot = slot ≢ fil_null → IsFragmentUse file slot
 
@@ -61,15 +61,15 @@ CountCheck file before place = Holds UseCounts place.page (HasNotFullCount file 
 abbrev pub IsUsedFragment : List ℕ → ℕ → Type 0
 IsUsedFragment file n = IsUsed file n × (is_fragment_extent file (n / 64) ≡ true)
 
--- the check that such a page is claimed once
+-- the check that a used page of a fragment extent is claimed once
 abbrev pub ClaimCheck : List ℕ → ℕ → Option Fault → Type 0
 ClaimCheck file n = Where (IsUsedFragment file n) (Holds PageOwner n (times_in (fragment_claims file) n ≡ 1))
 
--- those of all counts
+-- the checks of all counts
 abbrev pub CountChecks : List ℕ → Option Fault → Type 0
 CountChecks file = Then (Holds UseCounts 0 (HasFragmentCount file)) (EachOf (segments file) (CountCheck file))
 
--- all of these
+-- the checks of all slots, of all counts, and of the claims on fragment pages
 unfoldable pub UseChecks : List ℕ → Option Fault → Type 0
 UseChecks file =
     Then (EachOf (segments file) (SlotsCheck file))
@@ -87,7 +87,7 @@ IsKindFor n owners.InodePage kind = kind ≡ inode_kind
 IsKindFor n (owners.Used segment) kind = (kind ≡ allocated_kind) ⊎ (kind ≡ blob_kind) ⊎ (kind ≡ index_kind)
 IsKindFor n _ kind = ⊤
 
--- a page of a file has such a type
+-- a page of a file has a type that its owner may have
 abbrev pub HasAllowedKind : List ℕ → ℕ → Type 0
 HasAllowedKind file n = IsKindFor n (owner_of file n) (kind_of (page_of file n))
 
@@ -95,15 +95,15 @@ HasAllowedKind file n = IsKindFor n (owner_of file n) (kind_of (page_of file n))
 abbrev pub PageChecks : List ℕ → ℕ → Option Fault → Type 0
 PageChecks file n = Then (Holds Frame n (Framed file n)) (Holds PageKind n (HasAllowedKind file n))
 
--- they are made of a used page alone
+-- the checks of a page's frame and type, which are made of a used page alone
 abbrev pub FrameCheck : List ℕ → ℕ → Option Fault → Type 0
 FrameCheck file n = Where (IsUsed file n) (PageChecks file n)
 
--- of all of them
+-- the checks of the frames and types of all used pages
 abbrev pub FrameChecks : List ℕ → Option Fault → Type 0
 FrameChecks file = Each (limit_of file) (FrameCheck file)
 
--- all but the frames
+-- all checks of the audit but those of the frames
 unfoldable pub OwnerChecks : List ℕ → ℕ → Option Fault → Type 0
 OwnerChecks file flags =
     Then (HeadChecks file flags)
@@ -116,7 +116,8 @@ OwnerChecks file flags =
 abbrev pub AuditChecks : List ℕ → ℕ → Option Fault → Type 0
 AuditChecks file flags = Then (OwnerChecks file flags) (FrameChecks file)
 
--- those that come behind the head, by parts: behind the inodes, the ownership of all pages and the frames
+-- the checks of the audit that come behind the head, by parts: behind the inodes, the ownership of all pages and the
+-- frames
 abbrev pub OwnershipChecks : List ℕ → Option Fault → Type 0
 OwnershipChecks file = Then (ListChecks file) (UseChecks file)
 
@@ -133,7 +134,8 @@ SpaceChecks file =
 abbrev pub audit_steps : ℕ → ℕ
 audit_steps pages = pages + pages / 32 + pages / 16384 + 4
 
--- the most pages that it fetches where so many are used: these, page 0 once more, and the descriptor pages once more
+-- the most pages that the audit fetches if so many are used: these, page 0 once more, and the descriptor pages once
+-- more
 abbrev pub audit_fetches : ℕ → ℕ → ℕ
 audit_fetches pages used = used + 1 + (pages / 16384 + 1)
 

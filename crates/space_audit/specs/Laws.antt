@@ -22,7 +22,7 @@ ClaimsArePartition = (file : List ℕ) (flags : ℕ) → OwnerChecks file flags 
 abbrev pub UseClaims : List ℕ → Type 0
 UseClaims file = (n s : ℕ) → IsUsedBy file s n ↔ IsClaimedBy file s n
 
--- where the checks of ownership hold, so it is with every segment
+-- if the checks of ownership hold, each segment uses exactly the used pages that it claims
 abbrev pub OwnersAreClaims : Type 0
 OwnersAreClaims = (file : List ℕ) (flags : ℕ) → OwnerChecks file flags None → UseClaims file
 
@@ -43,6 +43,7 @@ pub record AreAllClaimed (file : List ℕ) : Type 0 where
   pub partition : IsPartition file
   pub uses : UseClaims file
 
--- so it is where those on fragment pages are right
+-- if the claims on fragment pages are right, all claims are a partition, and each segment uses exactly the used pages
+-- that it claims
 abbrev pub FragmentClaimsAreEnough : Type 0
 FragmentClaimsAreEnough = (file : List ℕ) → AreFragmentsClaimed file → AreAllClaimed file

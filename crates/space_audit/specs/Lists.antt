@@ -87,14 +87,14 @@ HomeListChecks nodes list =
     Then (Holds ExtentList list.holder ((linked : List ℕ) × IsList nodes list.base linked))
     (Holds ExtentHome list.holder (HoldsHome nodes list))
 
--- of three lists, and that they hold
+-- the checks of three lists, and that each of the lists has exactly the extents of its home
 abbrev pub ThreeChecks : List Node → HomeList → HomeList → HomeList → Option Fault → Type 0
 ThreeChecks nodes a b c = Then (HomeListChecks nodes a) (Then (HomeListChecks nodes b) (HomeListChecks nodes c))
 
 abbrev pub HoldThree : List Node → HomeList → HomeList → HomeList → Type 0
 HoldThree nodes a b c = HoldsHome nodes a × HoldsHome nodes b × HoldsHome nodes c
 
--- of a segment's lists, and of one extent
+-- the checks of a segment's lists, and of one extent
 abbrev pub SegmentListsCheck : List ℕ → List Address → Address → Option Fault → Type 0
 SegmentListsCheck file before place =
     ThreeChecks (extent_nodes file)
@@ -103,7 +103,7 @@ SegmentListsCheck file before place =
 abbrev pub HomeCheck : List ℕ → ℕ → Option Fault → Type 0
 HomeCheck file extent = Holds ExtentHome (descriptor_page extent) (HasHome file extent)
 
--- of all lists, and then of all extents
+-- the checks of all lists, and then of all extents
 unfoldable pub ListChecks : List ℕ → Option Fault → Type 0
 ListChecks file =
     Then (ThreeChecks (extent_nodes file) (free_list file) (free_frag_list file) (full_frag_list file))

@@ -69,7 +69,7 @@ pub record IsClaimedBy (file : List ℕ) (segment n : ℕ) : Type 0 where
   pub claimed : Contains (claim_of file place) n
   pub used : IsUsed file n
 
--- the number of its segment, if it has one, is that of a segment of some tablespace
+-- the number of the owner's segment, if it has one, is that of a segment of some tablespace
 abbrev pub IsSmall : Owner → Type 0
 IsSmall (Used segment) = segment ≤ 356515840
 IsSmall (Spare segment) = segment ≤ 356515840

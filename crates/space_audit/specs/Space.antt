@@ -12,7 +12,7 @@ use Rattle.space_audit.specs.declared.owner.Owner.{Owner}
 use Rattle.space_audit.specs.Owners.{owner_of, IsUsedBy}
 use Rattle.space_audit.specs.Audit.{AuditChecks}
 
--- its size in pages and its id, the owners and types of its pages, how many are used, and its segments
+-- a space: its size in pages and its id, the owners and types of its pages, how many are used, and its segments
 pub record SpaceView : Type 0 where
   pub size : ℕ
   pub id : ℕ
@@ -21,7 +21,7 @@ pub record SpaceView : Type 0 where
   pub used : ℕ
   pub segments : List Address
 
--- these are those of the file, whose audit found nothing; only a used page has a type
+-- what is known of a space is that of the file, whose audit found nothing; only a used page has a type
 pub record IsAuditOf (file : List ℕ) (space : SpaceView) : Type 0 where
   pub flags : ℕ
   pub sound : AuditChecks file flags None
@@ -52,7 +52,7 @@ is_address a b = (a.page == b.page) && (a.offset == b.offset)
 abbrev pub segment_with_address : List Address → Address → ℕ
 segment_with_address segments address = position_or_len (is_address address) segments
 
--- a search found it, or found that none has it
+-- a search found the segment with this address, or found that none has it
 abbrev pub FindsSegment : List Address → Address → Option ℕ → Type 0
 FindsSegment segments address None = segment_with_address segments address ≡ length segments
 FindsSegment segments address (Some segment) =

@@ -28,7 +28,7 @@ pub fn claims_are_partition()
     used_pages_are_of_extents();
 }
 
-/// And a segment uses exactly the used pages that it claims.
+/// Where the checks of ownership hold, a segment uses exactly the used pages that it claims.
 pub fn owners_are_claims()
     ensures { OwnersAreClaims }
 {

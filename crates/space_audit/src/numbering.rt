@@ -53,7 +53,7 @@ impl Numbering {
         Ok(())
     }
 
-    /// The place of the first such key, the number of all keys where there is none.
+    /// The place of the first key that is this one, the number of all keys if there is none.
     pub(crate) fn find(&self, key: u64) -> u32
         ensures place { result ≡ place_in self.now key }
         ensures most { result ≤ length self.now }

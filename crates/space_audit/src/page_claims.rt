@@ -26,7 +26,7 @@ pub(crate) const INODE_HOLDER: u32 = 0xFFFF_FFFF;
 /// No one has claimed the page.
 const NO_HOLDER: u32 = 0xFFFF_FFFD;
 
-/// Two have claimed it.
+/// Two or more have claimed the page.
 const MANY_HOLDERS: u32 = 0xFFFF_FFFC;
 
 /// The inode pages are claimed, and no other page.

@@ -12,9 +12,9 @@ use thiserror::Error;
 /// A tablespace that was built.
 #[derive(Clone, Copy, Debug, PartialEq, Eq)]
 pub struct Built {
-    /// The size in pages.
+    /// The size of the tablespace in pages.
     pub pages: u32,
-    /// How many rows it has.
+    /// How many rows the tablespace has.
     pub rows: u64,
 }
 

@@ -15,7 +15,7 @@ pub(crate) trait Entries {
     /// The entries.
     ghost entries: { Self → List Entry };
 
-    /// How many there are.
+    /// How many entries there are.
     fn count(&self) -> usize
         ensures { result ≡ length (entries self.now) };
 

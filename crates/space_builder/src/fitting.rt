@@ -65,7 +65,7 @@ fn local_length(format: Format, row: &RowFields, i: usize) -> usize
     }
 }
 
-/// How many bytes its length takes there.
+/// How many bytes the length of field `i` takes in the record.
 fn length_length(format: Format, field: &Field, row: &RowFields, i: usize) -> usize
     requires { i < length row.now }
     ensures value { result ≡ length_length format field.now (stored_at row.now i) }
@@ -139,7 +139,8 @@ fn goes_next(schema: &Schema, fields: &FieldList, row: &RowFields) -> Option<usi
     if most == 0 { None } else { Some(place) }
 }
 
-/// Lets fields go off the page while the record is too long. Answers whether it isn't in the end; else no field may go.
+/// Lets fields go off the page while the record is too long. Answers whether it isn't in the end; otherwise no field
+/// may go.
 pub(crate) fn fit_row(schema: &Schema, fields: &FieldList, row: &mut RowFields) -> bool
     requires list { fields.now ≡ leaf_fields schema.now 0 }
     requires each { length row.old ≡ length fields.now.fields }

@@ -20,9 +20,9 @@ pub(crate) const LONGEST_LINE: usize = 16_777_216;
 /// The next line of a text.
 #[derive(Clone, Copy, Debug, PartialEq, Eq)]
 pub(crate) struct NextLine {
-    /// How many bytes it has before its end, as far as they were read.
+    /// How many bytes the line has before its end, as far as they were read.
     pub(crate) size: usize,
-    /// Whether its LF is there. A line without one ends with the text, or is longer than a line may be.
+    /// Whether the LF of the line is there. A line without one ends with the text, or is longer than a line may be.
     pub(crate) feed: bool,
 }
 
@@ -72,7 +72,7 @@ fn read_behind<R: ByteSource>(text: &mut R, bytes: &mut Vec<u8>) -> Result<usize
 #[derive(Drop)]
 pub(crate) struct LineReader {
     bytes: Vec<u8>,
-    /// Where those that weren't taken begin.
+    /// Where the bytes that weren't taken begin.
     start: usize,
 }
 

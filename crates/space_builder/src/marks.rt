@@ -10,11 +10,11 @@ use page_source::NoMemory;
 /// ends.
 #[derive(Clone, Copy, Debug, PartialEq, Eq)]
 pub(crate) struct FieldSpot {
-    /// Whether it has no value.
+    /// Whether the field has no value.
     pub(crate) null: bool,
-    /// Whether its bytes go on off the page of the record.
+    /// Whether the field's bytes go on off the page of the record.
     pub(crate) off: bool,
-    /// The byte behind its last one.
+    /// The byte behind the field's last one.
     pub(crate) end: usize,
 }
 

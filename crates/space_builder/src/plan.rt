@@ -31,9 +31,9 @@ pub(crate) struct RowOrder {
 /// How many pages an index has.
 #[derive(Debug, Drop)]
 pub(crate) struct IndexPages {
-    /// The pages of each level of its tree, from the leaves up.
+    /// The pages of each level of the index's tree, from the leaves up.
     pub(crate) levels: Vec<u32>,
-    /// The pages of its segment of upper levels, and of the segment of its leaves.
+    /// The pages of the index's segment of upper levels, and of the segment of its leaves.
     pub(crate) top: u32,
     pub(crate) leaf: u32,
 }

@@ -107,7 +107,7 @@ impl RowFields {
         self.spot(i).null
     }
 
-    /// Whether its bytes go off the page.
+    /// Whether the bytes of field `i` go off the page.
     pub(crate) fn is_off(&self, i: usize) -> bool
         requires { i < length self.now }
         ensures { result ≡ (stored_at self.now i).off }

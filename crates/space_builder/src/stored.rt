@@ -42,7 +42,7 @@ impl RowSpan {
         })
     }
 
-    /// The place of its first byte.
+    /// The place of the row's first byte.
     fn start(self) -> usize
         ensures { result ≡ (span_of self).start }
     {
@@ -59,7 +59,7 @@ struct Lists {
     spans: Vec<RowSpan>,
 }
 
-/// Among the marks of so many rows before it those of a row are looked for.
+/// The marks of a row are looked for among those of so many rows before it.
 const RECENT: usize = 8;
 
 /// Where the marks of these fields stand, if one of the last rows has them.
@@ -147,7 +147,7 @@ impl Lists {
         self.marks_of(r)[i].spot()
     }
 
-    /// The bytes of row `r`, and those behind them.
+    /// The bytes of row `r`, and those of the rows behind it.
     fn bytes_of(&self, r: usize) -> &[u8]
         requires rows { AreRowsIn (arena_of self.now) }
         requires row { r < length self.now.spans.items }
@@ -156,7 +156,7 @@ impl Lists {
         &self.bytes[self.spans[r].start()..]
     }
 
-    /// Where field `i` of row `r` begins and ends among these.
+    /// Where field `i` of row `r` begins and ends among the bytes of the row.
     fn place(&self, r: usize, i: usize) -> (usize, usize)
         requires rows { AreRowsIn (arena_of self.now) }
         requires row { r < length self.now.spans.items }
@@ -248,7 +248,7 @@ impl StoredRows {
         self.spot(r, i).null
     }
 
-    /// Whether its bytes go on off the page of the record.
+    /// Whether the bytes of field `i` of row `r` go on off the page of the record.
     pub(crate) fn is_off(&self, r: usize, i: usize) -> bool
         requires row { r < length self.now }
         requires field { i < length (stored_in self.now r) }

@@ -14,9 +14,9 @@ use page_source::Page;
 pub(crate) struct TreeSpot {
     /// The number of the page.
     pub(crate) number: u32,
-    /// The page before it on its level.
+    /// The number of the page before this one on its level.
     pub(crate) prev: u32,
-    /// The page after it.
+    /// The number of the page after this one on its level.
     pub(crate) next: u32,
     /// The index of the tree, counted from 0.
     pub(crate) index: u16,

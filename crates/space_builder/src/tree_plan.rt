@@ -14,7 +14,7 @@ use page_source::FIL_NULL;
 pub(crate) struct TreePlan<'a> {
     /// The index of the tree, counted from 0.
     pub(crate) index: u16,
-    /// The fields of its leaf records and of its node pointers.
+    /// The fields of the index's leaf records and of its node pointers.
     pub(crate) leaf: &'a FieldList,
     pub(crate) node: &'a FieldList,
     /// How many pages each segment of the tablespace has.
@@ -41,7 +41,7 @@ impl<'a> TreePlan<'a> {
         tree_number(self.sizes, self.counts, usize::from(self.index), level, k)
     }
 
-    /// The number of the page before it on its level.
+    /// The number of the page before page `k` of a level.
     #[tactic(auto, using(crate::proofs::Spots::before_is))]
     fn number_before(&self, level: usize, k: u32) -> u32
         requires plan { IsPlan self.now }
@@ -55,7 +55,7 @@ impl<'a> TreePlan<'a> {
         }
     }
 
-    /// The number of the page after it.
+    /// The number of the page after page `k` of a level.
     #[tactic(auto, using(crate::proofs::Spots::after_is, crate::proofs::Spots::none_after))]
     fn number_after(&self, level: usize, k: u32) -> u32
         requires plan { IsPlan self.now }

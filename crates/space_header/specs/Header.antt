@@ -23,7 +23,7 @@ space_flags page = num page 54 4
 abbrev pub size_of : List ℕ → ℕ
 size_of file = stated_size (page_of file 0)
 
--- its free limit: pages from there on were never used
+-- the free limit of a file: pages from there on were never used
 abbrev pub limit_of : List ℕ → ℕ
 limit_of file = free_limit (page_of file 0)
 

@@ -21,7 +21,7 @@ pub record FitsAddress (address : Address) : Type 0 where
   pub page : address.page < 2 ^ 32
   pub offset : address.offset < 2 ^ 16
 
--- and those of a list base, of a list node and of the header
+-- the numbers of a list base, of a list node and of the header fit the bytes of their fields
 pub record FitsBase (base : Base) : Type 0 where
   pub length : base.length < 2 ^ 32
   pub first : FitsAddress base.first

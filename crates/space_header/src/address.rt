@@ -87,7 +87,7 @@ pub fn write_base(page: &mut Page, at: usize, base: &Base)
     put_base(page, at, base);
 }
 
-/// Does the same.
+/// Makes this the list base that begins at byte `at` of the page, as `write_base` does.
 pub(crate) fn put_base(page: &mut Page, at: usize, base: &Base)
     requires { at + 16 ≤ 16384 }
     ensures exact { page.new ≡ with_bytes page.old at (base_bytes base.now) }

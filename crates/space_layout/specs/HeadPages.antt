@@ -53,7 +53,7 @@ pub record IsSegmentBytes (page : List ℕ) (n : ℕ) : Type 0 where
   pub framed : IsFramed page n 1
   pub kind : (kind_of page ≡ index_kind) ⊎ (kind_of page ≡ blob_kind)
 
--- the map holds such a page at n
+-- the map holds page n, which is one of a segment of space 1
 abbrev pub HoldsSegmentPage : PageMap → ℕ → Type 0
 HoldsSegmentPage held n = (page : List ℕ) × (get held n ≡ Some page) × IsSegmentBytes page n
 

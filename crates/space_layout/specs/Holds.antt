@@ -35,7 +35,7 @@ pub record HoldsHeads (file sizes : List ℕ) (flags : ℕ) : Type 0 where
   pub has_inodes : (s : ℕ) → s < length sizes → inode_of file (inode_place s) ≡ inode sizes s
   pub unused : (k : ℕ) → length sizes ≤ k → k < 85 → is_used_place (page_of file 2) k ≡ false
 
--- the file holds these pages, and those of the segments
+-- the file holds pages 0 to 2, and the pages of the segments
 pub record HoldsSpace (file sizes : List ℕ) (flags : ℕ) : Type 0 where
   pub pages : page_count file ≡ space_pages sizes
   pub heads : HoldsHeads file sizes flags

@@ -14,12 +14,14 @@ use Rattle.space_layout.specs.HeadPages.{HoldsPages, header_page, bitmap_page, i
 abbrev pub ArePlain : ℕ → Type 0
 ArePlain flags = without_data_directory flags ≡ flags
 
--- a file that holds the pages of a built tablespace with such flags is a sound space
+-- a file that holds the pages of a built tablespace, whose flags are without the bit for DATA DIRECTORY, is a sound
+-- space
 abbrev pub HoldsSoundSpace : Type 0
 HoldsSoundSpace = (file sizes : List ℕ) (flags : ℕ) → IsShape sizes → ArePlain flags → HoldsSpace file sizes flags
     → IsSoundSpace file flags
 
--- the segments of such a file have the pages that they are to have, and no others
+-- the segments of a file that holds the pages of a built tablespace have the pages that they are to have, and no
+-- others
 abbrev pub HoldsItsSegments : Type 0
 HoldsItsSegments = (file sizes : List ℕ) (flags : ℕ) → IsShape sizes → HoldsSpace file sizes flags
     → HasSegments file sizes
@@ -38,7 +40,7 @@ FileHoldsSpace =
 abbrev pub IndexesHaveSizes : Type 0
 IndexesHaveSizes = (pairs : List (ℕ × ℕ)) → AreSizesOf pairs
 
--- whose sizes have a shape
+-- the sizes of the segments of indexes have a shape
 abbrev pub IndexesHaveShape : Type 0
 IndexesHaveShape = (pairs : List (ℕ × ℕ)) → AreIndexes pairs → IsShape (sizes_of pairs)
 
@@ -57,7 +59,7 @@ NumberedPagesAreHeld =
     (sizes : List ℕ) (flags : ℕ) (pages : List Numbered) → IsShape sizes → AreSegmentPages sizes pages
     → HoldsPages (numbered_map sizes flags pages) sizes flags
 
--- at each number of one of these pages the map has such a page
+-- the map has at number n the page that has this number in the list
 pub record IsFound (sizes : List ℕ) (flags : ℕ) (pages : List Numbered) (n : ℕ) : Type 0 where
   pub page : List ℕ
   pub held : get (numbered_map sizes flags pages) n ≡ Some page

@@ -22,11 +22,11 @@ pub record AreSegmentPages (sizes : List ℕ) (pages : List Numbered) : Type 0 w
   pub each : All (IsNumbered sizes) pages
   pub every : (s i n : ℕ) → IsPlace sizes s i n → Contains (map (λ (entry : Numbered). entry.0) pages) n
 
--- the first three pages, and these
+-- the first three pages of a tablespace, and behind them these pages
 abbrev pub numbered_pages : List ℕ → ℕ → List Numbered → List Numbered
 numbered_pages sizes flags pages =
     (0, header_page sizes flags) ∷ (1, bitmap_page) ∷ (2, inode_page sizes) ∷ pages
 
--- as a map
+-- the pages of a built tablespace as a map
 unfoldable pub numbered_map : List ℕ → ℕ → List Numbered → PageMap
 numbered_map sizes flags pages = from_entries (numbered_pages sizes flags pages)

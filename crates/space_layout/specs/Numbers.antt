@@ -1,5 +1,5 @@
--- Which number each page gets, by how many pages each segment has. Segment 2j is that of the upper levels of index j,
--- and its first page is the root; segment 2j+1 is that of the leaves.
+-- Which number each page gets, by how many pages each segment has. Segment 2j has the upper levels of index j, the
+-- root first; segment 2j+1 has its leaves.
 use Rattle.std.specs.Prelude.{◌≡◌, ℕ, ◌+◌, ◌-◌, ◌*◌, ◌/◌, ◌%◌, ◌<◌, ◌≤◌, min, ◌==◌, nat_lt, if◌then◌else◌, List, length}
 use Rattle.std.specs.Prelude.{[], ◌∷◌, take, sum_by, flat_map, slice_index, slice_get, All, Some}
 

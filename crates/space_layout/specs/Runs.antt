@@ -19,7 +19,7 @@ no_run = record { first = 0; count = 0 }
 abbrev pub null_address : Address
 null_address = record { page = fil_null; offset = 0 }
 
--- the base of such a list
+-- the base of a list of extents that follow one another
 unfoldable pub base_of : Run → Base
 base_of run =
     if run.count == 0 then record { length = 0; first = null_address; last = null_address }

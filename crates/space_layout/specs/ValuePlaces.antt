@@ -13,7 +13,7 @@ pages_before_row counts r = sum_by sum (take r counts)
 unfoldable pub pages_before_field : List ℕ → ℕ → ℕ
 pages_before_field row i = sum (take i row)
 
--- how many pages there are
+-- how many pages of long values there are
 abbrev pub value_page_count : List (List ℕ) → ℕ
 value_page_count counts = pages_before_row counts (length counts)
 
@@ -21,11 +21,11 @@ value_page_count counts = pages_before_row counts (length counts)
 abbrev pub value_place : List (List ℕ) → ℕ → ℕ → ℕ → ℕ
 value_place counts r i k = pages_before_row counts r + (pages_before_field (row_at counts r) i + k)
 
--- the page of that part, if the first index has so many leaves in their segment
+-- the page of part k of field i of row r, if the first index has so many leaves in their segment
 abbrev pub value_page_number : List ℕ → ℕ → List (List ℕ) → ℕ → ℕ → ℕ → ℕ
 value_page_number sizes leaves counts r i k = segment_page sizes 1 (leaves + value_place counts r i k)
 
--- there is such a part
+-- there is a part k of field i of row r
 pub record IsPart (counts : List (List ℕ)) (r i k : ℕ) : Type 0 where
   pub row : r < length counts
   pub field : i < length (row_at counts r)

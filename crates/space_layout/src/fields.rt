@@ -38,7 +38,7 @@ fn full_fragments(sizes: &[u32]) -> Run
     }
 }
 
-/// The last one, where some of its pages are free.
+/// The last fragment extent, if some of its pages are free.
 fn open_fragments(sizes: &[u32]) -> Run
     requires { IsShape sizes.now }
     ensures exact { result ≡ open_fragments sizes.now }

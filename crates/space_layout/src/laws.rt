@@ -31,7 +31,8 @@ pub fn holds_sound_space()
     laws_below();
 }
 
-/// The segments of such a file have the pages that they are to have, and no others.
+/// The segments of a file that holds the pages of a built tablespace have the pages that they are to have, and no
+/// others.
 pub fn holds_its_segments()
     ensures { HoldsItsSegments }
 {
@@ -43,7 +44,7 @@ pub fn numbers_differ()
     ensures { NumbersDiffer }
 {}
 
-/// The file of a map that holds these pages holds them.
+/// The file of a map that holds the pages of a built tablespace holds them.
 pub fn file_holds_space()
     ensures { FileHoldsSpace }
 {
@@ -70,7 +71,7 @@ pub fn numbered_pages_are_held()
     laws_below();
 }
 
-/// At each number of a page of the segments the map has such a page.
+/// At each number of a page of the segments the map has the page that has this number in the list.
 pub fn numbered_pages_are_found()
     ensures { NumberedPagesAreFound }
 {}

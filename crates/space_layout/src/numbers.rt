@@ -24,7 +24,7 @@ pub(crate) fn own_of(size: u32) -> u32
     if size < SLOTS { 0 } else { size - SLOTS }
 }
 
-/// How many extents these fill.
+/// How many extents the pages behind the fragment pages fill, in a segment of so many pages.
 pub(crate) fn extents_of(size: u32) -> u32
     ensures { result ≡ extents_of size }
 {

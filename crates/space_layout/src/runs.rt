@@ -6,7 +6,7 @@ ghost use Rattle.space_layout.specs.Runs.{null_address, base_of, node_of};
 use page_source::FIL_NULL;
 use space_header::{Address, Base, Node, descriptor_address};
 
-/// The first of these extents, and how many there are.
+/// Extents that follow one another: the number of the first, and how many there are.
 #[derive(Clone, Copy, Debug, PartialEq, Eq)]
 pub struct Run {
     pub first: u32,
@@ -22,7 +22,7 @@ pub(crate) const NULL: Address = Address {
     offset: 0,
 };
 
-/// The base of the list of these extents.
+/// The base of the list of the extents of a run.
 #[tactic(auto, unfolding(crate::specs::Runs::base_of))]
 pub(crate) fn base_of(run: Run) -> Base
     requires { run.first + run.count ≤ 256 }
@@ -43,7 +43,7 @@ pub(crate) fn base_of(run: Run) -> Base
     }
 }
 
-/// The node of one of them.
+/// The node of an extent of a run.
 #[tactic(auto, unfolding(crate::specs::Runs::node_of))]
 pub(crate) fn node_of(run: Run, e: u32) -> Node
     requires small { run.first + run.count ≤ 256 }

@@ -53,7 +53,7 @@ impl Buffer {
         })
     }
 
-    /// How many bytes it holds.
+    /// How many bytes the buffer holds.
     pub fn len(&self) -> usize
         ensures count { result ≡ length self.now.bytes }
         ensures full { 0 < self.now.refused → result ≡ 65536 }
@@ -61,14 +61,14 @@ impl Buffer {
         self.used
     }
 
-    /// The bytes that it holds.
+    /// The bytes that the buffer holds.
     pub fn bytes(&self) -> &[u8]
         ensures { result.now ≡ self.now.bytes }
     {
         &self.room[..self.used]
     }
 
-    /// Forgets all but the first bytes, and what it refused.
+    /// Forgets all but the first bytes that the buffer holds, and what it refused.
     pub fn truncate(&mut self, len: usize)
         ensures bytes { self.new.bytes ≡ take len self.old.bytes }
         ensures refused { self.new.refused ≡ 0 }
@@ -77,7 +77,7 @@ impl Buffer {
         self.refused = 0;
     }
 
-    /// Puts what it holds, and holds nothing then.
+    /// Puts what the buffer holds, and empties the buffer.
     pub fn flush<O: ByteSink>(&mut self, sink: &mut O) -> Result<(), Failed>
         ensures puts { Puts O.ByteSink sink.old sink.new self.old.bytes result }
         ensures empty { OnOk result (self.new.bytes ≡ []) }

@@ -49,7 +49,7 @@ impl Cell<'_> {
         &self.page.bytes()[self.place.from..self.place.until]
     }
 
-    /// Whether it may be written: it is null, its local bytes spell a value, or a longer one fits its type.
+    /// Whether the column may be written: it is null, its local bytes spell a value, or a longer one fits its type.
     #[inline]
     pub fn is_sound(&self) -> bool
         ensures { IsTrue result ↔ IsSound self.now }

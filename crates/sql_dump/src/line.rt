@@ -22,7 +22,7 @@ use std::sync::ledger::Ledger;
 /// A buffer with more bytes is put before the next line.
 const ENOUGH: usize = 32_768;
 
-/// Puts what the buffer holds, if that is enough.
+/// Writes out what the buffer holds, if that is more than 32,768 bytes.
 fn make_room<O: ByteSink>(buffer: &mut Buffer, sink: &mut O) -> Result<(), Failed>
     ensures sent { OnOk result (IsSent (O.written sink.old) (O.written sink.new) buffer.old.bytes buffer.new.bytes) }
     ensures cut { OnErr result (GrowsByPart (O.written sink.old) (O.written sink.new) buffer.old.bytes) }
@@ -66,6 +66,7 @@ fn keep_line<S: PageSource, L: Ledger>(
     let held = buffer.len();
     match put_row(source, buffer, row, room, steps) {
         Ok(()) => Ok(true),
+        // The sink is the buffer here, so `Sink` says that the line doesn't fit.
         Err(WriteStop::Sink) => {
             buffer.truncate(held);
             Ok(false)

@@ -36,9 +36,9 @@ pub struct ChainRoom {
 /// The local bytes of a value that goes on elsewhere.
 #[derive(Clone, Copy)]
 struct LocalBytes<'a> {
-    /// The bytes that begin the value.
+    /// The local bytes that begin the value.
     front: &'a [u8],
-    /// The reference after them.
+    /// The reference after the local bytes that begin the value.
     reference: Reference,
     /// How many bytes the whole value has.
     stated: u64,

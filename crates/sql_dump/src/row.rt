@@ -28,7 +28,7 @@ pub struct Row<'a> {
     /// The leaf, and its number.
     pub page: &'a Page,
     pub number: u32,
-    /// Where the fields lie on it.
+    /// Where the fields of the row lie on the leaf.
     pub places: &'a [Place],
 }
 

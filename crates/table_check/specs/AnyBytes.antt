@@ -19,11 +19,11 @@ takes_any_bytes (types.Blob n) = true
 takes_any_bytes types.Year = true
 takes_any_bytes _ = false
 
--- so it is with a field, where it is a column
+-- any bytes spell a value of a field, as many as a value of its type has, if the field is a column
 abbrev pub field_takes_any : FieldType → Bool
 field_takes_any (Column kind) = takes_any_bytes kind
 field_takes_any _ = true
 
--- and with all fields of a record
+-- any bytes spell values of all fields of a record
 abbrev pub TakeAnyBytes : Fields → Type 0
 TakeAnyBytes fields = All (λ (f : Field). field_takes_any f.kind ≡ true) fields.fields

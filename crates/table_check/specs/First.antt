@@ -38,11 +38,11 @@ is_segment_owner _ = false
 abbrev pub is_reached : List ℕ → TableDef → ℕ → Bool
 is_reached file table n = seen (is_in (all_tree_pages file table)) (all_chain_pages (clustered_tree file table)) n
 
--- a page that a segment uses, and that is neither
+-- a page that a segment uses, and that is neither of a tree nor of a chain
 unfoldable pub is_unreached : List ℕ → TableDef → ℕ → Bool
 is_unreached file table n = is_segment_owner (owner_of file n) && not (is_reached file table n)
 
--- it is freed, or holds an old version, in the leaf segment of some index
+-- the page is freed, or holds an old version, in the leaf segment of some index
 pub record IsLeftOver (file : List ℕ) (table : TableDef) (n : ℕ) : Type 0 where
   pub kind : (kind_of (page_of file n) ≡ allocated_kind) ⊎ (kind_of (page_of file n) ≡ blob_kind)
   pub segment : ℕ
@@ -54,7 +54,7 @@ abbrev pub UnreachedCheck : List ℕ → TableDef → ℕ → Option Fault → T
 UnreachedCheck file table n =
     Where (is_unreached file table n ≡ true) (Holds UnreachedKind n (IsLeftOver file table n))
 
--- of all of them
+-- the checks of all pages that nothing reaches
 abbrev pub UnreachedChecks : List ℕ → TableDef → Option Fault → Type 0
 UnreachedChecks file table = Each (size_of file) (UnreachedCheck file table)
 
@@ -90,7 +90,7 @@ pub record HasCounts (found : Table) : Type 0 where
   pub rows : found.checked.rows ≡ found.clustered.live
   pub deleted : found.checked.deleted ≡ found.clustered.deleted
 
--- and what a dump needs besides
+-- the numbers of a checked file, and what a dump needs besides
 pub record IsCheckedTable (file : List ℕ) (table : TableDef) (found : Table) : Type 0 where
   pub is_checked : IsChecked file table found.checked
   pub has_space : found.space ≡ space_of (page_of file 0)
@@ -111,7 +111,7 @@ pub record TakesSteps {S : Type 0} (g : FileOf S) (source : S) (most : ℕ → �
   pub told : OfFile g source (λ file. spent ≤ steps + most (page_count file))
   pub always : spent ≤ steps + most 4194304
 
--- such a call asked the file for no more pages than it may take steps
+-- a call that may take so many steps asked the file for no more pages than that
 abbrev pub AsksAtMost : {S : Type 0} → FileOf S → S → S → (ℕ → ℕ) → Type 0
 AsksAtMost g old new most = TakesSteps g old most (g.fetches old) (g.fetches new)
 
@@ -121,7 +121,8 @@ pub record LeavesSteps (steps spent : ℕ) (table : Table) : Type 0 where
   pub checked : spent ≤ steps + check_steps table.checked.pages
   pub rows : spent + table.clustered.leaves + table.chain_pages ≤ steps + dump_steps table.checked.pages
 
--- the same of all trees: their leaves can be read once more, those of the clustered one among them
+-- a table was checked in as many steps as its pages let, and leaves enough of them to read the leaves of all trees
+-- once more, those of the clustered one among them
 pub record LeavesAllSteps (steps spent : ℕ) (whole : Whole) : Type 0 where
   pub pages : whole.table.checked.pages ≤ 4194304
   pub checked : spent ≤ steps + check_steps whole.table.checked.pages

@@ -21,7 +21,7 @@ abbrev pub FirstHasOneAnswer : Type 0
 FirstHasOneAnswer =
     (file : List ℕ) (table : TableDef) (a b : Option Fault) → First file table a → First file table b → a ≡ b
 
--- and there is one for each
+-- there is a first broken check, or none, for each file and table
 abbrev pub FirstHasAnAnswer : Type 0
 FirstHasAnAnswer = (file : List ℕ) (table : TableDef) → (answer : Option Fault) × First file table answer
 
@@ -29,7 +29,8 @@ FirstHasAnAnswer = (file : List ℕ) (table : TableDef) → (answer : Option Fau
 abbrev pub TreeChecksAreTrees : Type 0
 TreeChecksAreTrees = (file : List ℕ) (table : TableDef) → TableTreeChecks file table None ↔ HasTrees file table
 
--- and where these and the space are, the checks of values and of other pages exactly where those are sound
+-- if the space and the trees are sound, the checks of values and of other pages find nothing exactly where those are
+-- sound
 abbrev pub ValueChecksAreValues : Type 0
 ValueChecksAreValues =
     (file : List ℕ) (table : TableDef) → IsSoundSpace file (flags_of table.format) → HasTrees file table
@@ -51,13 +52,13 @@ RowsRise =
     (file : List ℕ) (table : TableDef) → IsValid file table → (j : ℕ) → j < index_count table
     → Rises (index_in file table j) (tree_rows (index_in file table j))
 
--- and so do those without the delete mark
+-- in a sound file the rows of each index without the delete mark rise strictly by their key
 abbrev pub LiveRowsRise : Type 0
 LiveRowsRise =
     (file : List ℕ) (table : TableDef) → IsValid file table → (j : ℕ) → j < index_count table
     → Rises (index_in file table j) (live_rows (index_in file table j))
 
--- and each used page has one owner: it stands in one claim, once
+-- in a sound file each used page has one owner: it stands in one claim, once
 abbrev pub UsedPagesHaveOneOwner : Type 0
 UsedPagesHaveOneOwner =
     (file : List ℕ) (table : TableDef) → IsValid file table → (n : ℕ) → n < size_of file → IsUsed file n

@@ -23,14 +23,14 @@ ValueChecksOn file leaf kind place =
 abbrev pub pages_of_value_on : List ℕ → RowLeaf → Place → List ℕ
 pages_of_value_on file leaf place = pages_of_value file (bytes_at leaf.page.now place) place.external
 
--- those of the field at this place
+-- the checks of the field at this place
 abbrev pub FieldChecksOn : List ℕ → RowLeaf → FieldType → Place → (ℕ → Bool) → Option Fault → Type 0
 FieldChecksOn file leaf kind place = FieldChecksBy file (place_on file leaf) leaf.number kind leaf.page.now place
 
 abbrev pub pages_of_field_on : List ℕ → RowLeaf → FieldType → Place → List ℕ
 pages_of_field_on file leaf kind place = pages_of_field file kind leaf.page.now place
 
--- those of the row at this origin
+-- the checks of the row at this origin
 abbrev pub RowChecksOn : List ℕ → RowLeaf → ℕ → (ℕ → Bool) → Option Fault → Type 0
 RowChecksOn file leaf origin =
     RecordChecksBy file (place_on file leaf) leaf.number leaf.page.now origin leaf.fields.now
@@ -38,7 +38,7 @@ RowChecksOn file leaf origin =
 abbrev pub pages_of_row_on : List ℕ → RowLeaf → ℕ → List ℕ
 pages_of_row_on file leaf origin = pages_of_record file leaf.page.now origin leaf.fields.now
 
--- and those of the record at this origin of a leaf in an audited space
+-- the checks of the record at this origin of a leaf in an audited space
 abbrev pub RecordChecksOn : List ℕ → Leaf → ℕ → (ℕ → Bool) → Option Fault → Type 0
 RecordChecksOn file leaf origin =
     RecordChecks file leaf.leaves.segment leaf.number leaf.page.now origin leaf.leaves.fields.now

@@ -64,7 +64,7 @@ AreMiscounted rows =
     ((rows.ended ≡ false) × ((rows.live ≡ 0) ⊎ (rows.deleted ≡ 0)))
     ⊎ ((rows.ended ≡ true) × ((0 < rows.live) ⊎ (0 < rows.deleted)))
 
--- it breaks off where the walk along the leaves does, or where the rows aren't as many as were counted
+-- the giving of rows breaks off where the walk along the leaves does, or where the rows aren't as many as were counted
 abbrev pub CutsOff : LiveView → Fault → Type 0
 CutsOff rows fault =
     BreaksOff rows.leaf fault

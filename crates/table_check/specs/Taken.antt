@@ -63,12 +63,14 @@ pub record AreTrees (file : List ℕ) (table : TableDef) (trees : Trees) : Type 
 abbrev pub IsReached : List ℕ → TableDef → List Bool → Type 0
 IsReached file table marks = (n : ℕ) → is_set marks n ≡ is_reached file table n
 
--- so many leaves are among the pages that were marked since, and were left over of two steps for each of these
+-- so many leaves are among the pages that were marked since, and so many steps were left over of two for each of these
+-- pages
 pub record LeavesRoom (leaves : ℕ) (before after : List Bool) (steps spent : ℕ) : Type 0 where
   pub fewer : leaves + unmarked after ≤ unmarked before
   pub cost : spent + 2 * unmarked after + leaves ≤ steps + 2 * unmarked before
 
--- the same where none of so many pages was marked before
+-- so many leaves are among the marked ones of so many pages, none of which was marked before, and so many steps were
+-- left over of two for each marked page
 pub record LeavesSome (leaves : ℕ) (after : List Bool) (size steps spent : ℕ) : Type 0 where
   pub fewer : leaves + unmarked after ≤ size
   pub cost : spent + 2 * unmarked after + leaves ≤ steps + 2 * size

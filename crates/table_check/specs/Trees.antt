@@ -46,7 +46,7 @@ abbrev pub IndexCheck : List ℕ → TableDef → ℕ → Option Fault → Type 
 IndexCheck file table j =
     TreeChecks (index_in file table j) (is_in (pages_of_trees file table j)) (is_in (segments_of_trees file table j))
 
--- of all trees, in the order of the indexes
+-- the checks of all trees, in the order of the indexes
 abbrev pub AllTreeChecks : List ℕ → TableDef → Option Fault → Type 0
 AllTreeChecks file table = Each (index_count table) (IndexCheck file table)
 

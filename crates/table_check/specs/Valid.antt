@@ -62,7 +62,7 @@ abbrev pub IsSoundField : List ℕ → ℕ → FieldType → List ℕ → Place 
 IsSoundField file segment (Column kind) page place = IsSoundValue file segment kind page place
 IsSoundField file segment _ page place = ⊤
 
--- so is each field of a row
+-- each field of a row is a sound value of a column, or one of the server's own
 abbrev pub IsSoundRow : Index → Row → Type 0
 IsSoundRow index row = (i : ℕ) → i < field_count index.leaf
     → IsSoundField index.file (leaf_segment index) (field_at index.leaf i).kind (page_in index row.page)

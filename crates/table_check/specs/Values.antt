@@ -33,7 +33,7 @@ front_of local = take (length local - 20) local
 abbrev pub FitsKind : ColumnType → List ℕ → Type 0
 FitsKind kind local = length local - 20 + (reference_of local).length ≤ greatest_length kind
 
--- with these bytes behind the local ones it is a text, where the type is one of utf8mb4
+-- the local bytes of a value with these bytes behind them are a text, if its type is one of utf8mb4
 abbrev pub IsTextBehind : ColumnType → List ℕ → List ℕ → Type 0
 IsTextBehind kind local bytes = IsTextOfKind kind (front_of local ++ bytes)
 
@@ -48,7 +48,7 @@ ValueChecksBy file Ask leaf kind local true taken =
 abbrev pub pages_of_value : List ℕ → List ℕ → Bool → List ℕ
 pages_of_value file local external = if external then chain_pages file (reference_of local) else []
 
--- the same of a field by its place: one that is no column, or null, has no check and no pages
+-- the checks and the pages of a field by its place: a field that is no column, or null, has none
 abbrev pub FieldChecksBy : List ℕ → PlaceChecks → ℕ → FieldType → List ℕ → Place → (ℕ → Bool) → Option Fault → Type 0
 FieldChecksBy file Ask leaf (Column kind) page place taken =
     Where (place.null ≡ false) (ValueChecksBy file Ask leaf kind (bytes_at page place) place.external taken)
@@ -74,12 +74,12 @@ FieldCheckBy file Ask leaf page origin fields taken i =
     FieldChecksBy file Ask leaf (field_at fields i).kind page (place_of page origin fields i)
     (seen taken (pages_of_part file page origin fields i))
 
--- of all its fields
+-- the checks of all fields of a record
 unfoldable pub RecordChecksBy : List ℕ → PlaceChecks → ℕ → List ℕ → ℕ → Fields → (ℕ → Bool) → Option Fault → Type 0
 RecordChecksBy file Ask leaf page origin fields taken =
     Each (field_count fields) (FieldCheckBy file Ask leaf page origin fields taken)
 
--- those of a value, of a field and of a record in an audited space, where this segment has the leaves
+-- the checks of a value, of a field and of a record in an audited space, where this segment has the leaves
 abbrev pub ValueChecks : List ℕ → ℕ → ℕ → ColumnType → List ℕ → Bool → (ℕ → Bool) → Option Fault → Type 0
 ValueChecks file segment = ValueChecksBy file (AuditedPlace file segment)
 
@@ -112,6 +112,6 @@ RowCheck index taken before row =
     RecordChecks index.file (leaf_segment index) row.page (page_in index row.page) row.origin index.leaf
     (seen taken (pages_of_rows index before))
 
--- of all rows without the delete mark
+-- the checks of all rows without the delete mark
 abbrev pub RowChecks : Index → (ℕ → Bool) → Option Fault → Type 0
 RowChecks index taken = EachOf (live_rows index) (RowCheck index taken)

@@ -33,7 +33,7 @@ fn field_takes_any(kind: FieldType) -> bool
     }
 }
 
-/// Whether this holds of each column among the fields.
+/// Whether any bytes spell a value of each column among the fields.
 fn take_any_bytes(fields: &FieldList) -> bool
     ensures { IsTrue result → TakeAnyBytes fields.now }
 {
@@ -43,8 +43,8 @@ fn take_any_bytes(fields: &FieldList) -> bool
         .all(|field| field_takes_any(field.kind))
 }
 
-/// Whether no value can be wrong of the rows of a tree with these ends: all lie whole on their leaves, in no more bytes
-/// than their types take, and any such bytes spell a value.
+/// Whether the values of a tree's rows need no look: all lie whole on their leaves, in no more bytes than their types
+/// take, and any such bytes spell a value.
 pub(crate) fn need_no_look(ends: &TreeEnds, fields: &FieldList) -> bool
     ensures { IsTrue result → (lies_whole ends.now ≡ true) × TakeAnyBytes fields.now }
 {

@@ -43,7 +43,8 @@ pub fn check<S: PageSource, L: Ledger>(
     Ok(check_table(alloc, source, schema, steps)?.checked)
 }
 
-/// The same, with what reading the rows of the table needs besides. Each error comes as with `check`.
+/// Checks a tablespace as `check` does, and answers also what reading its rows needs: where the rows of the clustered
+/// tree begin, and how many pages their values go on in.
 pub fn check_table<S: PageSource, L: Ledger>(
     alloc: Global,
     source: &mut S,
@@ -61,7 +62,8 @@ pub fn check_table<S: PageSource, L: Ledger>(
     Ok(check_whole(alloc, source, schema, steps)?.table)
 }
 
-/// The same, with what reading the rows of all indexes needs. Each error comes as with `check`.
+/// Checks a tablespace as `check` does, and answers also what reading the rows of all indexes needs: the ends of each
+/// tree.
 pub fn check_whole<S: PageSource, L: Ledger>(
     alloc: Global,
     source: &mut S,

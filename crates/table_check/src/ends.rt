@@ -40,7 +40,7 @@ impl EndsList {
         Ok(())
     }
 
-    /// All of them.
+    /// The ends of all trees.
     pub fn items(&self) -> &[TreeEnds]
         ensures { result.now ≡ self.now }
     {

@@ -16,7 +16,7 @@ pub fn first_has_one_answer()
     ensures { FirstHasOneAnswer }
 {}
 
-/// And there is one for each file and schema.
+/// The checks of each file against each schema have an answer: the first broken one, or none.
 pub fn first_has_an_answer()
     ensures { FirstHasAnAnswer }
 {}
@@ -31,8 +31,8 @@ pub fn tree_checks_are_trees()
     levels_have_the_pages();
 }
 
-/// Where these and the space are sound, the checks of values and of unreached pages find nothing exactly where each
-/// value is whole, no page is in two of them or in a tree, and all other pages of segments are left-overs.
+/// Where the trees and the space are sound, the checks of values and of unreached pages find nothing exactly where
+/// each value is whole, no page is in two of them or in a tree, and all other pages of segments are left-overs.
 pub fn value_checks_are_values()
     ensures { ValueChecksAreValues }
 {
@@ -67,7 +67,7 @@ pub fn rows_rise()
     keys_rise_over_leaves();
 }
 
-/// And so do those without the delete mark.
+/// In a sound file the rows of each index without the delete mark rise strictly by their key.
 pub fn live_rows_rise()
     ensures { LiveRowsRise }
 {
@@ -75,7 +75,7 @@ pub fn live_rows_rise()
     rows_by_leaves();
 }
 
-/// And each used page below the stated size has one owner.
+/// In a sound file each used page below the stated size has one owner.
 pub fn used_pages_have_one_owner()
     ensures { UsedPagesHaveOneOwner }
 {}

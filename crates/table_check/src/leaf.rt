@@ -8,19 +8,19 @@ use space_audit::Space;
 /// What the leaves of the clustered tree have in common.
 #[derive(Clone, Copy)]
 pub(crate) struct Leaves<'a> {
-    /// The checked space that they are in.
+    /// The checked space that the leaves are in.
     pub(crate) space: &'a Space,
-    /// The segment that uses them.
+    /// The segment that uses the leaves.
     pub(crate) segment: u32,
-    /// The fields of their records.
+    /// The fields of the leaves' records.
     pub(crate) fields: &'a FieldList,
 }
 
-/// One of these leaves.
+/// A leaf of the clustered tree.
 #[derive(Clone, Copy)]
 pub(crate) struct Leaf<'a> {
     pub(crate) leaves: Leaves<'a>,
-    /// The number of its page.
+    /// The number of the leaf's page.
     pub(crate) number: u32,
     pub(crate) page: &'a Page,
 }
@@ -28,11 +28,11 @@ pub(crate) struct Leaf<'a> {
 /// A leaf of the clustered tree, in an audited space or in another.
 #[derive(Clone, Copy)]
 pub struct RowLeaf<'a> {
-    /// The pages that the values of its rows may go on in.
+    /// The pages that the values of the leaf's rows may go on in.
     pub pages: ChainPages<'a>,
-    /// The fields of its records.
+    /// The fields of the leaf's records.
     pub fields: &'a FieldList,
-    /// The number of its page.
+    /// The number of the leaf's page.
     pub number: u32,
     pub page: &'a Page,
 }

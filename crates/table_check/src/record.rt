@@ -86,7 +86,7 @@ pub fn check_row_values<S: PageSource, L: Ledger>(
     Ok(count)
 }
 
-/// The same of a record of a leaf in an audited space.
+/// Checks the values of a record of a leaf in an audited space, as `check_row_values` does.
 pub(crate) fn check_record<S: PageSource, L: Ledger>(
     source: &mut S,
     leaf: &Leaf,

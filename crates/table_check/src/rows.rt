@@ -104,7 +104,7 @@ impl LiveRows {
         self.cursor.page()
     }
 
-    /// Its number; before the first row that of the leftmost leaf.
+    /// The number of the leaf in hand; before the first row that of the leftmost leaf.
     pub fn number(&self) -> u32
         ensures { result ≡ self.now.leaf.number }
     {

@@ -8,7 +8,7 @@ use tree_walk::TreeEnds;
 pub struct Checked {
     /// The size that page 0 states, in pages.
     pub pages: u32,
-    /// How many pages below it are used.
+    /// How many pages below the stated size are used.
     pub used: u32,
     /// How many records of the clustered leaves have no delete mark.
     pub rows: u64,
@@ -31,10 +31,10 @@ pub struct Table {
     pub chain_pages: u32,
 }
 
-/// The same with the ends of all its trees, by which their rows can be read.
+/// A checked table with the ends of all its trees, by which their rows can be read.
 #[derive(Debug, Drop)]
 pub struct Whole {
     pub table: Table,
-    /// Those of each index, in the order of the schema.
+    /// The ends of the tree of each index, in the order of the schema.
     pub ends: EndsList,
 }

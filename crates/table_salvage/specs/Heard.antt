@@ -6,17 +6,17 @@ use Rattle.page_source.specs.Objects.{GrowsBy, GrowsByPart}
 use Rattle.schema_text.specs.TableDef.{TableDef}
 use Rattle.salvage_model.specs.Salvage.{Written, Told, heeded, unheeded}
 
--- all of it, or a prefix if it failed
+-- the report got all of a text, or a prefix if it failed
 abbrev pub HasGot : Bool → Option (List ℕ) → Option (List ℕ) → List ℕ → Type 0
 HasGot false old new text = GrowsBy old new text
 HasGot true old new text = GrowsByPart old new text
 
--- the same of a text that comes next: none of it if the report had failed before
+-- what the report got of a text that comes next: none of it if the report had failed before
 abbrev pub GetsNext : Bool → Bool → Option (List ℕ) → Option (List ℕ) → List ℕ → Type 0
 GetsNext true failed old new text = (failed ≡ true) × (new ≡ old)
 GetsNext false failed old new text = HasGot failed old new text
 
--- it fails only if its count of faults rises
+-- the report fails only if its count of faults rises
 abbrev pub FailsRising : Bool → Bool → ℕ → ℕ → Type 0
 FailsRising before failed faults faults_now = before ≡ false → failed ≡ true → Rose faults faults_now
 

@@ -13,9 +13,8 @@ use Rattle.table_salvage.specs.declared.search.Search.{Search}
 use Rattle.table_salvage.specs.declared.room.Room.{Room}
 use Rattle.table_salvage.specs.declared.records.FoundRecord.{FoundRecord}
 
--- the room is for the table that is looked for, with a mark for each page that is looked at, and the fields are
--- those of
--- its leaf records
+-- the room is for the table that is looked for, with a mark for each page that is looked at, and the fields are those
+-- of its leaf records
 pub record IsReady {S : Type 0} (g : FileOf S) (source : S) (search : Search) (room : Room) : Type 0 where
   pub look : CanLook g source search.pages room.marks
   pub table : room.reader.table ≡ search.schema.now

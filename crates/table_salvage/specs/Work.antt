@@ -36,7 +36,7 @@ pub record Work : Type 0 where
   pub kind : RecordKind
   pub id : ℕ
 
--- it, with these pages missed as pages and as parts of values
+-- the job of a salvage, with these pages missed as pages and as parts of values
 abbrev pub job_with : Work → (ℕ → Bool) → (ℕ → Bool) → Job
 job_with work missed missed_parts = record {
   file = work.file;
@@ -47,18 +47,17 @@ job_with work missed missed_parts = record {
   missed_parts = missed_parts;
 }
 
--- with just these
+-- the job of a salvage, with just these pages missed
 abbrev pub job_missing : Work → Missed → Job
 job_missing work missed = job_with work (is_in missed.pages) (is_in missed.parts)
 
--- how it began: what both outputs told, and how many faults the source had counted
+-- how a salvage began: what both outputs told, and how many faults the source had counted
 pub record Start : Type 0 where
   pub written : Written
   pub faults : ℕ
 
--- how far it has come: what the descriptor pages tell, the pages that were looked at as parts of values, the
--- numbers, what
--- the buffer holds back, both outputs, whether the report failed, and the faults of the source
+-- how far a salvage has come: what the descriptor pages tell, the pages that were looked at as parts of values, the
+-- numbers, what the buffer holds back, both outputs, whether the report failed, and the faults of the source
 pub record Progress : Type 0 where
   pub known : Known
   pub marks : List Bool
@@ -73,8 +72,8 @@ pub record MayBe (missed : Missed) (n : ℕ) (marks : List Bool) (job : Job) : T
   pub pages : (k : ℕ) → k < n → job.missed k ≡ is_in missed.pages k
   pub parts : (k : ℕ) → is_set marks k ≡ true → job.missed_parts k ≡ is_in missed.parts k
 
--- a fact of each such job, where the pages below n and the marked ones were met. The source counted a fault for each
--- page that was missed
+-- a fact of each job that may miss these pages, where the pages below n and the marked ones were met. The source
+-- counted a fault for each page that was missed
 pub record Met (work : Work) (start : Start) (n : ℕ) (now : Progress) (Fact : Job → Type 0) : Type 0 where
   pub later : start.faults ≤ now.faults
   pub missed : Missed
@@ -109,7 +108,7 @@ abbrev pub places_before : RecordKind → List ℕ → ℕ → List ℕ
 places_before kind page place =
     filter (is_place_of kind page) (range_with_len (first_place kind page) (place - first_place kind page))
 
--- so are, on leaf n, the records before this place
+-- the pages below n are done, and on leaf n the records before this place
 pub record AtRow (start : Start) (n place : ℕ) (now : Progress) (job : Job) : Type 0 where
   pub knows : Knows job.file job.missed (n + 1) now.known
   pub is_leaf : Is job n verdicts.Leaf
@@ -139,7 +138,8 @@ pub record Broke (work : Work) (start : Start) (now : Progress) : Type 0 where
   pub text : GrowsByPart start.written.sink now.written.sink (text_of work.table outcomes)
   pub report : HasGot now.unheard start.written.losses now.written.losses (losses_of work.table outcomes)
 
--- the same up to a row for whose line other pages are read a second time
+-- a prefix was written of what some first pages give, up to a row for whose line other pages are read a second time;
+-- what was lost of these pages was reported
 pub record BrokeInRow (work : Work) (start : Start) (now : Progress) : Type 0 where
   pub broke : Broke work start now
   pub ends : EndsInLongRow (job_missing work broke.missed) broke.outcomes

@@ -18,8 +18,8 @@ use row_salvage::{check_columns, put_saved_row};
 use salvage_model::SalvageStop;
 use std::sync::ledger::Ledger;
 
-/// Saves a record of the page in hand that is of the kind: what is lost of it is reported, and then its line is put.
-/// Its values are read a second time then.
+/// Saves a record of the page in hand that is of the kind: what is lost of it is reported, and then its line is put,
+/// for which its values are read a second time.
 fn save_row<S: PageSource, O: ByteSink, E: ByteSink, L: Ledger>(
     room: &mut Room,
     search: &Search,

@@ -50,7 +50,7 @@ one_more cutting weight =
       first = weight.pointer;
     }
 
--- all of them
+-- many more records, one after another
 abbrev pub cut_more : Cutting → List Weight → Cutting
 cut_more cutting [] = cutting
 cut_more cutting (weight ∷ weights) = cut_more (one_more cutting weight) weights
@@ -69,7 +69,7 @@ counts_from zero pages = length pages ∷ []
 counts_from (suc most) pages =
     if nat_le (length pages) 1 then length pages ∷ [] else length pages ∷ counts_from most (level_above pages)
 
--- so it is with the leaves of these entries
+-- the leaves of these entries, each by the size of the pointer to it
 unfoldable pub cut_leaves : Fields → Fields → List Entry → List ℕ
 cut_leaves leaf node entries = pages_of (cut_more nothing_cut (map (weight_of leaf node) entries))
 

@@ -22,7 +22,8 @@ use Rattle.tree_layout.specs.Built.{IsBuiltPage}
 unfoldable pub counts_for : Index → List Entry → List ℕ
 counts_for index entries = level_counts (tree_levels index.leaf index.node (λ l k. 0) entries)
 
--- their numbers, where `page s i` is that of page i of segment s, and the levels with these numbers
+-- the numbers of the pages of a tree, where `page s i` is that of page i of segment s, and the levels with these
+-- numbers
 unfoldable pub numbers_for : Index → (ℕ → ℕ → ℕ) → ℕ → List Entry → ℕ → ℕ → ℕ
 numbers_for index page j entries l k = tree_number page (counts_for index entries) j l k
 
@@ -39,7 +40,7 @@ pub record NamesPlaces (index : Index) (count : ℕ) (place : ℕ → Address) (
   pub leaf_space : num (page_in index index.root) 74 4 ≡ space_of (page_of index.file 0)
   pub top_space : num (page_in index index.root) 84 4 ≡ space_of (page_of index.file 0)
 
--- so these are the segments of the index
+-- segments 2j and 2j + 1 are those of the index
 pub record NamesTwoSegments (index : Index) (j : ℕ) : Type 0 where
   pub names : NamesSegments index
   pub top : top_segment index ≡ 2 * j

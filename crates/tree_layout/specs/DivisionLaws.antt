@@ -20,7 +20,7 @@ pub record AreTheLevels (leaf node : Fields) (numbers : ℕ → ℕ → ℕ) (en
   pub rise : EachPage levels (λ l k. EntriesAscend (if l == 0 then leaf else node) (page_entries levels l k))
   pub empty : EachPage levels (λ l k. length (page_entries levels l k) ≡ 0 → (l ≡ 0) × (length levels ≡ 1))
 
--- so are those into which they are divided
+-- the levels into which entries are divided are those of a tree
 abbrev pub DivisionGivesLevels : Type 0
 DivisionGivesLevels =
     (leaf node : Fields) (numbers : ℕ → ℕ → ℕ) (entries : List Entry) → CanDivide leaf node entries
@@ -32,7 +32,7 @@ CountsAreOfSizes =
     (leaf node : Fields) (numbers others : ℕ → ℕ → ℕ) (entries like : List Entry) → AllZip AreAlike entries like
     → level_counts (tree_levels leaf node numbers entries) ≡ level_counts (tree_levels leaf node others like)
 
--- so it is with one list of entries and other numbers of pages
+-- how many pages each level of one list of entries has doesn't depend on the numbers of pages
 abbrev pub CountsNeedNoNumbers : Type 0
 CountsNeedNoNumbers =
     (leaf node : Fields) (numbers others : ℕ → ℕ → ℕ) (entries : List Entry)

@@ -39,8 +39,8 @@ HaveOneDivision =
     (fields : Fields) (entries : List Entry) (pages others : Level)
     → IsDivision fields entries pages → IsDivision fields entries others → pages ≡ others
 
--- levels of a tree of these leaf entries: the leaves divide them, each level above divides the pointers to the pages
--- of the one below, and a level of one page is the root, above which there is none
+-- levels of a tree of these leaf entries: the leaves divide the entries, each level above divides the pointers to the
+-- pages below, and a level of one page is the root, above which there is none
 pub record IsDividedTree (leaf node : Fields) (numbers : ℕ → ℕ → ℕ) (entries : List Entry) (levels : List Level)
     : Type 0 where
   pub some : 0 < length levels

@@ -38,7 +38,7 @@ pub record TakesItsPlaces (index : Index) (page : ℕ → ℕ → ℕ) (counts :
   pub only : (n : ℕ) → 1 ≤ times_in (pages_by_descent index) n
       → (s : ℕ) × (i : ℕ) × IsTreePlace counts j s i × (n ≡ page s i)
 
--- so it is with a divided tree
+-- the pages of a divided tree that a file holds are those of its places in the segments, each once
 abbrev pub TreesTakePlaces : Type 0
 TreesTakePlaces =
     (index : Index) (page : ℕ → ℕ → ℕ) (size : ℕ → ℕ) (j : ℕ) (entries : List Entry) → HaveOneNumber page size
@@ -58,7 +58,7 @@ pub record HaveTheirRows (index : ℕ → Index) (count : ℕ) (page : ℕ → �
       (λ j. levels_for (index j) page j (entries j))
   pub rows : (j : ℕ) → j < count → HasItsRows (index j) page j (entries j)
 
--- so are those into which the entries are divided, where a file holds them
+-- the divided trees of some entries, if a file holds them, are whole and apart, with these entries as their rows
 abbrev pub DividedTreesHaveRows : Type 0
 DividedTreesHaveRows =
     (index : ℕ → Index) (count : ℕ) (page : ℕ → ℕ → ℕ) (size : ℕ → ℕ) (entries : ℕ → List Entry)

@@ -50,17 +50,17 @@ pub record FitsSegments (counts : List ℕ) (size : ℕ → ℕ) (j : ℕ) : Typ
   pub top : top_size counts ≤ size (2 * j)
   pub leaf : leaf_size counts ≤ size (2 * j + 1)
 
--- its pages stand in the segments
+-- the pages of a tree stand in the segments
 abbrev pub StandWithin : List ℕ → (ℕ → ℕ) → ℕ → Type 0
 StandWithin counts size j = EachPlace counts (λ l k. place_for counts l k < size (segment_for counts j l))
 
--- and their numbers are all different
+-- the numbers of the pages of a tree are all different
 abbrev pub AreDifferent : (ℕ → ℕ → ℕ) → List ℕ → ℕ → Type 0
 AreDifferent page counts j =
     EachPlace counts (λ l k. EachPlace counts (λ m i.
     tree_number page counts j l k ≡ tree_number page counts j m i → (l ≡ m) × (k ≡ i)))
 
--- so are those of two trees
+-- no page of one of two trees has the number of a page of the other
 abbrev pub AreApart : (ℕ → ℕ → ℕ) → List ℕ → ℕ → List ℕ → ℕ → Type 0
 AreApart page counts j others i =
     EachPlace counts (λ l k. EachPlace others (λ m h.

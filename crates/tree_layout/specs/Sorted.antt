@@ -35,7 +35,7 @@ pub record AreSorted (fields : Fields) (entries sorted : List Entry) : Type 0 wh
   pub only : (others : List Entry) → IsPermutation entries others → IsSortedBy (is_entry_below fields) others
       → others ≡ sorted
 
--- so are sorted entries whose keys differ
+-- if the keys of entries differ, those of the sorted entries rise, and any sort gives these entries
 abbrev pub SortingRises : Type 0
 SortingRises =
     (fields : Fields) (entries : List Entry) → HaveOwnKeys fields entries

@@ -37,7 +37,7 @@ StandOnEachOther node numbers level (pages ∷ next ∷ rest) =
     (1 < length pages) × (next ≡ divided node (pointers_to node.keys pages (numbers level)))
     × StandOnEachOther node numbers (level + 1) (next ∷ rest)
 
--- so do the levels of a tree above its leaves, and no others
+-- the levels of a tree stand on each other above its leaves, and no other levels do
 pub record AreOnly (leaf node : Fields) (numbers : ℕ → ℕ → ℕ) (entries : List Entry) : Type 0 where
   pub leaves : level_at (tree_levels leaf node numbers entries) 0 ≡ divided leaf entries
   pub stand : StandOnEachOther node numbers 0 (tree_levels leaf node numbers entries)

@@ -43,7 +43,7 @@ pub fn counts_are_of_sizes()
     ensures { CountsAreOfSizes }
 {}
 
-/// And not on the numbers of pages.
+/// How many pages each level has doesn't depend on the numbers of pages.
 pub fn counts_need_no_numbers()
     ensures { CountsNeedNoNumbers }
 {}

@@ -15,7 +15,7 @@ unfoldable pub pages_under : Index → ℕ → ℕ → List ℕ
 pages_under index zero n = n ∷ []
 pages_under index (suc level) n = n ∷ flat_map (pages_under index level) (children_at index n)
 
--- those of a whole tree
+-- the pages of a whole tree
 abbrev pub pages_by_descent : Index → List ℕ
 pages_by_descent index = pages_under index (root_level index) index.root
 
@@ -29,7 +29,7 @@ unfoldable pub rows_below : Index → ℕ → ℕ → List Row
 rows_below index zero n = rows_on index n
 rows_below index (suc level) n = flat_map (rows_below index level) (children_at index n)
 
--- those of a whole tree
+-- the rows of a whole tree
 abbrev pub tree_rows : Index → List Row
 tree_rows index = rows_below index (root_level index) index.root
 
@@ -60,7 +60,7 @@ bounds index leftmost (p ∷ ps) high =
 abbrev pub kids : Index → Bounded → List Bounded
 kids index b = bounds index b.leftmost (rows_on index b.page) b.high
 
--- where it stands as a page of this level
+-- where a page between two separators stands as a page of this level
 abbrev pub spot_on : ℕ → Bool → Bounded → Spot
 spot_on level root b = record {
   page = b.page;

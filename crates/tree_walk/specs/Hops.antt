@@ -30,7 +30,7 @@ abbrev pub CameInTurn : ℕ → List HeldPage → Type 0
 CameInTurn n [] = ⊤
 CameInTurn n (held ∷ rest) = (held.number ≡ n) × CameInTurn (next_page held.page) rest
 
--- the last of them, or the one that was in hand before
+-- the last of the pages that came, or the one that was in hand before
 abbrev pub last_held : HeldPage → List HeldPage → HeldPage
 last_held before [] = before
 last_held before (held ∷ rest) = last_held held rest

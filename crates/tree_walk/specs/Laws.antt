@@ -37,7 +37,8 @@ pub record LinksEqualDescent (index : Index) : Type 0 where
   pub rows : leaf_rows index ≡ tree_rows index
   pub once : ComeOnce (pages_by_descent index)
 
--- so it is where the checks of a tree hold
+-- if the checks of a tree hold, its levels by next fields and its rows by leaves are those of the descent, and no page
+-- comes twice
 abbrev pub LinksAreDescent : Type 0
 LinksAreDescent = (index : Index) → IsWalked index → LinksEqualDescent index
 
@@ -68,16 +69,16 @@ Rises index (x ∷ y ∷ rest) = IsBelow (key_kinds index.leaf) (row_key index x
 abbrev pub KeysRiseOverLeaves : Type 0
 KeysRiseOverLeaves = (index : Index) → IsWalked index → Rises index (tree_rows index)
 
--- and it is a tree by descent
+-- if the checks of a tree hold, it is a tree by descent
 abbrev pub ChecksGiveTree : Type 0
 ChecksGiveTree = (index : Index) → AreOfOneIndex index.leaf index.node → IsWalked index → IsTreeByDescent index
 
--- each of its rows can be read
+-- if the checks of a tree hold, each of its rows can be read
 abbrev pub RowsCanBeRead : Type 0
 RowsCanBeRead = (index : Index) → IsWalked index
     → All (λ row. IsRecord (page_in index row.page) index.leaf row.origin) (leaf_rows index)
 
--- each of its leaves is sound, and linked to the next
+-- if the checks of a tree hold, each of its leaves is sound, and linked to the next
 abbrev pub LeavesAreSound : Type 0
 LeavesAreSound = (index : Index) → IsWalked index → LevelFacts index index.leaf (root_level index)
 

@@ -31,7 +31,7 @@ pub record CursorView : Type 0 where
   pub last : ℕ
   pub ended : Bool
 
--- where the leaf's chain is whole, this is the infimum or one of its records
+-- if the leaf's chain is whole, the origin is the infimum or one of its records
 abbrev pub IsAlong : List ℕ → ℕ → Type 0
 IsAlong page at = IsChain page (records_of page) → is_in (infimum ∷ records_of page) at ≡ true
 
@@ -75,7 +75,7 @@ pub record CanGive (file : List ℕ) (leaf : Leaf) (last : ℕ) : Type 0 where
   pub walked : IsWalked (index_of file root fields node)
   pub has : HasGiven (index_of file root fields node) leaf last given
 
--- the same where the record before the next row is known
+-- the rows are those of a walked tree of this file, and the record before the next row is known
 pub record CanSearch (file : List ℕ) (leaf : Leaf) (at : ℕ) : Type 0 where
   pub root : ℕ
   pub fields : Fields
@@ -129,23 +129,23 @@ pub record LeadsAstray (leaf : Leaf) (fault : Fault) : Type 0 where
   pub fault_is : fault ≡ record { rule = Sibling; page = leaf.number }
   pub cause : Misleads leaf
 
--- a search breaks off there too, and at a leaf whose record chain isn't whole
+-- a search breaks off at a leaf whose next field misleads, and at one whose record chain isn't whole
 pub record BreaksOff (leaf : Leaf) (fault : Fault) : Type 0 where
   pub page : fault.page ≡ leaf.number
   pub cause : ((fault.rule ≡ RecordChain) × ¬ (IsChain leaf.page (records_of leaf.page)))
       ⊎ ((fault.rule ≡ Sibling) × Misleads leaf)
 
--- it stays on its leaf, or went to the next one by the leaf's next field
+-- a cursor stays on its leaf, or went to the next one by the leaf's next field
 pub record HasMoved (old new : Leaf) : Type 0 where
   pub fewer : new.may_fetch ≤ old.may_fetch
   pub stays : new.may_fetch ≡ old.may_fetch → (new.number ≡ old.number) × (new.page ≡ old.page)
   pub goes : new.may_fetch + 1 ≡ old.may_fetch → new.number ≡ next_page old.page
 
--- the leaf is the one that it was, or the one that this one's next field leads to
+-- the leaf is the one that it was before, or the one that the next field of that one leads to
 abbrev pub IsSameOrNext : Leaf → Leaf → Type 0
 IsSameOrNext old new = (new.number ≡ old.number) ⊎ (new.number ≡ next_page old.page)
 
--- it went on from a record, not from the infimum, and at most to the next leaf
+-- a cursor went on from a record, not from the infimum, and at most to the next leaf
 abbrev pub HasHopped : Leaf → Leaf → ℕ → Type 0
 HasHopped old new from = (new.number ≡ old.number) ⊎ ((from ≢ infimum) × (new.number ≡ next_page old.page))
 

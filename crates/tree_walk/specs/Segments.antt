@@ -12,7 +12,7 @@ use Rattle.tree_walk.specs.Index.{Index, page_in}
 abbrev pub segment_in : List Address → List ℕ → ℕ → ℕ
 segment_in segments page at = segment_with_address segments (address_at page (at + 4))
 
--- the one that a header of the root names
+-- the segment that a header of the root names
 unfoldable pub segment_named_at : Index → ℕ → ℕ
 segment_named_at index at = segment_in (segments index.file) (page_in index index.root) at
 

@@ -14,19 +14,20 @@ use Rattle.tree_walk.specs.Room.{CanWalk, HasSameRoom}
 abbrev pub index_in : List ℕ → Tree → Index
 index_in file tree = index_of file tree.root tree.leaf.now tree.node.now
 
--- what is said of that index, where the file tells its bytes
+-- what is said of the index that a tree is, if the file tells its bytes
 abbrev pub OfIndex : {S : Type 0} → FileOf S → S → Tree → (Index → Type 0) → Type 0
 OfIndex g source tree Fact = OfFile g source (λ file. Fact (index_in file tree))
 
--- it can be walked: its space is the audit of the file, with a mark for each page, and there is room for its records
+-- the index can be walked: its space is the audit of the file, with a mark for each page, and there is room for its
+-- records
 pub record IsReady {S : Type 0} (g : FileOf S) (source : S) (tree : Tree) (walk : Walk) (marks : List Bool)
     : Type 0 where
   pub audit : OfFile g source (λ file. IsAuditOf file tree.space.now)
   pub members : length marks ≡ tree.space.now.size
   pub room : CanWalk walk tree.leaf.now tree.node.now
 
--- so it stays: there are as many marks as before, what was marked is marked still, the room is the same, and the file
--- is as a call leaves it that halts
+-- the index can still be walked: there are as many marks as before, what was marked is marked still, the room is the
+-- same, and the file is as a call leaves it that halts
 pub record StaysReady {S A : Type 0} (g : FileOf S) (old new : S) (steps steps_now : ℕ) (walk walk_now : Walk)
     (marks marks_now : List Bool) (result : Result A Halt) : Type 0 where
   pub members : length marks_now ≡ length marks

@@ -1,5 +1,5 @@
--- The checks of one tree, level by level from left to right. `taken` are the pages of the trees before it,
--- and `named` the segments that those name.
+-- The checks of one tree, level by level from left to right. `taken` are the pages of the trees before it, `named` the
+-- segments that those trees name.
 use Rattle.std.specs.Prelude.{◌≡◌, ℕ, suc, ◌+◌, ◌-◌, ◌==◌, Bool, true, false, if◌then◌else◌, List, ◌∷◌, ◌++◌, length}
 use Rattle.std.specs.Prelude.{take, slice_get, slice_index_or, Option, Some, None}
 use Rattle.page_source.specs.declared.rule.Rule.TheVariants.{RootPlace, RootSegments}
@@ -66,7 +66,7 @@ pub record IsRootPlace (file : List ℕ) (taken : Bool) (root : ℕ) : Type 0 wh
   pub page : (segment : ℕ) × IsPageOf file segment index_kind root
   pub new : taken ≡ false
 
--- its segments are new, and it is used by the one for the pages above the leaves
+-- the segments that the root names are new, and the one for the pages above the leaves uses it
 pub record HasNewSegments (index : Index) (named : ℕ → Bool) : Type 0 where
   pub names : NamesSegments index
   pub leaf_new : named (leaf_segment index) ≡ false

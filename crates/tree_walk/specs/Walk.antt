@@ -52,19 +52,19 @@ Follows index depth (Here cursor) page ahead j = Stands index depth cursor page 
 Follows index depth (Ahead cursor) page ahead j = Stands index depth cursor ahead (j + 1)
 Follows index depth End page ahead j = length (places index depth) ≤ j + 1
 
--- it was found; the search never breaks off
+-- the pointer behind pointer j was found; the search never breaks off
 abbrev pub FindsNext : Index → ℕ → ℕ → List ℕ → List ℕ → Result Next Halt → Type 0
 FindsNext index depth j page ahead (Ok next) = Follows index depth next page ahead j
 FindsNext index depth j page ahead (Err (Broken fault)) = ⊥
 FindsNext index depth j page ahead (Err Source) = ⊤
 
--- how many pages of the level come behind it
+-- how many pages of the level come behind the next node pointer
 abbrev pub more_after : Next → ℕ
 more_after (Here cursor) = cursor.more
 more_after (Ahead cursor) = cursor.more
 more_after End = 0
 
--- the page that it stands on, and its origin there
+-- the page that the next node pointer stands on, and its origin there
 abbrev pub page_after : Next → List ℕ → List ℕ → List ℕ
 page_after (Ahead cursor) page ahead = ahead
 page_after (Here cursor) page ahead = page
@@ -104,7 +104,7 @@ PlaceInHand index walk aim place next taken =
 abbrev pub HoldsLow : Walk → Fields → Cursor → Type 0
 HoldsLow walk node cursor = IsHeld walk.parent node cursor.origin walk.low
 
--- so was the next one, where there is one
+-- the node pointer behind the one in hand was read, if there is one
 abbrev pub HoldsHigh : Walk → Fields → Next → Type 0
 HoldsHigh walk node next = IfSome (origin_after next)
     (λ origin. IsHeld (page_after next walk.parent walk.after) node origin walk.high)
@@ -117,7 +117,7 @@ pub record HoldsBeside (walk : Walk) (node : Fields) (root : Bool) (low : Option
   pub root_low : root ≡ true → low ≡ None
   pub root_high : root ≡ true → origin_after next ≡ None
 
--- where that page stands: between the keys of these node pointers
+-- where the page in hand stands: between the keys of the node pointers beside it
 abbrev pub spot_beside : Walk → Fields → Stand → Option ℕ → Next → Spot
 spot_beside walk node stand low next =
     spot_between stand (held_key walk.parent node low)
@@ -141,7 +141,8 @@ AreUnmarked page records = All (λ origin. is_minimum page origin ≡ false) rec
 abbrev pub RowLiesWhole : Index → Row → Type 0
 RowLiesWhole index row = LiesWhole (page_in index row.page) index.leaf row.origin
 
--- the same of the rows of these leaves
+-- how many rows of these leaves have no delete mark, how many have one, and whether all are known to lie whole on
+-- their leaves
 pub record IsTallyOf (index : Index) (leaves : List ℕ) (tally : Tally) : Type 0 where
   pub live : tally.live ≡ count_by (is_live_row index) (rows_of index leaves)
   pub deleted : tally.deleted ≡ count_by (is_deleted_row index) (rows_of index leaves)
@@ -166,7 +167,7 @@ pub record IsLevel (index : Index) (aim : Aim) (row : Level) : Type 0 where
   pub pages : row.pages ≡ length (pages_at index (aim.depth + 1))
   pub tallied : aim.level ≡ 0 → IsTallyOf index (pages_at index (aim.depth + 1)) row.tally
 
--- a place of that level: its pointer is in hand, in a level whose checks hold
+-- a place of the level below a depth: its pointer is in hand, in a level whose checks hold
 pub record IsAtPlace (index : Index) (aim : Aim) (place : Place) (page : List ℕ) : Type 0 where
   pub facts : LevelFacts index index.node aim.depth
   pub is_aim : IsAim index aim

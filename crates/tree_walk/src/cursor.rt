@@ -22,7 +22,7 @@ pub enum Next {
     End,
 }
 
-/// The page that it stands on.
+/// The page that the next node pointer stands on.
 pub(crate) fn page_after<'a>(next: Next, parent: &'a Page, after: &'a Page) -> &'a Page
     ensures { result.now ≡ page_after next parent.now after.now }
 {
@@ -33,7 +33,7 @@ pub(crate) fn page_after<'a>(next: Next, parent: &'a Page, after: &'a Page) -> &
     }
 }
 
-/// Its origin there, if there is one.
+/// The origin of the next node pointer, if there is one.
 pub(crate) fn origin_after(next: Next) -> Option<usize>
     ensures { result ≡ origin_after next }
 {

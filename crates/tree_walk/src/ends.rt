@@ -25,7 +25,7 @@ pub struct TreeEnds {
     pub leaves: u32,
     /// The segment of the leaves, by its position among the segments of the space.
     pub leaf_segment: u32,
-    /// The segment of the pages above them.
+    /// The segment of the pages above the leaves.
     pub top_segment: u32,
     /// How many leaf records have no delete mark.
     pub live: u64,

@@ -27,22 +27,23 @@ pub fn levels_have_the_pages()
     ensures { LevelsHaveThePages }
 {}
 
-/// The keys of its rows rise over all leaves, and not only on each.
+/// Where the checks of a tree hold, the keys of its rows rise over all leaves, and not only on each.
 pub fn keys_rise_over_leaves()
     ensures { KeysRiseOverLeaves }
 {}
 
-/// Each of its rows is spelled, and ends on its page.
+/// Where the checks of a tree hold, each of its rows is spelled, and ends on its page.
 pub fn rows_can_be_read()
     ensures { RowsCanBeRead }
 {}
 
-/// Each of its leaves is sound, and linked to the next.
+/// Where the checks of a tree hold, each of its leaves is sound, and linked to the next.
 pub fn leaves_are_sound()
     ensures { LeavesAreSound }
 {}
 
-/// It is a tree by descent: each page is an index page whose keys lie between the separators of its parent.
+/// Where the checks of a tree hold, it is a tree by descent: each page is an index page whose keys lie between the
+/// separators of its parent.
 pub fn checks_give_a_tree()
     ensures { ChecksGiveTree }
 {

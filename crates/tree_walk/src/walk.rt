@@ -8,24 +8,25 @@ use index_page::Scratch;
 use page_source::{NoMemory, Page};
 use std::alloc::Global;
 
-/// What a walk works in, so that it takes no memory: three pages, and the places of four records.
+/// What a walk works in, so that it takes no memory of its own: three pages, the places of four records, and what the
+/// check of a page needs: two lists of marks, and the places of two more records.
 #[derive(Drop)]
 pub struct Walk {
     /// The page with the node pointer in hand.
     pub parent: Page,
-    /// The page behind it on its level.
+    /// The page behind that of the node pointer in hand, on its level.
     pub after: Page,
     /// The page that is checked.
     pub child: Page,
-    /// Where the records of that page are looked at.
+    /// Where the records of the page that is checked are looked at.
     pub scratch: Scratch,
     /// The node pointer in hand, whose key is the low separator of its child.
     pub low: Located,
-    /// The node pointer behind it, whose key is the high separator.
+    /// The node pointer behind the one in hand, whose key is the high separator of the child.
     pub high: Located,
     /// The first record of the page that is checked.
     pub first: Located,
-    /// The last record of that page.
+    /// The last record of the page that is checked.
     pub last: Located,
 }
 

@@ -9,7 +9,7 @@ const ALONE: &[u8] = b"\xFF\xFF\xFF\xFF\0\0\xFF\xFF\xFF\xFF\0\0";
 /// The base of an empty list.
 const EMPTY: &[u8] = b"\0\0\0\0\xFF\xFF\xFF\xFF\0\0\xFF\xFF\xFF\xFF\0\0";
 
-/// The three of an inode.
+/// The bases of the three empty lists of an inode.
 const THREE_EMPTY: &[u8] =
     b"\0\0\0\0\xFF\xFF\xFF\xFF\0\0\xFF\xFF\xFF\xFF\0\0\0\0\0\0\xFF\xFF\xFF\xFF\0\0\xFF\xFF\xFF\xFF\0\0\0\0\0\0\xFF\xFF\xFF\xFF\0\0\xFF\xFF\xFF\xFF\0\0";
 
@@ -21,7 +21,7 @@ const NO_SLOTS: &[u8] = &[0xFF; 128];
 
 /// An index page of level 0 without records, on each page of that type.
 pub(crate) const NO_RECORDS: [(usize, &[u8]); 5] = [
-    // The pages before and after it.
+    // The pages before and after this one: none.
     (8, &[0xFF; 8]),
     // Two directory slots, the heap top 120, two records on the heap.
     (38, b"\0\x02\0\x78\x80\x02"),
@@ -61,7 +61,7 @@ pub(crate) const NO_ROWS: [Piece<'static>; 21] = [
     (2, 110, MAGIC),
     (2, 114, b"\0\0\0\x03"),
     (2, 118, &[0xFF; 124]),
-    // That of segment 2, which has the other leaves.
+    // The inode of segment 2, which has the other leaves.
     (2, 242, b"\0\0\0\0\0\0\0\x02"),
     (2, 254, THREE_EMPTY),
     (2, 302, MAGIC),
@@ -152,7 +152,7 @@ pub(crate) const SECOND_INDEX: [Piece<'static>; 14] = [
     (2, 494, MAGIC),
     (2, 498, b"\0\0\0\x04"),
     (2, 502, &[0xFF; 124]),
-    // That of segment 4.
+    // The inode of segment 4, which has the other leaves.
     (2, 626, b"\0\0\0\0\0\0\0\x04"),
     (2, 638, THREE_EMPTY),
     (2, 686, MAGIC),
@@ -169,10 +169,10 @@ pub(crate) const SECOND_INDEX: [Piece<'static>; 14] = [
 /// As many bytes of a note as a page takes.
 const FULL_PART: &[u8] = &[b'x'; 16330];
 
-/// The rest of them.
+/// The rest of a note of 40,000 bytes, behind two pages of it.
 const LAST_PART: &[u8] = &[b'x'; 7340];
 
-/// A row whose note goes on on the pages 4, 5 and 6, all of it.
+/// A row whose note has all its bytes on the pages 4, 5 and 6.
 pub(crate) const LONG_NOTE: [Piece<'static>; 16] = [
     // Eight pages, of which seven are used, three by the leaves' segment.
     (0, 46, b"\0\0\0\x08"),
@@ -235,7 +235,8 @@ pub(crate) const THREE_LEVELS: [Piece<'static>; 31] = [
     (6, 97, b"\0\x1A"),
     (6, 107, b"\x02"),
     (6, 120, b"\0\0\x10\xFF\xF3\x80\0\0\x01"),
-    // The page before page 7, and the same with the row 9.
+    // The page before page 7; the heap top 142, three records on the heap, one in the chain; then the infimum, the
+    // supremum, and the row 9.
     (7, 8, b"\0\0\0\x06"),
     (7, 40, b"\0\x8E\x80\x03"),
     (7, 54, b"\0\x01"),

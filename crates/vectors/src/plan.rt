@@ -33,16 +33,16 @@ pub enum Which {
 #[derive(Clone, Copy)]
 pub(crate) struct Plan {
     pub(crate) pages: u32,
-    /// The types of its first pages; the others are zeros.
+    /// The types of the file's first pages; the others are zeros.
     pub(crate) kinds: &'static [u16],
-    /// What is put on them, in this order.
+    /// What is put on the file's pages, in this order.
     pub(crate) parts: &'static [&'static [Piece<'static>]],
 }
 
 /// The type of an index page.
 pub(crate) const INDEX: u16 = 17855;
 
-/// That of a page that a value goes on on.
+/// The type of a page in which a long value goes on.
 const BLOB: u16 = 10;
 
 /// The space header, the bitmap of the insert buffer, the inodes and the root of the table.

@@ -81,7 +81,7 @@ impl<'a> CarveCase<'a> {
         Ok(image)
     }
 
-    /// The image, of which this call fails, if it is one of its.
+    /// The image, of which this call fails, if it is a call of the image.
     fn source(&self, alloc: Global, image: &[u8], call: u64) -> Result<MemoryBytes, NoMemory> {
         let fails = Fails::of(alloc, &[self.failing.call_of(Object::Source, call)])?;
         Ok(MemoryBytes::new(copied(alloc, image)?, fails))
@@ -156,7 +156,7 @@ impl<'a> Part<'a> {
         })
     }
 
-    /// Adds them. A page that isn't kept is zeros.
+    /// Adds the bytes of the page to the image. A page that isn't kept is zeros.
     fn put(
         &self,
         alloc: Global,

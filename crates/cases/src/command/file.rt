@@ -26,7 +26,7 @@ impl<'a> FileCase<'a> {
         Ok(FileCase { plan })
     }
 
-    /// That of this file.
+    /// The case of this file.
     pub fn of(plan: Plan<'a>) -> FileCase<'a> {
         FileCase { plan }
     }

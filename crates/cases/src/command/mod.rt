@@ -94,7 +94,7 @@ impl<'a> Command<'a> {
         }
     }
 
-    /// Runs it, and compares with the answer.
+    /// Runs the command, and compares with the answer.
     pub fn run(
         &self,
         alloc: Global,

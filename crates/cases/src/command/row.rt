@@ -9,7 +9,7 @@ use row_text::{Row, RowError, read_key, read_row, write_row};
 use schema_text::{Schema, SchemaError};
 use std::alloc::Global;
 
-/// Which of the two is read.
+/// Which is read: the line of a row, or the text of a key.
 #[derive(Clone, Copy)]
 pub enum RowText {
     Line,

@@ -150,7 +150,7 @@ impl<'a> SalvageCase<'a> {
 }
 
 impl Salvaged {
-    /// One that wrote nothing.
+    /// A salvage that wrote nothing.
     fn stopped(alloc: Global, end: End) -> Salvaged {
         Salvaged {
             end: Err(end),
@@ -159,7 +159,7 @@ impl Salvaged {
         }
     }
 
-    /// One that ended so, with what the sinks were given.
+    /// A salvage that ended so, with what the sinks were given.
     fn of(
         alloc: Global,
         end: Result<Saved, End>,
@@ -176,8 +176,8 @@ impl Salvaged {
         matches!(self.end, Ok(_) | Err(End::Broken(_)) | Err(End::Root))
     }
 
-    /// The words for it, in the form in which the wanted ones stand: `ends` of any end but a failing call, and
-    /// otherwise both outputs, or the word for what stopped it.
+    /// The words for a salvage, in the form in which the wanted ones stand: `ends` of any end but a failing call, and
+    /// otherwise both outputs, or the word for what stopped the salvage.
     fn said_as(
         &self,
         alloc: Global,
@@ -196,7 +196,7 @@ impl Salvaged {
         Ok(said)
     }
 
-    /// Adds the word for what stopped it. What was written before that has to be the front of the whole.
+    /// Adds the word for what stopped the salvage. What was written before that has to be the front of the whole.
     fn put_stopped(
         &self,
         said: &mut ByteList,

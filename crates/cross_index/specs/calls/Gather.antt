@@ -35,7 +35,7 @@ place_in places k = slice_index_or places k (record { null = true; external = fa
 unfoldable pub pages_of_fields : List ℕ → List ℕ → List Place → List ℕ → ℕ
 pages_of_fields file page places fields = sum_by (λ k. length (pages_of_place file page (place_in places k))) fields
 
--- each of them can be read, in so many fetches
+-- each of these fields can be read, all in so many fetches
 pub record CanGather (file page : List ℕ) (places : List Place) (fields : List ℕ) (left : ℕ) : Type 0 where
   pub follow : All (λ k. CanFollowPlace file page (place_in places k)) fields
   pub few : pages_of_fields file page places fields ≤ left

@@ -20,7 +20,7 @@ pub record BeginsWith (kind : ColumnType) (value : Value) (text rest : List ℕ)
   pub spelled : text ≡ value_text kind value ++ rest
   pub ends : EndsValue rest
 
--- the same of a value of the column, which may be null
+-- the text begins with that of a value of the column, which may be null, and this is the rest
 pub record BeginsColumn (column : Column) (value : Value) (text rest : List ℕ) : Type 0 where
   pub fits : FitsColumn column value
   pub spelled : text ≡ value_text column.kind value ++ rest

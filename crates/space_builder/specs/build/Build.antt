@@ -38,7 +38,7 @@ pub record AreRowsRead (table : TableDef) (text : Option (List ℕ)) (rows : Row
   pub good : AreGoodRows table rows
   pub of_text : IfSome text (λ text. AreRowsOf table text rows)
 
--- the roots are in order, and the text has such rows, of which this is so
+-- the roots are in order, and the fact holds of some good rows, those of the text if it is told
 abbrev pub OfRows : TableDef → Option (List ℕ) → (Rows → Type 0) → Type 0
 OfRows table text Fact = RootOrderChecks table None × ((rows : Rows) × AreRowsRead table text rows × Fact rows)
 
@@ -72,7 +72,7 @@ ReadsText left old new (Err (stops.RowsRefused line why)) =
     IfSome (left old) (λ text. ReadsNear text (left new) (line - 1))
 ReadsText left old new (Err stop) = ⊤
 
--- a fault is answered only where the count of that object rose
+-- a fault of an object is answered only if the count of that object rose
 pub record BuildsWithCause (source source_now store store_now : ℕ) (result : Result Built BuildStop) : Type 0 where
   pub source_later : source ≤ source_now
   pub store_later : store ≤ store_now

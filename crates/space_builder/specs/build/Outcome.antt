@@ -8,11 +8,12 @@ use Rattle.space_builder.specs.declared.built.BuildStop.TheVariants as stops
 use Rattle.space_builder.specs.layout.Layout.{Rows, FitsSpace, layout_extents}
 use Rattle.space_builder.specs.build.BadLine.{RootOrderChecks, RowsChecks, AreRowsOf}
 
--- the roots are in order, and the text is that of rows of which this is so
+-- the roots are in order, and the text is that of some rows, of which the fact holds
 abbrev pub HasRows : TableDef → List ℕ → (Rows → Type 0) → Type 0
 HasRows table text Fact = RootOrderChecks table None × ((rows : Rows) × AreRowsOf table text rows × Fact rows)
 
--- what comes of them, unless an object fails or memory runs out: the rows that are built, or the first refusal
+-- what comes of a table and a rows text, unless an object fails or memory runs out: the rows that are built, or the
+-- first refusal
 abbrev pub ComesTo : TableDef → List ℕ → Result Rows BuildStop → Type 0
 ComesTo table text (Ok rows) = RootOrderChecks table None × AreRowsOf table text rows × FitsSpace table rows
 ComesTo table text (Err (stops.RootPlace line)) = RootOrderChecks table (Some line)
@@ -36,7 +37,7 @@ abbrev pub BuildHasAnOutcome : Type 0
 BuildHasAnOutcome =
     (table : TableDef) (text : List ℕ) → IsTable table → (outcome : Result Rows BuildStop) × ComesTo table text outcome
 
--- such an answer leaves the store alone
+-- an answer that leaves the store alone
 abbrev pub LeavesStore : Result Built BuildStop → Type 0
 LeavesStore (Ok built) = ⊥
 LeavesStore (Err stops.Store) = ⊥

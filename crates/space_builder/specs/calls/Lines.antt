@@ -34,7 +34,7 @@ abbrev pub GivesBytes : Option (List ℕ) → Option (List ℕ) → List ℕ →
 GivesBytes None now bytes = now ≡ None
 GivesBytes (Some text) now bytes = (rest : List ℕ) × (now ≡ Some rest) × (text ≡ bytes ++ rest)
 
--- nothing is left of it
+-- nothing is left of the text
 abbrev pub IsAtEnd : Option (List ℕ) → Type 0
 IsAtEnd left = IfSome left (λ rest. rest ≡ [])
 

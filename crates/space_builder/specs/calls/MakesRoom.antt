@@ -33,7 +33,7 @@ pub record TurnsPage {T : Type 0} (g : StoreOf T) (plan : TreePlan) (l k : ℕ) 
   pub packed : OnOk result (next ≡ none_packed l)
   pub begins : OnOk result (more ≡ starts ++ k ∷ [])
 
--- the first where the record fits, and the second where it doesn't
+-- nothing changes if the record fits; otherwise the page is put, and the next one begins with entry k
 abbrev pub MakesRoom : {T : Type 0} → StoreOf T → TreePlan → ℕ → ℕ → Bool → T → T → Packing → Packing → List ℕ
     → List ℕ → Result (Unit {0}) PutStop → Type 0
 MakesRoom g plan l k true old new packing next starts more result = GoesOnHere old new packing next starts more result

@@ -24,7 +24,7 @@ pub record IsKeyOrder (kinds : List FieldType) (fields : List ℕ) (rows : List 
   pub moved : IsPermutation (range_with_len 0 (length rows)) order
   pub sorted : IsSortedBy (is_row_below kinds fields rows) order
 
--- so that the entries of index j don't fall
+-- each row once, so that the entries of index j don't fall
 abbrev pub IsIndexOrder : TableDef → List (List Stored) → ℕ → List ℕ → Type 0
 IsIndexOrder table rows j order = IsKeyOrder (key_kinds (leaf_fields table j)) (entry_fields table j) rows order
 

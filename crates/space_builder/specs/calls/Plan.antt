@@ -74,7 +74,7 @@ pub record IsPlanOf (table : TableDef) (rows : Rows) (plan : SpacePlan) : Type 0
   pub sizes : plan.sizes.items ≡ segment_sizes table rows
   pub fits : FitsSpace table rows
 
--- so many pages, or too many
+-- how many pages all indexes and segments have, or the rows need too many
 abbrev pub FindsPlan : TableDef → List (List Stored) → Result SpacePlan PlanStop → Type 0
 FindsPlan table stored (Ok plan) = OfStored table stored (λ rows. IsPlanOf table rows plan)
 FindsPlan table stored (Err stops.Full) = OfStored table stored (IsFull table)

@@ -12,6 +12,6 @@ pointing keys leaves pointer = pointer_with keys (entry_at leaves pointer.first)
 abbrev pub pointer_at : List Pointer → ℕ → Pointer
 pointer_at pointers k = slice_index_or pointers k (record { first = 0; page = 0 })
 
--- each has the key of one of them
+-- each pointer has the key of one of the leaf entries
 abbrev pub PointInto : List Entry → List Pointer → Type 0
 PointInto leaves pointers = All (λ (pointer : Pointer). pointer.first < length leaves) pointers

@@ -28,7 +28,7 @@ pub record HasLeafPages (sizes : List ℕ) (count : ℕ) : Type 0 where
 abbrev pub gone_bytes : Format → Stored → List ℕ
 gone_bytes format field = if field.off then off_bytes format field else []
 
--- the pages of a row, field by field, from a place of that segment on, and how many they are
+-- the pages of a row, field by field, from a place of the leaf segment of the first index on, and how many they are
 abbrev pub row_counts : Format → List Stored → List ℕ
 row_counts format row = map (pages_of_stored format) row
 
@@ -38,7 +38,7 @@ row_number sizes at counts i k = segment_page sizes 1 (at + pages_before_field c
 abbrev pub row_pages : Format → List ℕ → ℕ → List Stored → List Numbered
 row_pages format sizes at row = pages_of_row format (row_number sizes at (row_counts format row)) row
 
--- the first of so many pages, 0 where there is none; so it is with each field of a row
+-- the first of so many pages, 0 if there is none, and the first page of each field of a row
 abbrev pub first_page : (ℕ → ℕ) → ℕ → ℕ
 first_page number count = slice_index (map number (range_with_len 0 count)) 0
 

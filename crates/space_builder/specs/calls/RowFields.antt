@@ -39,7 +39,7 @@ abbrev pub longest_place : TableDef → List Stored → ℕ
 longest_place table row =
     position_or_len (λ n. n == greatest (going_lengths table row)) (going_lengths table row)
 
--- that field goes next, none where none may
+-- the longest field that may go goes next, none if none may
 abbrev pub GoesNext : TableDef → List Stored → Option ℕ → Type 0
 GoesNext table row place =
     MatchOption place (greatest (going_lengths table row) ≡ 0)

@@ -29,7 +29,7 @@ pub record IsSpaceOf (space : Space) (rows : Rows) : Type 0 where
 abbrev pub IsSpace : Space → Type 0
 IsSpace space = (rows : Rows) × IsSpaceOf space rows
 
--- a fact of all rows of which it is the space
+-- a fact of all rows whose space this is
 abbrev pub OfSpace : Space → (Rows → Type 0) → Type 0
 OfSpace space Fact = (rows : Rows) → IsSpaceOf space rows → Fact rows
 
@@ -37,7 +37,7 @@ OfSpace space Fact = (rows : Rows) → IsSpaceOf space rows → Fact rows
 abbrev pub leaves_of : TableDef → Rows → ℕ
 leaves_of table rows = leaf_size (tree_counts table rows 0)
 
--- the pages on which the fields of its rows go on
+-- the pages on which the fields of a space's rows go on
 abbrev pub HasFirstPages : Space → FirstPages → Type 0
 HasFirstPages space first =
     OfSpace space (λ rows. AreFirstPages space.schema.now.format (segment_sizes space.schema.now rows)

@@ -17,7 +17,7 @@ pub record AreStoredRows (table : TableDef) (rows : Rows) (stored : List (List S
   pub good : AreGoodRows table rows
   pub same : stored ≡ stored_rows table rows
 
--- picked in the order of an index that isn't the clustered one, they are its entries
+-- what is picked of rows in the order of an index that isn't the clustered one is its entries
 abbrev pub PicksEntries : Type 0
 PicksEntries =
     (table : TableDef) (rows : Rows) (stored : List (List Stored)) (j : ℕ) (order : List ℕ)

@@ -36,7 +36,7 @@ first_numbers plan l width = map (number_in plan l) (range_with_len 0 width)
 abbrev pub numbers_in : TreePlan → ℕ → List ℕ
 numbers_in plan l = first_numbers plan l (width_in plan l)
 
--- there is such a page
+-- the tree has a page k on level l
 pub record HasPage (plan : TreePlan) (l k : ℕ) : Type 0 where
   pub inside : l < length plan.counts.now
   pub within : k < width_in plan l

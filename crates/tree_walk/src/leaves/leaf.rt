@@ -1,4 +1,6 @@
-//! The leaf in hand, and the search for its next row.
+//! The leaf in hand, and the search for its next row. `open` fetches a leaf, `hop` goes to the next leaf, and `take`
+//! also to the first. `search` finds the record after a given one, on this leaf or on a later one, and `seek` also the
+//! first of a tree.
 
 ghost use Rattle.std.specs.Prelude.{◌≡◌, ℕ, ◌+◌, ◌<◌, ◌≤◌, IfOk, IfSome, OnOk, OnErr, Ok, Err, None, true, false};
 ghost use Rattle.page_source.specs.Pages.{page_of, page_count};

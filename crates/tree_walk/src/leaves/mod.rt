@@ -26,6 +26,7 @@ use std::sync::ledger::Ledger;
 #[derive(Debug, Drop)]
 pub struct LeafCursor {
     leaf: Leaf,
+    /// The origin that was last given: 0 before the first leaf, that of the infimum at the head of a leaf.
     last: usize,
     ended: bool,
 }
@@ -140,7 +141,7 @@ impl LeafCursor {
         &self.leaf.page
     }
 
-    /// Its number; before the first row that of the leftmost leaf.
+    /// The number of the leaf in hand; before the first row that of the leftmost leaf.
     pub fn number(&self) -> u32
         ensures { result ≡ self.now.leaf.number }
     {

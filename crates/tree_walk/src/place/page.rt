@@ -28,7 +28,7 @@ pub(crate) const NEXT: usize = 12;
 /// PAGE_LEVEL, the level of an index page.
 pub(crate) const LEVEL: usize = 64;
 
-/// PAGE_INDEX_ID, its index.
+/// PAGE_INDEX_ID, the id of the index of an index page.
 pub(crate) const INDEX_ID: usize = 66;
 
 /// The greatest level of a root.

@@ -60,7 +60,7 @@ fn one_more(tally: Tally, page: &Page, origin: usize, fields: &FieldList) -> Tal
     }
 }
 
-/// Whether this record has no minimum mark either.
+/// Whether neither this record nor one before it has the minimum mark.
 fn none_marked(before: bool, page: &Page, origin: usize) -> bool
     requires { IsHeapOrigin origin }
     ensures { result ≡ true → (before ≡ true) × (is_minimum page.now origin ≡ false) }

@@ -24,7 +24,7 @@ use std::sync::ledger::Ledger;
 /// PAGE_BTR_SEG_LEAF, where the root names the segment of the leaves: a space, a page and a byte offset.
 const LEAF_SEGMENT: usize = 74;
 
-/// PAGE_BTR_SEG_TOP, where it names the segment of the pages above.
+/// PAGE_BTR_SEG_TOP, where the root names the segment of the pages above the leaves.
 const TOP_SEGMENT: usize = 84;
 
 /// What is known of a root: its level, its index id, the segments that it names, and its tally where it is a leaf.
@@ -70,7 +70,8 @@ fn names_new(space: &Space, named: &Marks, page: &Page, leaf: u32, top: u32) -> 
     !named.has(leaf) && !named.has(top)
 }
 
-/// Whether they do, and the second of these segments uses the root.
+/// Whether the headers of a root name two segments of the space that weren't named before, the second of which uses
+/// the root.
 fn are_new(space: &Space, named: &Marks, page: &Page, root: u32, leaf: u32, top: u32) -> bool
     requires members { length named.now ≡ length space.now.segments }
     requires root { root < space.now.size }
