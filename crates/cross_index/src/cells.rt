@@ -126,6 +126,25 @@ impl Cells {
         }
     }
 
+    /// Where the bytes of a value begin; 0 past the last. Nothing is said of it, since no answer rests on it.
+    pub(crate) fn start(&self, i: usize) -> usize {
+        if i < self.marks.len() {
+            start_of(&self.marks, i)
+        } else {
+            0
+        }
+    }
+
+    /// The byte at a place among those of all values; 0 past the last. Nothing is said of it, since no answer rests on
+    /// it.
+    pub(crate) fn byte(&self, at: usize) -> u8 {
+        if at < self.bytes.len() {
+            self.bytes[at]
+        } else {
+            0
+        }
+    }
+
     /// How many values there are.
     pub(crate) fn len(&self) -> usize
         ensures { result ≡ length self.now }

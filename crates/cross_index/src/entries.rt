@@ -10,6 +10,7 @@ ghost use Rattle.cross_index.specs.calls.Order.{IsOrder};
 ghost use Rattle.cross_index.specs.Stops.{CrossesOver};
 ghost use Rattle.cross_index.specs.calls.Compare.{IsReadKey, Meets, EndsAt, CanCompare, Compares, NamesHere};
 
+use crate::ahead::Ahead;
 use crate::crossed::CrossStop;
 use crate::order::{Keys, compare_record};
 use column_values::FieldList;
@@ -110,6 +111,7 @@ pub(crate) fn compare_entries<S: PageSource, L: Ledger>(
     source: &mut S,
     schema: &Schema,
     asked: &Asked,
+    ahead: &mut Ahead,
     entries: &mut LiveRows,
     located: &mut Located,
     steps: &mut Steps<L>,
@@ -138,6 +140,7 @@ pub(crate) fn compare_entries<S: PageSource, L: Ledger>(
         if !read_entry(located, page, origin, asked.keys.fields) {
             return Err(CrossStop::Broken(Rule::RecordSpelling.at(number)));
         }
+        ahead.read(&asked.keys, asked.order, next);
         meet(asked, next, page, number, located.places())?;
         next += 1;
     }

@@ -11,6 +11,7 @@ ghost use Rattle.cross_index.specs.calls.Broken.{BreaksReading};
 ghost use Rattle.cross_index.specs.calls.Compare.{Compares};
 ghost use Rattle.cross_index.specs.calls.Indexes.{CanCompareIndex, CanCompareAll, ComparesAll, HasFields};
 
+use crate::ahead::Ahead;
 use crate::crossed::CrossStop;
 use crate::entries::{Asked, compare_entries};
 use crate::gathered::Gathered;
@@ -78,7 +79,16 @@ fn compare_index<S: PageSource, L: Ledger>(
     };
     let mut entries = LiveRows::start(alloc, ends)?;
     let mut located = Located::with_room(alloc, fields.fields().len() as u32)?;
-    compare_entries(source, schema, &asked, &mut entries, &mut located, steps)
+    let mut ahead = Ahead::new(alloc)?;
+    compare_entries(
+        source,
+        schema,
+        &asked,
+        &mut ahead,
+        &mut entries,
+        &mut located,
+        steps,
+    )
 }
 
 /// Compares the entries of all secondary indexes with the rows, one index after another, and answers how many there

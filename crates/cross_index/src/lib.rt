@@ -1,6 +1,7 @@
 //! Compares the entries of the secondary indexes with the rows.
 #![tactic(auto)]
 
+mod ahead;
 mod cells;
 mod cross_check;
 mod crossed;
