@@ -1,6 +1,7 @@
 -- Values by their marks.
 use Rattle.std.proofs.Common.{◌≡◌, ℕ, zero, suc, ◌+◌, ◌/◌, ◌%◌, ◌<◌, ◌≤◌, ◌==◌, false, List, [], ◌∷◌, ◌++◌}
-use Rattle.std.proofs.Common.{length, get_or, map, slice_range, cond, All, refl, sym, ap, subst, ◌∙◌, arith, ◌*◌, true, Bool, Option}
+use Rattle.std.proofs.Common.{length, get_or, map, slice_range, cond, All, refl, sym, ap, subst, ◌∙◌, arith, ◌*◌, true}
+use Rattle.std.proofs.Common.{Bool, Option}
 use Rattle.std.proofs.Common.{Some, None}
 use Rattle.std.proofs.lemmas.List.{get_or_past, map-append}
 use Rattle.std.proofs.lemmas.List.Elements.{All-cons}
@@ -17,11 +18,14 @@ pub length-places : (from : ℕ) (marks : List ℕ) → length (places_of_marks 
 length-places from [] = refl
 length-places from (mark ∷ marks) = ap suc (length-places (mark / 2) marks)
 
-pub place_past : (marks : List ℕ) (i : ℕ) → length marks ≤ i → null_place ≡ get_or (places_of_marks 0 marks) i null_place
-place_past marks i past = sym (get_or_past (places_of_marks 0 marks) i null_place (omega (arith, past, length-places 0 marks)))
+pub place_past : (marks : List ℕ) (i : ℕ) → length marks ≤ i
+    → null_place ≡ get_or (places_of_marks 0 marks) i null_place
+place_past marks i past =
+    sym (get_or_past (places_of_marks 0 marks) i null_place (omega (arith, past, length-places 0 marks)))
 
 place_next : (from : ℕ) (marks : List ℕ) (j : ℕ) → j + 1 < length marks
-    → marked_place (get_or marks j 0 / 2) (get_or marks (suc j) 0) ≡ get_or (places_of_marks from marks) (suc j) null_place
+    → marked_place (get_or marks j 0 / 2) (get_or marks (suc j) 0)
+    ≡ get_or (places_of_marks from marks) (suc j) null_place
 place_next from [] j inside = absurd (omega (arith, inside))
 place_next from (mark ∷ []) j inside = absurd (omega (arith, inside))
 place_next from (mark ∷ next ∷ marks) zero inside = refl
@@ -80,7 +84,8 @@ pub null_more : (bytes marks now : List ℕ) (most mark : ℕ) → LieTo 0 marks
 null_more bytes marks now most mark lie odd grown =
     let place = marked_place most mark in
     let null : place.null ≡ true = rw odd refl in
-    let cell : cell_at bytes place ≡ None = ap (λ (b : Bool). cond b None (Some (slice_range bytes most (mark / 2)))) null in
+    let cell : cell_at bytes place ≡ None =
+    ap (λ (b : Bool). cond b None (Some (slice_range bytes most (mark / 2)))) null in
     ap (λ (list : List ℕ). map (cell_at bytes) (places_of_marks 0 list)) grown
     ∙ ap (map (cell_at bytes)) (places_more 0 marks most mark lie)
     ∙ map-append (cell_at bytes) (places_of_marks 0 marks) (place ∷ [])

@@ -1,6 +1,7 @@
 //! Values that may be null, one after another in one run of bytes.
 
-ghost use Rattle.std.specs.Prelude.{◌≡◌, ◌<◌, ◌++◌, ◌∷◌, [], All, Some, None, OnOk, length, slice_index_or, true, false};
+ghost use Rattle.std.specs.Prelude.{◌≡◌, ◌<◌, ◌++◌, ◌∷◌, [], All, Some, None, OnOk, length, slice_index_or, true};
+ghost use Rattle.std.specs.Prelude.{false};
 ghost use Rattle.std.specs.Option.{option_copied};
 ghost use Rattle.column_values.specs.Order.{cell_cmp};
 ghost use Rattle.compact_record.specs.Reading.{cell_at};

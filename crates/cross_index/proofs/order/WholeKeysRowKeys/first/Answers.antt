@@ -22,7 +22,8 @@ returns-clause-value c =
     ∙ subst (λ (asking : Asking). get_or keys.cells.now number None ≡ get_or ((table_of asking).key c.args.row) 0 None)
     c.self.view_is
     (kept_at keys.cells.now keys.width keys.slots.now c.args.row 0 0 number
-    (omega (arith, c.len-count.ensures, c.len-count.type_inv)) (some_slots keys.slots.now (sym c.is_empty.ensures ∙ c.if-is_empty.false))
+    (omega (arith, c.len-count.ensures, c.len-count.type_inv))
+    (some_slots keys.slots.now (sym c.is_empty.ensures ∙ c.if-is_empty.false))
     c.cell_number-number.ensures)
 
 pub returns-clause-whole : goal.returns-clause-whole
