@@ -13,8 +13,9 @@ use Rattle.schema_text.specs.declared.errors.SchemaWhy.{SchemaWhy}
 use Rattle.space_builder.specs.declared.built.Built.{Built}
 use Rattle.space_builder.specs.declared.built.BuildStop.{BuildStop}
 use Rattle.space_builder.specs.declared.built.BuildStop.TheVariants as stops
-use Rattle.space_builder.specs.layout.Layout.{Rows, layout_size}
-use Rattle.space_builder.specs.build.BadLine.{RootOrderChecks}
+use Rattle.row_store.specs.StoredRows.{Rows}
+use Rattle.space_builder.specs.layout.Layout.{layout_size}
+use Rattle.space_builder.specs.build.RootOrder.{RootOrderChecks}
 use Rattle.space_builder.specs.build.Build.{Builds, BuildsWithCause, ReadsText, LacksHead, IsUncalledOrSized}
 use Rattle.space_builder.specs.build.Outcome.{ComesTo, RootsHaveOneAnswer, BuildHasOneOutcome, LeavesStore}
 use Rattle.command_line.specs.declared.schema_file.SchemaStop.{SchemaStop}

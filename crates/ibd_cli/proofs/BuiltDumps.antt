@@ -4,7 +4,8 @@ use Rattle.page_source.specs.Objects.{Store, IsTold, file_of}
 use Rattle.schema_text.specs.TableDef.{TableDef}
 use Rattle.schema_text.specs.Grammar.{IsTextOf}
 use Rattle.table_check.specs.Laws.{ChecksAreValidity}
-use Rattle.space_builder.specs.layout.Layout.{Rows, layout_size, layout_map, layout_file}
+use Rattle.row_store.specs.StoredRows.{Rows}
+use Rattle.space_builder.specs.layout.Layout.{layout_size, layout_map, layout_file}
 use Rattle.space_builder.specs.build.Build.{HoldsLayout}
 use Rattle.space_builder.specs.build.Laws.{GoodTextsBuildValid, GoodTextsAreOfRows}
 use Rattle.space_builder.specs.build.Outcome.{ComesTo}

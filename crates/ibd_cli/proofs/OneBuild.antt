@@ -4,7 +4,8 @@ use Rattle.schema_text.specs.declared.errors.SchemaWhy.{SchemaWhy}
 use Rattle.schema_text.specs.declared.errors.SchemaWhy.TheVariants as whys
 use Rattle.space_builder.specs.declared.built.BuildStop.{BuildStop}
 use Rattle.space_builder.specs.declared.built.BuildStop.TheVariants as stops
-use Rattle.space_builder.specs.layout.Layout.{Rows, layout_size}
+use Rattle.row_store.specs.StoredRows.{Rows}
+use Rattle.space_builder.specs.layout.Layout.{layout_size}
 use Rattle.space_builder.specs.build.Outcome.{ComesTo, RootsHaveOneAnswer, BuildHasOneOutcome}
 use Rattle.command_line.specs.SchemaFile.{IsRefusedText}
 use Rattle.command_line.proofs.OneAnswer.{HasOneAnswer, no_table}

@@ -11,9 +11,11 @@ use Rattle.schema_text.specs.declared.errors.SchemaWhy.TheVariants as whys
 use Rattle.schema_text.specs.TableDef.{TableDef}
 use Rattle.schema_text.specs.Grammar.{IsTextOf}
 use Rattle.space_builder.specs.declared.built.BuildStop.TheVariants as stops
-use Rattle.space_builder.specs.layout.Layout.{Rows, FitsSpace, layout_extents, layout_size}
-use Rattle.space_builder.specs.build.BadLine.{RootOrderChecks, RowsChecks}
-use Rattle.space_builder.specs.build.ReadRows.{ReadsNear}
+use Rattle.row_store.specs.StoredRows.{Rows}
+use Rattle.space_builder.specs.layout.Layout.{FitsSpace, layout_extents, layout_size}
+use Rattle.space_builder.specs.build.RootOrder.{RootOrderChecks}
+use Rattle.row_store.specs.BadLine.{RowsChecks}
+use Rattle.row_store.specs.ReadRows.{ReadsNear}
 use Rattle.space_builder.specs.build.Build.{HoldsLayout, HoldsPart, LacksHead, IsSizedFor, OfRows}
 use Rattle.space_builder.specs.build.Outcome.{ComesTo}
 use Rattle.ibd_cli.specs.declared.status.Status.{Status}

@@ -1,8 +1,8 @@
 -- What is printed: the line of a status.
 use Rattle.std.specs.Prelude.{ℕ, List, [], ◌++◌, codes}
 use Rattle.command_line.specs.Lines.{counted, why_word, refusal_line, fault_line}
-use Rattle.space_builder.specs.declared.built.RowsWhy.{RowsWhy}
-use Rattle.space_builder.specs.declared.built.RowsWhy.TheVariants as rows_whys
+use Rattle.row_store.specs.declared.stop.RowsWhy.{RowsWhy}
+use Rattle.row_store.specs.declared.stop.RowsWhy.TheVariants as rows_whys
 use Rattle.ibd_cli.specs.declared.status.Status.{Status}
 use Rattle.ibd_cli.specs.declared.status.Status.TheVariants.{Done, Usage, SchemaRefused, Broken, RowsRefused}
 use Rattle.ibd_cli.specs.declared.status.Status.TheVariants.{SourceFault, SinkFault, StoreFault, Memory, Full}

@@ -18,14 +18,16 @@ use Rattle.row_text.specs.Laws.{HasOneRow}
 use Rattle.row_text.specs.Line.{IsLineOf, text_of}
 use Rattle.sql_dump.specs.Dump.{IsDumpOf, GrewByDump}
 use Rattle.sql_dump.specs.Laws.{SoundFilesHaveOneDump}
-use Rattle.space_builder.specs.layout.Layout.{Rows, FitsSpace, layout_extents, layout_file, layout_size, layout_map}
+use Rattle.row_store.specs.StoredRows.{Rows}
+use Rattle.space_builder.specs.layout.Layout.{FitsSpace, layout_extents, layout_file, layout_size, layout_map}
 use Rattle.space_builder.specs.declared.built.Built.{Built}
 use Rattle.space_builder.specs.declared.built.BuildStop.{BuildStop}
 use Rattle.space_builder.specs.declared.built.BuildStop.TheVariants.{RootPlace, RowsRefused, Full}
-use Rattle.space_builder.specs.declared.built.RowsWhy.{RowsWhy}
+use Rattle.row_store.specs.declared.stop.RowsWhy.{RowsWhy}
 use Rattle.space_builder.specs.build.Build.{Builds, HoldsLayout, OfRows}
 use Rattle.space_builder.specs.build.Laws.{GoodTextsBuildValid}
-use Rattle.space_builder.specs.build.BadLine.{BadRow, RootOrderChecks, RowChecks, RowsChecks, AreRowsOf}
+use Rattle.row_store.specs.BadLine.{BadRow, RowChecks, RowsChecks, AreRowsOf}
+use Rattle.space_builder.specs.build.RootOrder.{RootOrderChecks}
 use Rattle.sample_table.specs.Sample.{sample_table, sample_rows}
 use Rattle.sample_table.specs.Answers.{IsSampleFile, bytes_of}
 use Rattle.sample_table.proofs.Table.{is_table, roots_in_order}

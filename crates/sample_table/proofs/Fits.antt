@@ -27,7 +27,7 @@ use Rattle.row_layout.specs.StoredRow.{Stored, kept, stored_row, stored_value, f
 use Rattle.row_layout.specs.StoredRow.{size_of_row}
 use Rattle.row_layout.specs.StoredRow.{parts_of_row, part_of_field, going_lengths, greatest, longest_off, with_off}
 use Rattle.row_layout.specs.StoredRow.{is_null_value}
-use Rattle.space_builder.specs.layout.Laws.{HaveFittedRows}
+use Rattle.row_store.specs.StoredRows.{HaveFittedRows}
 use Rattle.sample_table.specs.Sample.{tag_column, note_column, sample_table, sample_tag, sample_note, sample_row}
 use Rattle.sample_table.specs.Sample.{sample_rows}
 use Rattle.sample_table.proofs.Letters.{IsPlainValue, tag_plain}

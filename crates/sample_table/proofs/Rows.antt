@@ -13,7 +13,7 @@ use Rattle.column_values.proofs.Bytes.{worth, worth_orders, worth-be_bytes, are_
 use Rattle.schema_text.specs.IndexFields.{leaf_fields}
 use Rattle.row_text.specs.Line.{FitsColumn, IsTableRow}
 use Rattle.row_layout.specs.RowKeys.{AreTableRows, RowsRise}
-use Rattle.space_builder.specs.build.BadLine.{IsKeyBelow}
+use Rattle.row_store.specs.BadLine.{IsKeyBelow}
 use Rattle.sample_table.specs.Sample.{id_column, tag_column, note_column, sample_table, sample_tag, sample_note}
 use Rattle.sample_table.specs.Sample.{sample_row}
 use Rattle.sample_table.specs.Sample.{sample_rows}

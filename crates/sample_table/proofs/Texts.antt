@@ -16,10 +16,9 @@ use Rattle.row_text.specs.Line.{IsLineOf, text_of}
 use Rattle.row_text.specs.Laws.{HasOneRow}
 use Rattle.row_layout.specs.StoredRow.{fitted_row}
 use Rattle.row_layout.specs.RowKeys.{RowsRise}
-use Rattle.space_builder.specs.layout.Layout.{Rows}
-use Rattle.space_builder.specs.layout.Laws.{HaveFittedRows}
-use Rattle.space_builder.specs.build.BadLine.{pieces_of, row_lines, line_at, line_length, line_end, feed_length}
-use Rattle.space_builder.specs.build.BadLine.{IsWholeLine, IsKeyBelow, IsInOrder, HasFittedRow, RowChecks, AreRowsOf}
+use Rattle.row_store.specs.StoredRows.{Rows, HaveFittedRows}
+use Rattle.row_store.specs.BadLine.{pieces_of, row_lines, line_at, line_length, line_end, feed_length}
+use Rattle.row_store.specs.BadLine.{IsWholeLine, IsKeyBelow, IsInOrder, HasFittedRow, RowChecks, AreRowsOf}
 
 -- rows that may be built, and their lines without LF
 pub record HaveLines (table : TableDef) (rows : Rows) (lines : List (List ℕ)) : Type 0 where

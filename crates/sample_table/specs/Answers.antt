@@ -4,7 +4,8 @@ use Rattle.page_source.specs.Objects.{file_of}
 use Rattle.page_source.specs.Sources.{SparseFile}
 use Rattle.table_check.specs.Rows.{AreRows}
 use Rattle.table_check.specs.Valid.{IsValid}
-use Rattle.space_builder.specs.layout.Layout.{Rows, FitsSpace, layout_extents, layout_file}
+use Rattle.row_store.specs.StoredRows.{Rows}
+use Rattle.space_builder.specs.layout.Layout.{FitsSpace, layout_extents, layout_file}
 use Rattle.sample_table.specs.declared.made.SampleStop.{SampleStop}
 use Rattle.sample_table.specs.declared.made.SampleStop.TheVariants.{Full, Memory}
 use Rattle.sample_table.specs.Sample.{sample_table, sample_rows}

@@ -13,7 +13,8 @@ use Rattle.schema_text.specs.declared.table.IndexDef.{IndexDef}
 use Rattle.schema_text.specs.TableDef.{TableDef}
 use Rattle.row_text.specs.Line.{text_of}
 use Rattle.table_check.specs.First.{IsChecked}
-use Rattle.space_builder.specs.layout.Layout.{Rows, FitsSpace, layout_extents, layout_file}
+use Rattle.row_store.specs.StoredRows.{Rows}
+use Rattle.space_builder.specs.layout.Layout.{FitsSpace, layout_extents, layout_file}
 use Rattle.sample_table.specs.declared.made.Sample.{Sample}
 use Rattle.sample_table.specs.declared.made.SampleStop.{SampleStop}
 use Rattle.sample_table.specs.declared.made.SampleStop.TheVariants.{Full, Memory}

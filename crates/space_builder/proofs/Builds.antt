@@ -1,6 +1,6 @@
 -- What a build answers at each of its ends.
 use Rattle.std.proofs.Common.{◌≡◌, ℕ, ◌≤◌, List, [], length, None, Result, Ok, Err, refl, inl, inr}
-use Rattle.std.proofs.Common.{ap, ◌∙◌, unwrap_or, slice_index_or}
+use Rattle.std.proofs.Common.{ap, ◌∙◌, unwrap_or, slice_index_or, arith}
 use Rattle.std.specs.FinMap.{get, get-empty}
 use Rattle.std.specs.Option.{is_some}
 use Rattle.std.specs.Ordering.{nat_cmp}
@@ -12,6 +12,8 @@ use Rattle.page_source.proofs.Told.{told1}
 use Rattle.schema_text.specs.Grammar.{IsTable}
 use Rattle.schema_text.specs.TableDef.{TableDef}
 use Rattle.row_layout.specs.StoredRow.{Stored, fitted_row}
+use Rattle.row_store.specs.declared.stop.RowsStop.{RowsStop}
+use Rattle.row_store.specs.declared.stop.RowsStop.TheVariants as reads
 use Rattle.space_builder.specs.declared.built.Built.{Built}
 use Rattle.space_builder.specs.declared.built.BuildStop.{BuildStop}
 use Rattle.space_builder.specs.declared.built.BuildStop.TheVariants as stops
@@ -20,16 +22,17 @@ use Rattle.space_builder.specs.declared.built.PutStop.TheVariants as puts
 use Rattle.space_builder.specs.declared.plan.PlanStop.{PlanStop}
 use Rattle.space_builder.specs.declared.space.Space.{Space}
 use Rattle.space_builder.specs.declared.plan.PlanStop.TheVariants as plans
-use Rattle.space_builder.specs.build.BadLine.{RootOrderChecks}
+use Rattle.space_builder.specs.build.RootOrder.{RootOrderChecks}
 use Rattle.space_builder.specs.build.Build.{AreRowsRead, Builds, ReadsText, BuildsWithCause, LacksHead}
 use Rattle.space_builder.specs.build.Build.{IsUncalledOrSized}
 use Rattle.space_builder.specs.calls.Plan.{AreOrders, FindsPlan}
-use Rattle.space_builder.specs.build.ReadRows.{AreReadRows, FindsRows}
+use Rattle.row_store.specs.ReadRows.{AreReadRows, FindsRows, ReadsRows}
 use Rattle.space_builder.specs.calls.Space.{IsSpaceOf, PutsSpace, LeavesSpace}
 use Rattle.space_builder.specs.calls.StoredRows.{AreStoredRows}
-use Rattle.space_builder.specs.calls.Stops.{stop_of_put, stop_of_plan}
+use Rattle.space_builder.specs.calls.Stops.{stop_of_rows, stop_of_put, stop_of_plan}
 use Rattle.space_builder.specs.layout.Laws.{CanBuild}
-use Rattle.space_builder.specs.layout.Layout.{Rows, FitsSpace, layout_size, stored_rows}
+use Rattle.row_store.specs.StoredRows.{Rows, stored_rows}
+use Rattle.space_builder.specs.layout.Layout.{FitsSpace, layout_size}
 
 -- a build ends so
 abbrev IsEnd : Result Built BuildStop → BuildStop → Type 0
@@ -42,24 +45,41 @@ fresh_lacks store fresh =
 
 module _ {R : Type 0} (g : TextOf R) (table : TableDef) (old new : R) where
   -- reading failed
-  pub read_failed : (stop : BuildStop) (store : Store) → RootOrderChecks table None → IsFresh store
-      → FindsRows g table old new (Err stop) → Builds table (g.left old) (Err stop) store store
-  read_failed (stops.RootPlace line) store roots fresh finds = absurd finds
-  read_failed (stops.RowsRefused line why) store roots fresh finds =
+  pub read_failed : (stop : RowsStop) (store : Store) → RootOrderChecks table None → IsFresh store
+      → FindsRows g table old new (Err stop) → Builds table (g.left old) (Err (stop_of_rows stop)) store store
+  read_failed (reads.Refused line why) store roots fresh finds =
       (roots, told1 (g.left old) (λ text found. found.0) finds, refl)
-  read_failed stops.Full store roots fresh finds = absurd finds
-  read_failed stops.Source store roots fresh finds = (roots, refl)
-  read_failed stops.Store store roots fresh finds = absurd finds
-  read_failed stops.Memory store roots fresh finds = fresh_lacks store fresh
+  read_failed reads.Source store roots fresh finds = (roots, refl)
+  read_failed reads.Memory store roots fresh finds = fresh_lacks store fresh
 
   -- and no more was read
-  pub read_short : (stop : BuildStop) → FindsRows g table old new (Err stop) → ReadsText g.left old new (Err stop)
-  read_short (stops.RootPlace line) finds = absurd finds
-  read_short (stops.RowsRefused line why) finds = told1 (g.left old) (λ text found. found.1) finds
-  read_short stops.Full finds = tt
-  read_short stops.Source finds = tt
-  read_short stops.Store finds = tt
-  read_short stops.Memory finds = tt
+  pub read_short : (stop : RowsStop) → FindsRows g table old new (Err stop)
+      → ReadsText g.left old new (Err (stop_of_rows stop))
+  read_short (reads.Refused line why) finds = told1 (g.left old) (λ text found. found.1) finds
+  read_short reads.Source finds = tt
+  read_short reads.Memory finds = tt
+
+  -- the text alone is blamed
+  pub read_cause : (store : ℕ) (stop : RowsStop) → ReadsRows g table old new (Err stop)
+      → BuildsWithCause (g.faults old) (g.faults new) store store (Err (stop_of_rows stop))
+  read_cause store (reads.Refused line why) ends = record {
+    source_later = ends.later;
+    store_later = omega arith;
+    source_rose = λ same. absurd (cc);
+    store_rose = λ same. absurd (cc);
+  }
+  read_cause store reads.Source ends = record {
+    source_later = ends.later;
+    store_later = omega arith;
+    source_rose = λ same. ends.rose refl;
+    store_rose = λ same. absurd (cc);
+  }
+  read_cause store reads.Memory ends = record {
+    source_later = ends.later;
+    store_later = omega arith;
+    source_rose = λ same. absurd (cc);
+    store_rose = λ same. absurd (cc);
+  }
 
   -- rows were read
   module _ (stored : List (List Stored)) (is_table : IsTable table) (roots : RootOrderChecks table None)

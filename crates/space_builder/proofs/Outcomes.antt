@@ -10,9 +10,10 @@ use Rattle.space_builder.specs.declared.built.BuildStop.{BuildStop}
 use Rattle.space_builder.specs.declared.built.BuildStop.TheVariants as stops
 use Rattle.space_builder.specs.declared.built.PutStop.{PutStop}
 use Rattle.space_builder.specs.declared.built.PutStop.TheVariants as puts
-use Rattle.space_builder.specs.layout.Layout.{Rows, FitsSpace, layout_extents}
-use Rattle.space_builder.specs.build.BadLine.{BadRow, RowChecks, RowsChecks, RootOrderChecks, AreRowsOf, row_lines}
-use Rattle.space_builder.specs.build.BadLine.{line_at}
+use Rattle.row_store.specs.StoredRows.{Rows}
+use Rattle.space_builder.specs.layout.Layout.{FitsSpace, layout_extents}
+use Rattle.row_store.specs.BadLine.{BadRow, RowChecks, RowsChecks, AreRowsOf, row_lines, line_at}
+use Rattle.space_builder.specs.build.RootOrder.{RootOrderChecks}
 use Rattle.space_builder.specs.build.Outcome.{ComesTo, RootsHaveOneAnswer, BuildHasOneOutcome, LeavesStore}
 use Rattle.space_builder.specs.calls.Stops.{stop_of_put}
 

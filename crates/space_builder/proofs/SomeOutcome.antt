@@ -5,8 +5,8 @@ use Rattle.std.specs.Option.{is_some}
 use Rattle.std.proofs.lemmas.Bool.{cases_lt}
 use Rattle.std.proofs.lemmas.List.{length_push, get_or_append_left, get_or_push}
 use Rattle.page_source.specs.Verdict.{AllBelow, Then}
-use Rattle.page_source.proofs.Decided.{IsDecided, same_decided, both_decided, given_decided, not_decided, number_decided}
-use Rattle.page_source.proofs.Decided.{below_decided, most_decided, truth_decided}
+use Rattle.page_source.proofs.Decided.{IsDecided, same_decided, both_decided, given_decided, not_decided}
+use Rattle.page_source.proofs.Decided.{number_decided, below_decided, most_decided, truth_decided}
 use Rattle.page_source.proofs.Answered.{HasAnswer, Check-answered, Then-answered, Each-answered, All-answered}
 use Rattle.column_values.specs.declared.value.Value.{Value}
 use Rattle.column_values.specs.Laws.{HasOneValue}
@@ -19,14 +19,15 @@ use Rattle.table_check.proofs.PageDecisions.{key_below}
 use Rattle.row_layout.specs.StoredRow.{fitted_row}
 use Rattle.row_layout.specs.RowKeys.{column_key}
 use Rattle.row_layout.specs.Laws.{ValuesFit}
-use Rattle.space_builder.specs.declared.built.RowsWhy.{RowsWhy}
-use Rattle.space_builder.specs.declared.built.RowsWhy.TheVariants.{Long, Input, Line, Order, Big}
+use Rattle.row_store.specs.declared.stop.RowsWhy.{RowsWhy}
+use Rattle.row_store.specs.declared.stop.RowsWhy.TheVariants.{Long, Input, Line, Order, Big}
 use Rattle.space_builder.specs.declared.built.BuildStop.{BuildStop}
 use Rattle.space_builder.specs.declared.built.BuildStop.TheVariants as stops
-use Rattle.space_builder.specs.layout.Layout.{Rows, layout_extents}
-use Rattle.space_builder.specs.build.BadLine.{BadRow, row_lines, pieces_of, line_at, line_length, line_end, IsWholeLine}
-use Rattle.space_builder.specs.build.BadLine.{IsKeyBelow, IsInOrder, HasFittedRow, RefusesRow, RowChecks, RowsChecks}
-use Rattle.space_builder.specs.build.BadLine.{RootOrderChecks, AreRowsOf}
+use Rattle.row_store.specs.StoredRows.{Rows}
+use Rattle.space_builder.specs.layout.Layout.{layout_extents}
+use Rattle.row_store.specs.BadLine.{BadRow, row_lines, pieces_of, line_at, line_length, line_end, IsWholeLine}
+use Rattle.row_store.specs.BadLine.{IsKeyBelow, IsInOrder, HasFittedRow, RefusesRow, RowChecks, RowsChecks, AreRowsOf}
+use Rattle.space_builder.specs.build.RootOrder.{RootOrderChecks}
 use Rattle.space_builder.specs.build.Outcome.{ComesTo, BuildHasAnOutcome}
 use Rattle.space_builder.proofs.building.LineRows.{line_decided}
 
@@ -35,7 +36,8 @@ module _ (value_one : HasOneValue) (fit : ValuesFit) (row_one : HasOneRow) (tabl
   whole_decided : (k : ℕ) → IsDecided (IsWholeLine table text k)
   whole_decided k =
       same_decided (λ h. record { feed = h.0; row = h.1.0; line = h.1.1 }) (λ h. (h.feed, (h.row, h.line)))
-      (both_decided (below_decided (k + 1) (length (pieces_of text))) (line_decided value_one fit table is (line_at text k)))
+      (both_decided (below_decided (k + 1) (length (pieces_of text)))
+      (line_decided value_one fit table is (line_at text k)))
 
   whole_of : (k : ℕ) → RowChecks table text k None → IsWholeLine table text k
   unfolding RowChecks

@@ -13,7 +13,8 @@ use Rattle.space_builder.specs.declared.space.Space.{Space}
 use Rattle.space_builder.specs.build.Puts.{PutsPages, numbers_of}
 use Rattle.space_builder.specs.calls.Room.{TakesPages}
 use Rattle.space_builder.specs.calls.Space.{IsSpaceOf, PutsSpace, pages_behind_head}
-use Rattle.space_builder.specs.layout.Layout.{Rows, segment_sizes, layout_size}
+use Rattle.row_store.specs.StoredRows.{Rows}
+use Rattle.space_builder.specs.layout.Layout.{segment_sizes, layout_size}
 use Rattle.space_builder.specs.layout.LowerLaws.{LowerLaws}
 use Rattle.space_builder.proofs.Builds.{fresh_lacks}
 use Rattle.space_builder.proofs.Puts.{all_put, keeps_same}

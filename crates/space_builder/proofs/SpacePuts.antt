@@ -22,7 +22,8 @@ use Rattle.schema_text.specs.TableDef.{TableDef}
 use Rattle.space_layout.specs.Numbers.{IsShape, space_pages}
 use Rattle.space_layout.specs.HeadPages.{header_page, bitmap_page, inode_page}
 use Rattle.space_layout.specs.NumberedPages.{Numbered, IsNumbered, numbered_pages, numbered_map}
-use Rattle.space_builder.specs.layout.Layout.{Rows, segment_sizes, segment_pages, system_pages, layout_size, layout_map}
+use Rattle.row_store.specs.StoredRows.{Rows}
+use Rattle.space_builder.specs.layout.Layout.{segment_sizes, segment_pages, system_pages, layout_size, layout_map}
 use Rattle.space_builder.specs.build.Build.{HoldsLayout, HoldsPart, LacksHead, IsSizedFor}
 use Rattle.space_builder.specs.build.Puts.{numbers_of, IsHeld, HaveOnePage}
 use Rattle.space_builder.specs.calls.Room.{TakesPages}

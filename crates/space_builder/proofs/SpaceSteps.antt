@@ -15,7 +15,8 @@ use Rattle.space_builder.specs.declared.space.Space.{Space}
 use Rattle.space_builder.specs.build.Puts.{HaveOnePage, PutsPages}
 use Rattle.space_builder.specs.calls.Room.{TakesPages, TakesValues, HasLeafPages, pages_behind, AreFirstPages}
 use Rattle.space_builder.specs.calls.Space.{IsSpaceOf, leaves_of, pages_behind_head}
-use Rattle.space_builder.specs.layout.Layout.{Rows, tree_counts, segment_sizes, value_counts, value_number, value_total}
+use Rattle.row_store.specs.StoredRows.{Rows}
+use Rattle.space_builder.specs.layout.Layout.{tree_counts, segment_sizes, value_counts, value_number, value_total}
 use Rattle.space_builder.specs.layout.Layout.{value_pages, trees_pages}
 use Rattle.space_builder.specs.layout.Layout.{segment_pages, system_pages}
 use Rattle.space_builder.specs.layout.LowerLaws.{LowerLaws}

@@ -29,7 +29,8 @@ use Rattle.space_builder.specs.calls.Space.{IsSpaceOf, IsTreeOf, leaves_of}
 use Rattle.space_builder.specs.calls.Order.{IsIndexOrder}
 use Rattle.space_builder.specs.calls.StoredRows.{NameSamePages, PicksEntries, SamePagesGiveRecords}
 use Rattle.space_builder.specs.calls.TreePlan.{IsPlan, CanPutTree, HasRoomFor, number_in, tree_pages}
-use Rattle.space_builder.specs.layout.Layout.{Rows, stored_rows, tree_counts, value_counts, segment_sizes, value_number}
+use Rattle.row_store.specs.StoredRows.{Rows, stored_rows}
+use Rattle.space_builder.specs.layout.Layout.{tree_counts, value_counts, segment_sizes, value_number}
 use Rattle.space_builder.specs.layout.Layout.{page_number, index_entries, index_levels, index_pages}
 use Rattle.space_builder.specs.layout.LowerLaws.{LowerLaws}
 use Rattle.space_builder.specs.layout.TreePage.{pages_of_tree}

@@ -1,17 +1,5 @@
 pub mod Good
 pub mod Texts
-pub mod Pieces
-pub mod GoodLines
-pub mod Refused
-pub mod Reading
-pub mod Ahead
-pub mod Spots
-pub mod Sizes
-pub mod Longest
-pub mod Shapes
-pub mod NextRows
-pub mod Ranges
-pub mod RowsIn
 pub mod PickedParts
 pub mod KeyOrders
 pub mod Columns

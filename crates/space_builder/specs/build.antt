@@ -1,6 +1,5 @@
-pub mod BadLine
+pub mod RootOrder
 pub mod Puts
-pub mod ReadRows
 pub mod Build
 pub mod Outcome
 pub mod Laws

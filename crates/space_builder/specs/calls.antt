@@ -1,15 +1,10 @@
 pub mod Stops
-pub mod Lines
-pub mod Stored
-pub mod Arena
 pub mod Picked
 pub mod Order
 pub mod Pointing
 pub mod TreePlan
 pub mod MakesRoom
 pub mod PutLaws
-pub mod RowFields
-pub mod NextRow
 pub mod StoredRows
 pub mod Plan
 pub mod Room

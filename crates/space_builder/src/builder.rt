@@ -3,15 +3,15 @@
 ghost use Rattle.std.specs.Prelude.{◌≡◌, Err};
 ghost use Rattle.page_source.specs.Objects.{IsFresh};
 ghost use Rattle.schema_text.specs.Grammar.{IsTable};
-ghost use Rattle.space_builder.specs.build.BadLine.{RootOrderChecks};
+ghost use Rattle.space_builder.specs.build.RootOrder.{RootOrderChecks};
 ghost use Rattle.space_builder.specs.build.Build.{Builds, BuildsWithCause, ReadsText, IsUncalledOrSized};
 ghost use Rattle.space_builder.specs.build.Outcome.{LeavesStore};
 
 use crate::built::{BuildStop, Built};
 use crate::plan::{plan_space, row_orders};
-use crate::read_rows::read_rows;
 use crate::space::Space;
 use page_source::{ByteSource, PageStore, Steps};
+use row_store::read_rows;
 use schema_text::Schema;
 use std::alloc::Global;
 use std::sync::ledger::Ledger;

@@ -1,12 +1,11 @@
 //! What a build answers.
 
 ghost use Rattle.std.specs.Prelude.{◌≡◌};
-ghost use Rattle.space_builder.specs.calls.Stops.{stop_of_read, stop_of_row, stop_of_put, stop_of_plan};
+ghost use Rattle.space_builder.specs.calls.Stops.{stop_of_rows, stop_of_put, stop_of_plan};
 
 use crate::plan::PlanStop;
 use page_source::{Failed, NoMemory};
-use row_text::RowError;
-use std::alloc::AllocError;
+use row_store::{RowsStop, RowsWhy};
 use thiserror::Error;
 
 /// A tablespace that was built.
@@ -16,21 +15,6 @@ pub struct Built {
     pub pages: u32,
     /// How many rows the tablespace has.
     pub rows: u64,
-}
-
-/// Why a line of rows is refused; the first of these that holds.
-#[derive(Clone, Copy, Debug, PartialEq, Eq)]
-pub enum RowsWhy {
-    /// The line has more than 16,777,216 bytes, its LF counted.
-    Long,
-    /// The line holds byte 4,294,967,297 of the text.
-    Input,
-    /// The line is that of no row of the table, or it is the last one and has no LF.
-    Line,
-    /// The clustered key of the line isn't greater than that of the line before.
-    Order,
-    /// The record of the line is too long, and no column may go off the page.
-    Big,
 }
 
 /// What ends a build before it is done.
@@ -66,77 +50,15 @@ impl From<NoMemory> for BuildStop {
     }
 }
 
-/// What ends the reading of a text.
-#[derive(Clone, Copy, Debug, PartialEq, Eq, Error)]
-pub(crate) enum ReadStop {
-    /// The text can't be read.
-    #[error("the text can't be read")]
-    Source,
-    /// Memory ran out.
-    #[error("out of memory")]
-    Memory,
-}
+impl From<RowsStop> for BuildStop {
+    ghost from_gives = { λ rows stop. stop ≡ stop_of_rows rows };
 
-impl From<Failed> for ReadStop {
-    ghost use Rattle.space_builder.specs.declared.built.ReadStop.{ReadStop};
-
-    ghost from_gives = { λ _ stop. stop ≡ ReadStop.Source };
-
-    fn from(_: Failed) -> Self {
-        ReadStop::Source
-    }
-}
-
-impl From<AllocError> for ReadStop {
-    ghost use Rattle.space_builder.specs.declared.built.ReadStop.{ReadStop};
-
-    ghost from_gives = { λ _ stop. stop ≡ ReadStop.Memory };
-
-    fn from(_: AllocError) -> Self {
-        ReadStop::Memory
-    }
-}
-
-impl From<ReadStop> for BuildStop {
-    ghost from_gives = { λ read stop. stop ≡ stop_of_read read };
-
-    fn from(stop: ReadStop) -> Self {
+    fn from(stop: RowsStop) -> Self {
         match stop {
-            ReadStop::Source => BuildStop::Source,
-            ReadStop::Memory => BuildStop::Memory,
+            RowsStop::Refused { line, why } => BuildStop::RowsRefused { line, why },
+            RowsStop::Source => BuildStop::Source,
+            RowsStop::Memory => BuildStop::Memory,
         }
-    }
-}
-
-/// What ends the adding of a row.
-#[derive(Clone, Copy, Debug, PartialEq, Eq, Error)]
-pub(crate) enum RowStop {
-    /// The line of the row is refused.
-    #[error("the line is refused")]
-    Refused(RowsWhy),
-    /// Memory ran out.
-    #[error("out of memory")]
-    Memory,
-}
-
-impl From<RowError> for RowStop {
-    ghost from_gives = { λ error stop. stop ≡ stop_of_row error };
-
-    fn from(error: RowError) -> Self {
-        match error {
-            RowError::Refused => RowStop::Refused(RowsWhy::Line),
-            RowError::Memory => RowStop::Memory,
-        }
-    }
-}
-
-impl From<NoMemory> for RowStop {
-    ghost use Rattle.space_builder.specs.declared.built.RowStop.{RowStop};
-
-    ghost from_gives = { λ _ stop. stop ≡ RowStop.Memory };
-
-    fn from(_: NoMemory) -> Self {
-        RowStop::Memory
     }
 }
 

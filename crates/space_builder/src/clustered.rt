@@ -6,10 +6,10 @@ ghost use Rattle.row_layout.specs.HoldsValues.{stored_in, clustered_entry};
 ghost use Rattle.space_builder.specs.calls.Picked.{first_page_in, clustered_part};
 
 use crate::entries::{Entries, Leaves};
-use crate::stored::StoredRows;
 use compact_record::Parts;
 use offpage_chain::{Reference, write_reference};
 use page_source::{ByteList, NoMemory};
+use row_store::StoredRows;
 use schema_text::Format;
 use std::alloc::Global;
 

@@ -1,22 +1,20 @@
 //! The rows in the order of their entries in an index.
 
 ghost use Rattle.std.specs.Prelude.{◌≡◌, ◌<◌, ◌≤◌, ◌==◌, ◌++◌, IfOk, OnOk, All, length, map, slice_index_or};
-ghost use Rattle.std.specs.Option.{option_copied};
-ghost use Rattle.std.specs.List.{list_any};
 ghost use Rattle.column_values.specs.Types.{field_at};
-ghost use Rattle.column_values.specs.Order.{cell_cmp, key_cmp};
+ghost use Rattle.column_values.specs.Order.{key_cmp};
 ghost use Rattle.compact_record.specs.Reading.{key_kinds};
 ghost use Rattle.schema_text.specs.Grammar.{IsTable};
 ghost use Rattle.schema_text.specs.TableDef.{index_at};
-ghost use Rattle.schema_text.specs.IndexFields.{positions_without, fields_of_columns};
+ghost use Rattle.schema_text.specs.IndexFields.{positions_without};
 ghost use Rattle.row_layout.specs.HoldsValues.{stored_in};
 ghost use Rattle.space_builder.specs.calls.Picked.{picked_key, entry_fields};
 ghost use Rattle.space_builder.specs.calls.Order.{IsKeyOrder, IsIndexOrder};
 
-use crate::stored::StoredRows;
-use column_values::{Field, FieldList, FieldType, compare};
+use column_values::{Field, FieldList, FieldType};
 use key_ranks::{RowKeys, order_of_rows};
 use page_source::NoMemory;
+use row_store::{StoredRows, compare_values, is_among};
 use schema_text::{Schema, column_fields};
 use std::alloc::Global;
 use std::cmp::Ordering;
@@ -39,18 +37,6 @@ impl<'a> Model for IndexKeys<'a> {
     ghost view = { λ k. record { list = k.list.now; fields = k.fields.now; rows = k.rows.now } };
 
     ghost invariant = { λ k. PicksKeys k.list.now k.fields.now };
-}
-
-/// The order of two values that may be null.
-pub(crate) fn compare_values(kind: &FieldType, a: Option<&[u8]>, b: Option<&[u8]>) -> Ordering
-    ensures { result ≡ cell_cmp kind.now (option_copied a.entry) (option_copied b.entry) }
-{
-    match (a, b) {
-        (Some(a), Some(b)) => compare(kind, a, b),
-        (Some(_), None) => Ordering::Greater,
-        (None, Some(_)) => Ordering::Less,
-        (None, None) => Ordering::Equal,
-    }
 }
 
 fn kind_at(list: &FieldList, i: usize) -> FieldType
@@ -141,13 +127,6 @@ fn order_of_keys(
     let order = order_of_rows(alloc, &keys, rows.count())?;
     let numbers = narrowed(alloc, &order)?;
     Ok(numbers)
-}
-
-/// Whether the column is among these.
-pub(crate) fn is_among(columns: &[u16], column: usize) -> bool
-    ensures { result ≡ list_any (λ j. j == column) columns.now }
-{
-    columns.iter().any(|c| usize::from(*c) == column)
 }
 
 /// Adds the fields of those of the columns that aren't among the others.

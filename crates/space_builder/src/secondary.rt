@@ -6,9 +6,9 @@ ghost use Rattle.row_layout.specs.HoldsValues.{stored_in};
 ghost use Rattle.space_builder.specs.calls.Picked.{whole_part, picked_entry};
 
 use crate::entries::{Entries, Leaves};
-use crate::stored::StoredRows;
 use compact_record::Parts;
 use page_source::NoMemory;
+use row_store::StoredRows;
 use std::alloc::Global;
 
 /// The entries of an index: some fields of the rows, which are in some order.

@@ -14,9 +14,9 @@ ghost use Rattle.space_builder.specs.calls.Room.{first_page, row_first_pages, pa
 ghost use Rattle.space_builder.specs.calls.Room.{KeepsRow, TakesRow, TakesValues};
 
 use crate::built::PutStop;
-use crate::stored::StoredRows;
 use offpage_chain::write_chain;
 use page_source::{NoMemory, Page, PageStore};
+use row_store::StoredRows;
 use schema_text::Format;
 use space_layout::laws::numbers_differ;
 use space_layout::segment_page;

@@ -1,35 +1,22 @@
 -- Where a column stands among the fields of a row that is stored.
 use Rattle.std.proofs.Common.{◌≡◌, ◌==◌, ℕ, suc, ◌+◌, ◌<◌, ◌||◌, Bool, true, false, cond, not, List, [], ◌∷◌, ◌++◌}
-use Rattle.std.proofs.Common.{length, map, replicate, get_or, All, Contains, Option, refl, sym, ap, ◌∙◌, subst}
+use Rattle.std.proofs.Common.{length, map, replicate, get_or, All, Contains, refl, sym, ap, ◌∙◌, subst}
 use Rattle.std.proofs.Common.{arith}
 use Rattle.std.proofs.Common.{inl, inr}
-use Rattle.std.specs.List.{list_any, range_with_len, position_or_len, cons_option}
+use Rattle.std.specs.List.{list_any, range_with_len, position_or_len}
 use Rattle.std.proofs.lemmas.Bool.{eqb-true, eq-eqb, false≢true, cases_lt, ne_eqb}
 use Rattle.std.proofs.lemmas.Bool.Decides.{eqb_tells}
-use Rattle.std.proofs.lemmas.Option.{slice_get-get_or}
 use Rattle.std.proofs.lemmas.List.{get_or_append_left, get_or-append-add, get_or-map, length-map}
-use Rattle.std.proofs.lemmas.List.Elements.{All-head, All-tail, at_from_Contains}
+use Rattle.std.proofs.lemmas.List.Elements.{at_from_Contains}
 use Rattle.std.proofs.lemmas.List.Sums.{fails_before_first, passes_at_first}
 use Rattle.page_source.proofs.Members.{contains_here, contains_there, contains_filter, contains_range}
-use Rattle.column_values.specs.declared.kind.ColumnType.TheVariants.{Int}
 use Rattle.column_values.specs.declared.value.Value.{Value}
-use Rattle.schema_text.specs.declared.table.Column.{Column}
 use Rattle.schema_text.specs.TableDef.{TableDef}
 use Rattle.schema_text.specs.Grammar.{IsTable}
 use Rattle.schema_text.specs.IndexFields.{columns_at, kept_at, kept_field, row_id_field, clustered_key}
 use Rattle.schema_text.specs.IndexFields.{clustered_positions, other_positions, field_of_column}
+use Rattle.schema_text.proofs.ColumnFields.{length_known}
 use Rattle.row_layout.specs.StoredRow.{Stored, stored_at, stored_column, stored_key, stored_row, row_id, kept}
-
--- columns at known positions, one for each
-pub length_known : (columns : List Column) (positions : List ℕ) → All (λ i. i < length columns) positions
-    → length (columns_at columns positions) ≡ length positions
-length_known columns [] known = refl
-length_known columns (p ∷ positions) known =
-    let here : p < length columns = All-head (λ i. i < length columns) p positions known in
-    let none : Column = get_or columns p (record { name = []; kind = Int 1 false; nullable = false }) in
-    ap (λ (o : Option Column). length (cons_option o (columns_at columns positions)))
-    (slice_get-get_or columns p none here)
-    ∙ ap suc (length_known columns positions (All-tail (λ i. i < length columns) p positions known))
 
 abbrev place_among : List ℕ → ℕ → ℕ
 place_among list c = position_or_len (λ i. i == c) list

@@ -7,10 +7,9 @@ use Rattle.std.proofs.lemmas.List.{length-take-le}
 use Rattle.std.proofs.lemmas.List.Sums.{sum_by-cons}
 use Rattle.schema_text.specs.TableDef.{TableDef}
 use Rattle.row_text.specs.Line.{IsLineOf}
-use Rattle.space_builder.specs.layout.Layout.{Rows}
+use Rattle.row_store.specs.StoredRows.{Rows}
 use Rattle.space_builder.specs.layout.Laws.{CanBuild}
-use Rattle.space_builder.specs.build.BadLine.{row_lines, line_at, line_end, IsWholeLine, IsInOrder, RowChecks}
-use Rattle.space_builder.specs.build.BadLine.{HasFittedRow}
+use Rattle.row_store.specs.BadLine.{row_lines, line_at, line_end, IsWholeLine, IsInOrder, RowChecks, HasFittedRow}
 use Rattle.space_builder.specs.build.Laws.{IsGoodText, GoodTextsCanBuild}
 
 -- the lines before one have a byte each, at least

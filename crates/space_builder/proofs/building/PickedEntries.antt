@@ -30,15 +30,16 @@ use Rattle.row_layout.specs.Laws.{FittedRowsAreRows}
 use Rattle.row_layout.specs.HoldsValues.{AreFitted, stored_in, clustered_entry, clustered_entries}
 use Rattle.row_layout.specs.SecondaryEntries.{secondary_entry, row_entries, secondary_entries}
 use Rattle.row_layout.specs.EntryLaws.{EntriesDiffer}
-use Rattle.space_builder.specs.layout.Layout.{Rows, value_number, index_entries}
-use Rattle.space_builder.specs.calls.Stored.{value_of}
+use Rattle.row_store.specs.StoredRows.{Rows, value_of}
+use Rattle.space_builder.specs.layout.Layout.{value_number, index_entries}
 use Rattle.space_builder.specs.calls.Picked.{whole_part, picked_entry, picked_key, picked_entries, entry_fields}
 use Rattle.space_builder.specs.calls.Picked.{hidden_fields, clustered_part}
 use Rattle.space_builder.specs.calls.StoredRows.{PicksEntries, SamePagesGiveRecords}
 use Rattle.space_builder.specs.calls.StoredRows.{StoredRowsGiveEntries}
 use Rattle.space_builder.proofs.layout.FittedRows.{fitted_if}
-use Rattle.space_builder.proofs.building.Columns.{length_known, column_stored}
-use Rattle.space_builder.proofs.building.Ranges.{map_ranges}
+use Rattle.schema_text.proofs.ColumnFields.{length_known}
+use Rattle.space_builder.proofs.building.Columns.{column_stored}
+use Rattle.row_store.proofs.Ranges.{map_ranges}
 
 abbrev IsColumn : TableDef → ℕ → Type 0
 IsColumn table c = c < length table.columns

@@ -29,7 +29,8 @@ use Rattle.space_builder.specs.declared.plan.IndexPages.{IndexPages}
 use Rattle.space_builder.specs.declared.plan.SpacePlan.{SpacePlan}
 use Rattle.space_builder.specs.declared.plan.PlanStop.{PlanStop}
 use Rattle.space_builder.specs.declared.plan.PlanStop.TheVariants as stops
-use Rattle.space_builder.specs.layout.Layout.{Rows, stored_rows, entries_with, tree_counts, value_counts, value_total}
+use Rattle.row_store.specs.StoredRows.{Rows, stored_rows}
+use Rattle.space_builder.specs.layout.Layout.{entries_with, tree_counts, value_counts, value_total}
 use Rattle.space_builder.specs.layout.Layout.{index_sizes, segment_sizes, layout_extents}
 use Rattle.space_builder.specs.layout.LowerLaws.{LowerLaws}
 use Rattle.space_builder.specs.calls.Picked.{first_page_in, picked_entries, entry_fields}

@@ -7,7 +7,7 @@ use Rattle.std.proofs.lemmas.List.{append-nil}
 use Rattle.std.proofs.lemmas.List.Splits.{join_with_byte-slice_split, length-slice_split}
 use Rattle.schema_text.specs.Grammar.{line_feed}
 use Rattle.row_text.specs.Line.{line_of, text_of}
-use Rattle.space_builder.specs.build.BadLine.{pieces_of, last_piece, row_lines, HasFeed, RowChecks}
+use Rattle.row_store.specs.BadLine.{pieces_of, last_piece, row_lines, HasFeed, RowChecks}
 use Rattle.space_builder.specs.build.Laws.{GoodTextsAreOfRows}
 
 abbrev with_feed : List ℕ → List ℕ

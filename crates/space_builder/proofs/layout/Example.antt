@@ -30,7 +30,8 @@ use Rattle.row_layout.specs.StoredRow.{stored_row, parts_of_row, fitted_row}
 use Rattle.row_layout.specs.HoldsValues.{clustered_entries}
 use Rattle.row_layout.specs.RowKeys.{RowsRise}
 use Rattle.row_layout.specs.SecondaryEntries.{secondary_entry, row_entries, secondary_entries}
-use Rattle.space_builder.specs.layout.Layout.{Rows, stored_rows, tree_counts, value_counts, segment_sizes}
+use Rattle.row_store.specs.StoredRows.{Rows, stored_rows}
+use Rattle.space_builder.specs.layout.Layout.{tree_counts, value_counts, segment_sizes}
 use Rattle.space_builder.specs.layout.Layout.{layout_extents}
 use Rattle.space_builder.specs.layout.Laws.{CanBuild}
 

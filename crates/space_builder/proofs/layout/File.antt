@@ -19,7 +19,8 @@ use Rattle.space_layout.specs.Holds.{HoldsSpace, HasSegments}
 use Rattle.space_layout.specs.Laws.{ArePlain}
 use Rattle.space_layout.specs.ValuePlaces.{value_place, IsPart}
 use Rattle.tree_layout.specs.Places.{segment_for, place_for, leaf_size, IsTreePlace}
-use Rattle.space_builder.specs.layout.Layout.{Rows, tree_counts, value_counts, segment_sizes, value_number}
+use Rattle.row_store.specs.StoredRows.{Rows}
+use Rattle.space_builder.specs.layout.Layout.{tree_counts, value_counts, segment_sizes, value_number}
 use Rattle.space_builder.specs.layout.Layout.{page_number, layout_tree_page, layout_value_page}
 use Rattle.space_builder.specs.layout.Layout.{segment_pages, layout_map, layout_file}
 use Rattle.space_builder.specs.layout.LowerLaws.{LowerLaws}

@@ -7,9 +7,9 @@ use Rattle.std.proofs.lemmas.List.FromFn.{get_or-map-range_with_len, length-map-
 use Rattle.schema_text.specs.TableDef.{TableDef}
 use Rattle.row_layout.specs.StoredRow.{Stored, fitted_row}
 use Rattle.row_layout.specs.HoldsValues.{AreFitted}
-use Rattle.space_builder.specs.layout.Layout.{Rows, stored_rows}
+use Rattle.row_store.specs.StoredRows.{Rows, stored_rows, HaveFittedRows}
 use Rattle.row_layout.specs.RowKeys.{AreTableRows}
-use Rattle.space_builder.specs.layout.Laws.{CanBuild, HaveFittedRows}
+use Rattle.space_builder.specs.layout.Laws.{CanBuild}
 
 some_is : {A : Type 0} (o : Option A) (d : A) → is_some o ≡ true → o ≡ Some (unwrap_or o d)
 some_is None d some = absurd (false≢true some)

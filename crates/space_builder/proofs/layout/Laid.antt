@@ -22,7 +22,8 @@ use Rattle.tree_layout.specs.Places.{segment_for, place_for, leaf_size, IsTreePl
 use Rattle.tree_layout.specs.PlaceLaws.{StandApart, FillPlaces}
 use Rattle.row_layout.specs.StoredRow.{Stored, stored_at}
 use Rattle.row_layout.specs.HoldsValues.{stored_in, pages_of_stored, pages_for, blob_part, next_number}
-use Rattle.space_builder.specs.layout.Layout.{Rows, stored_rows, tree_counts, value_counts, segment_sizes}
+use Rattle.row_store.specs.StoredRows.{Rows, stored_rows}
+use Rattle.space_builder.specs.layout.Layout.{tree_counts, value_counts, segment_sizes}
 use Rattle.space_builder.specs.layout.Layout.{value_number, page_number, index_entries, index_levels, layout_tree_page}
 use Rattle.space_builder.specs.layout.Layout.{field_bytes, layout_value_page}
 use Rattle.space_builder.specs.layout.LowerLaws.{LowerLaws}

@@ -12,9 +12,10 @@ use Rattle.space_layout.specs.NumberedPages.{Numbered, IsNumbered, AreSegmentPag
 use Rattle.space_layout.specs.ValuePlaces.{IsPart}
 use Rattle.tree_layout.specs.Levels.{width_at}
 use Rattle.tree_layout.specs.Places.{place_for, leaf_size, IsTreePlace}
-use Rattle.space_builder.specs.layout.Layout.{Rows, tree_counts, value_counts, value_total, segment_sizes, value_number}
+use Rattle.row_store.specs.StoredRows.{Rows, stored_rows}
+use Rattle.space_builder.specs.layout.Layout.{tree_counts, value_counts, value_total, segment_sizes, value_number}
 use Rattle.space_builder.specs.layout.Layout.{page_number, index_levels, layout_tree_page, level_pages, index_pages}
-use Rattle.space_builder.specs.layout.Layout.{stored_rows, layout_value_page, value_pages, segment_pages}
+use Rattle.space_builder.specs.layout.Layout.{layout_value_page, value_pages, segment_pages}
 use Rattle.space_builder.specs.layout.ValuePage.{pages_of_field, pages_of_row, pages_of_values}
 use Rattle.row_layout.specs.StoredRow.{Stored, stored_at}
 use Rattle.row_layout.specs.HoldsValues.{stored_in, pages_of_stored}

@@ -15,7 +15,8 @@ use Rattle.tree_layout.specs.DivisionLaws.{AreTheLevels}
 use Rattle.tree_layout.specs.Levels.{width_at, top_of}
 use Rattle.tree_layout.specs.Places.{top_size, leaf_size, FitsSegments}
 use Rattle.space_builder.proofs.Lists.{all_map}
-use Rattle.space_builder.specs.layout.Layout.{Rows, stored_rows, entries_with, tree_counts, value_total, index_sizes}
+use Rattle.row_store.specs.StoredRows.{Rows, stored_rows}
+use Rattle.space_builder.specs.layout.Layout.{entries_with, tree_counts, value_total, index_sizes}
 use Rattle.space_builder.specs.layout.Layout.{segment_sizes}
 use Rattle.space_builder.specs.layout.LowerLaws.{LowerLaws}
 use Rattle.space_builder.specs.layout.Laws.{CanBuild}

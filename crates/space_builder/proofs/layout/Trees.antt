@@ -28,7 +28,8 @@ use Rattle.tree_layout.specs.Divided.{counts_for, numbers_for, levels_for, Names
 use Rattle.tree_layout.specs.Divided.{HasPages, HoldsDivided}
 use Rattle.tree_layout.specs.HeldLaws.{HasItsRows}
 use Rattle.space_builder.specs.layout.TreePage.{heads_of, heads_on, fields_of_level}
-use Rattle.space_builder.specs.layout.Layout.{Rows, tree_counts, segment_sizes, value_number, page_number}
+use Rattle.row_store.specs.StoredRows.{Rows}
+use Rattle.space_builder.specs.layout.Layout.{tree_counts, segment_sizes, value_number, page_number}
 use Rattle.space_builder.specs.layout.Layout.{index_entries}
 use Rattle.space_builder.specs.layout.Layout.{index_levels, layout_tree_page, layout_file}
 use Rattle.space_builder.specs.layout.LowerLaws.{LowerLaws}

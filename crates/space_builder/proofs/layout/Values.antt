@@ -28,7 +28,8 @@ use Rattle.row_layout.specs.StoredRow.{Stored, stored_at}
 use Rattle.row_layout.specs.HoldsValues.{stored_in, pages_of_stored, pages_for, blob_part, next_number, HoldsValuePart}
 use Rattle.row_layout.specs.HoldsValues.{HoldsRows, HaveOwnPages, HasNoOthers, IsValuePage}
 use Rattle.row_layout.specs.HoldsValues.{clustered_entries}
-use Rattle.space_builder.specs.layout.Layout.{Rows, stored_rows, tree_counts, value_counts, value_total}
+use Rattle.row_store.specs.StoredRows.{Rows, stored_rows}
+use Rattle.space_builder.specs.layout.Layout.{tree_counts, value_counts, value_total}
 use Rattle.space_builder.specs.layout.Layout.{segment_sizes, value_number, index_entries, field_bytes}
 use Rattle.space_builder.specs.layout.Layout.{layout_value_page}
 use Rattle.space_builder.specs.layout.Layout.{layout_file}

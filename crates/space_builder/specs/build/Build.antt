@@ -9,9 +9,11 @@ use Rattle.schema_text.specs.TableDef.{TableDef}
 use Rattle.space_builder.specs.declared.built.Built.{Built}
 use Rattle.space_builder.specs.declared.built.BuildStop.{BuildStop}
 use Rattle.space_builder.specs.declared.built.BuildStop.TheVariants as stops
-use Rattle.space_builder.specs.layout.Layout.{Rows, FitsSpace, layout_extents, layout_size, layout_map}
-use Rattle.space_builder.specs.build.BadLine.{RootOrderChecks, RowsChecks, AreRowsOf}
-use Rattle.space_builder.specs.build.ReadRows.{AreGoodRows, ReadsNear}
+use Rattle.row_store.specs.StoredRows.{Rows}
+use Rattle.space_builder.specs.layout.Layout.{FitsSpace, layout_extents, layout_size, layout_map}
+use Rattle.space_builder.specs.build.RootOrder.{RootOrderChecks}
+use Rattle.row_store.specs.BadLine.{RowsChecks, AreRowsOf}
+use Rattle.row_store.specs.ReadRows.{AreGoodRows, ReadsNear}
 
 -- the store has the layout's size, and holds its pages
 pub record HoldsLayout (table : TableDef) (rows : Rows) (before now : Store) : Type 0 where

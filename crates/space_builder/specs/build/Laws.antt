@@ -5,9 +5,11 @@ use Rattle.schema_text.specs.Grammar.{IsTable}
 use Rattle.table_check.specs.Rows.{AreRows}
 use Rattle.table_check.specs.Valid.{IsValid}
 use Rattle.row_text.specs.Line.{text_of}
-use Rattle.space_builder.specs.layout.Layout.{Rows, FitsSpace, layout_file}
+use Rattle.row_store.specs.StoredRows.{Rows}
+use Rattle.space_builder.specs.layout.Layout.{FitsSpace, layout_file}
 use Rattle.space_builder.specs.layout.Laws.{CanBuild}
-use Rattle.space_builder.specs.build.BadLine.{RootOrderChecks, AreRowsOf}
+use Rattle.space_builder.specs.build.RootOrder.{RootOrderChecks}
+use Rattle.row_store.specs.BadLine.{AreRowsOf}
 
 -- a schema and a text whose rows can be built
 pub record IsGoodText (table : TableDef) (text : List ℕ) (rows : Rows) : Type 0 where

@@ -5,8 +5,10 @@ use Rattle.schema_text.specs.Grammar.{IsTable}
 use Rattle.space_builder.specs.declared.built.Built.{Built}
 use Rattle.space_builder.specs.declared.built.BuildStop.{BuildStop}
 use Rattle.space_builder.specs.declared.built.BuildStop.TheVariants as stops
-use Rattle.space_builder.specs.layout.Layout.{Rows, FitsSpace, layout_extents}
-use Rattle.space_builder.specs.build.BadLine.{RootOrderChecks, RowsChecks, AreRowsOf}
+use Rattle.row_store.specs.StoredRows.{Rows}
+use Rattle.space_builder.specs.layout.Layout.{FitsSpace, layout_extents}
+use Rattle.space_builder.specs.build.RootOrder.{RootOrderChecks}
+use Rattle.row_store.specs.BadLine.{RowsChecks, AreRowsOf}
 
 -- the roots are in order, and the text is that of some rows, of which the fact holds
 abbrev pub HasRows : TableDef → List ℕ → (Rows → Type 0) → Type 0

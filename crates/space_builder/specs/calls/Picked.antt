@@ -10,7 +10,7 @@ use Rattle.schema_text.specs.IndexFields.{clustered_positions, positions_without
 use Rattle.tree_layout.specs.Entries.{Entry}
 use Rattle.row_layout.specs.StoredRow.{Stored, stored_at, part_of_field}
 use Rattle.row_layout.specs.HoldsValues.{stored_in}
-use Rattle.space_builder.specs.calls.Stored.{value_of}
+use Rattle.row_store.specs.StoredRows.{value_of}
 
 -- the page where field i of row r begins, among the pages of fields, of which those of row r begin at a place of its
 -- own; 0 past the last, and for every part of the field

@@ -10,7 +10,8 @@ use Rattle.space_builder.specs.declared.plan.IndexPages.{IndexPages}
 use Rattle.space_builder.specs.declared.plan.SpacePlan.{SpacePlan}
 use Rattle.space_builder.specs.declared.plan.PlanStop.{PlanStop}
 use Rattle.space_builder.specs.declared.plan.PlanStop.TheVariants as stops
-use Rattle.space_builder.specs.layout.Layout.{Rows, tree_counts, index_sizes, segment_sizes, layout_extents, FitsSpace}
+use Rattle.row_store.specs.StoredRows.{Rows}
+use Rattle.space_builder.specs.layout.Layout.{tree_counts, index_sizes, segment_sizes, layout_extents, FitsSpace}
 use Rattle.space_builder.specs.calls.Order.{IsIndexOrder}
 use Rattle.space_builder.specs.calls.StoredRows.{AreStoredRows}
 

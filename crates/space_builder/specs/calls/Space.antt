@@ -12,7 +12,8 @@ use Rattle.space_builder.specs.declared.built.PutStop.TheVariants as stops
 use Rattle.space_builder.specs.declared.space.Space.{Space}
 use Rattle.space_builder.specs.declared.values.FirstPages.{FirstPages}
 use Rattle.space_builder.specs.declared.tree_plan.TreePlan.{TreePlan}
-use Rattle.space_builder.specs.layout.Layout.{Rows, stored_rows, tree_counts, segment_sizes, segment_pages}
+use Rattle.row_store.specs.StoredRows.{Rows, stored_rows}
+use Rattle.space_builder.specs.layout.Layout.{tree_counts, segment_sizes, segment_pages}
 use Rattle.space_builder.specs.layout.Layout.{system_pages}
 use Rattle.space_builder.specs.layout.Laws.{CanBuild}
 use Rattle.space_builder.specs.build.Build.{HoldsLayout, HoldsPart, LacksHead, IsSizedFor}

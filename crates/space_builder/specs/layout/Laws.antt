@@ -1,22 +1,18 @@
 -- What is built is sound, and holds the rows.
-use Rattle.std.specs.Prelude.{◌≡◌, ℕ, ◌+◌, ◌<◌, List, [], length, slice_index_or, IsSome}
+use Rattle.std.specs.Prelude.{◌≡◌, ℕ, ◌+◌, ◌<◌, List, length}
 use Rattle.space_audit.specs.Audit.{IsSoundSpace}
 use Rattle.schema_text.specs.Formats.{flags_of}
 use Rattle.schema_text.specs.TableDef.{TableDef, index_at}
 use Rattle.schema_text.specs.Grammar.{IsTable}
 use Rattle.table_check.specs.Rows.{AreRows}
 use Rattle.table_check.specs.Valid.{IsValid, HasTrees, HasValues, HasOnlyLeftOvers}
-use Rattle.row_layout.specs.StoredRow.{fitted_row}
 use Rattle.row_layout.specs.RowKeys.{AreTableRows, RowsRise}
-use Rattle.space_builder.specs.layout.Layout.{Rows, FitsSpace, layout_file}
+use Rattle.row_store.specs.StoredRows.{Rows, HaveFittedRows}
+use Rattle.space_builder.specs.layout.Layout.{FitsSpace, layout_file}
 
 -- a table whose roots are the first pages behind the tablespace's own
 abbrev pub HasRootsInOrder : TableDef → Type 0
 HasRootsInOrder table = (j : ℕ) → j < length table.indexes → (index_at table j).root ≡ 3 + j
-
--- each row has a record that fits
-abbrev pub HaveFittedRows : TableDef → Rows → Type 0
-HaveFittedRows table rows = (r : ℕ) → r < length rows → IsSome (fitted_row table r (slice_index_or rows r []))
 
 -- a table and rows that can be built: there is a row id of six bytes for each row
 pub record CanBuild (table : TableDef) (rows : Rows) : Type 0 where

@@ -1,9 +1,7 @@
 -- The whole tablespace of some rows of a table.
 use Rattle.std.specs.Prelude.{ℕ, ◌+◌, ◌≤◌, ◌==◌, if◌then◌else◌, List, [], ◌∷◌, ◌++◌, length, map, flat_map}
-use Rattle.std.specs.Prelude.{slice_index_or, unwrap_or}
 use Rattle.std.specs.List.{range_with_len}
 use Rattle.page_source.specs.Objects.{PageMap, file_of}
-use Rattle.column_values.specs.declared.value.Value.{Value}
 use Rattle.schema_text.specs.Formats.{flags_of}
 use Rattle.schema_text.specs.TableDef.{TableDef}
 use Rattle.schema_text.specs.IndexFields.{leaf_fields, node_fields}
@@ -14,20 +12,12 @@ use Rattle.space_layout.specs.NumberedPages.{Numbered, numbered_map}
 use Rattle.space_layout.specs.ValuePlaces.{value_page_number, value_page_count}
 use Rattle.tree_layout.specs.Division.{Level, tree_levels, level_counts}
 use Rattle.tree_layout.specs.Places.{top_size, leaf_size, tree_number}
-use Rattle.row_layout.specs.StoredRow.{Stored, stored_at, fitted_row, off_bytes}
+use Rattle.row_layout.specs.StoredRow.{stored_at, off_bytes}
 use Rattle.row_layout.specs.HoldsValues.{stored_in}
 use Rattle.row_layout.specs.LeafEntries.{leaf_entries}
+use Rattle.row_store.specs.StoredRows.{Rows, stored_rows}
 use Rattle.space_builder.specs.layout.TreePage.{tree_page, pages_of_level, pages_of_tree}
 use Rattle.space_builder.specs.layout.ValuePage.{value_page_bytes, page_counts, pages_of_values}
-
--- the rows of a table, each by its values
-abbrev pub Rows : Type 0
-Rows = List (List Value)
-
--- the rows as they are stored; a row that is too big is left empty
-unfoldable pub stored_rows : TableDef → Rows → List (List Stored)
-stored_rows table rows =
-    map (λ r. unwrap_or (fitted_row table r (slice_index_or rows r [])) []) (range_with_len 0 (length rows))
 
 -- the leaf entries of index j, where part k of field i of row r has the page `number r i k`
 abbrev pub entries_with : TableDef → Rows → (ℕ → ℕ → ℕ → ℕ) → ℕ → List Entry

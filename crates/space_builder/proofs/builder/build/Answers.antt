@@ -1,9 +1,8 @@
 use Rattle.std.proofs.Common.{◌∙◌, length, ap, sym, subst}
 use Rattle.std.proofs.lemmas.Result.{err_from_is_err_and}
 use Rattle.space_builder.specs.calls.Plan.{AreOrders}
-use Rattle.space_builder.proofs.Builds.{fresh_lacks, read_failed, read_short, are_stored, is_space, no_plan, not_put}
-use Rattle.space_builder.proofs.Builds.{all_put}
-use Rattle.space_builder.proofs.Builds.{put_cause, put_short, no_cause, stored_count}
+use Rattle.space_builder.proofs.Builds.{fresh_lacks, read_failed, read_short, read_cause, are_stored, is_space, no_plan}
+use Rattle.space_builder.proofs.Builds.{not_put, all_put, put_cause, put_short, no_cause, stored_count}
 use Rattle.space_builder.proofs.Outcomes.{put_calls}
 use Rattle.space_builder.proofs.builder.build.Goals as goal
 
@@ -21,6 +20,13 @@ returns-in_err-stored-clause-read g c =
     rw (r.1, r.2)
     (read_short g.R.ByteSource c.args.schema.now c.args.rows.now c.read_rows.new.text c.in_err-stored.field-0.0
     c.in_err-stored.ensures.finds)
+
+pub returns-in_err-stored-clause-cause : goal.returns-in_err-stored-clause-cause
+returns-in_err-stored-clause-cause g c =
+    let r = err_from_is_err_and c.from_residual.result c.from_residual.ensures.1 in
+    rw (r.1, r.2)
+    (read_cause g.R.ByteSource c.args.schema.now c.args.rows.now c.read_rows.new.text
+    (g.T.PageStore.faults c.args.store.now) c.in_err-stored.field-0.0 c.in_err-stored.ensures)
 
 pub returns-in_err-orders-clause-built : goal.returns-in_err-orders-clause-built
 returns-in_err-orders-clause-built g c =

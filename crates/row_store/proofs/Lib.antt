@@ -1,0 +1,13 @@
+pub mod Ranges
+pub mod KeyOrders
+pub mod Pieces
+pub mod GoodLines
+pub mod Refused
+pub mod Spots
+pub mod Sizes
+pub mod Longest
+pub mod Shapes
+pub mod NextRows
+pub mod RowsIn
+pub mod Reading
+pub mod Ahead

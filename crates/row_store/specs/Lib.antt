@@ -1,0 +1,4 @@
+pub mod StoredRows
+pub mod BadLine
+pub mod ReadRows
+pub mod calls

@@ -1,0 +1,19 @@
+//! Reads the rows of a text, and keeps them as they are stored.
+#![tactic(auto)]
+
+mod fitting;
+mod line_reader;
+mod marks;
+mod next_row;
+mod row_fields;
+mod row_shape;
+mod rows;
+mod stop;
+mod stored;
+mod value_order;
+
+pub use row_shape::is_among;
+pub use rows::read_rows;
+pub use stop::{RowsStop, RowsWhy};
+pub use stored::StoredRows;
+pub use value_order::compare_values;

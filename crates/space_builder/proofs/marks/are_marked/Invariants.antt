@@ -1,7 +1,0 @@
-use Rattle.std.proofs.Common.{◌≡◌, map, take, drop}
-use Rattle.space_builder.specs.calls.Arena.{spot_of}
-use Rattle.space_builder.proofs.marks.are_marked.Given as goal
-
--- so many of the marks there are those of the fields
-abbrev pub invariant-loop-i : goal.invariant-loop-i
-invariant-loop-i l = take l.i (drop l.first (map spot_of l.marks)) ≡ take l.i l.fields

@@ -1,8 +1,0 @@
-use Rattle.std.proofs.Common.{arith}
-use Rattle.space_builder.proofs.building.RowsIn.{count_seen}
-use Rattle.space_builder.proofs.stored.StoredRows.count.Goals as goal
-
-pub returns : goal.returns
-returns c =
-    let lists = c.self.inside.lists in
-    omega (arith, c.len.ensures, lists.spans.ok, count_seen lists c.args.self.now c.self.view_is)
