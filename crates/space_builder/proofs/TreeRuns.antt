@@ -23,7 +23,7 @@ use Rattle.tree_layout.specs.DivisionLaws.{AreTheLevels}
 use Rattle.tree_layout.specs.Levels.{level_at, width_at}
 use Rattle.tree_layout.specs.Steps.{AreOnly}
 use Rattle.space_builder.proofs.Lists.{all_map}
-use Rattle.row_layout.proofs.Zips.{zip_length}
+use Rattle.tree_layout.proofs.Zips.{zip_length}
 use Rattle.space_builder.specs.declared.built.PutStop.{PutStop}
 use Rattle.space_builder.specs.declared.built.PutStop.TheVariants as stops
 use Rattle.space_builder.specs.declared.entries.Pointer.{Pointer}

@@ -22,7 +22,7 @@ use Rattle.tree_layout.specs.Levels.{EachPage, width_at, page_entries, is_top, t
 use Rattle.tree_layout.specs.Built.{IsBuiltPage}
 use Rattle.space_builder.specs.layout.LowerLaws.{PageLaws}
 use Rattle.space_builder.specs.layout.TreePage.{heads_of, heads_on, fields_of_level, tree_body, tree_page}
-use Rattle.row_layout.proofs.Zips.{zip_length}
+use Rattle.tree_layout.proofs.Zips.{zip_length}
 
 -- the numbers of a level
 length-numbers : (levels : List Level) (numbers : ℕ → ℕ → ℕ) (l : ℕ)
