@@ -21,4 +21,5 @@ pub use leaf::RowLeaf;
 pub use record::check_row_values;
 pub use rows::LiveRows;
 pub use table::{Checked, Table, Whole};
-pub use value::{cut, text_of};
+pub use trees::MOST_FIELDS;
+pub use value::{split_local, text_of};

@@ -8,9 +8,10 @@ ghost use Rattle.index_page.specs.Header.{records_of, record_count};
 ghost use Rattle.tree_walk.specs.Records.{PageFacts};
 ghost use Rattle.tree_walk.specs.Walk.{IsTally, AreUnmarked};
 
-use crate::place::records::{INFIMUM, record_count};
 use column_values::FieldList;
 use compact_record::{deleted, lies_whole, minimum, next_origin};
+use index_page::layout::INFIMUM;
+use index_page::record_count;
 use page_source::Page;
 
 /// How many records have no delete mark, how many have one, and whether the values of all are known to lie whole on
