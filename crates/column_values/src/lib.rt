@@ -25,7 +25,7 @@ pub use field::{Field, FieldList, FieldType, Storage};
 pub use integers::IntCode;
 pub use kind::ColumnType;
 pub use lengths::{greatest_length, is_long_kind};
-pub use order::compare;
+pub use order::{compare, compare_values};
 pub use powers::ten_to;
 pub use texts::trimmed;
 pub use utf8::Utf8;
