@@ -1,9 +1,8 @@
 -- The order of two keys, field by field.
-use Rattle.std.proofs.Common.{◌≡◌, ℕ, zero, suc, ◌+◌, ◌<◌, ◌≤◌, List, length, false, get_or, map, take, drop, All}
-use Rattle.std.proofs.Common.{None, subst, inl, inr, refl, sym, ap, ◌∙◌, arith, add-one}
+use Rattle.std.proofs.Common.{◌≡◌, ℕ, zero, suc, ◌+◌, ◌<◌, ◌≤◌, List, length, get_or, map, take, All}
+use Rattle.std.proofs.Common.{Option, None, subst, inl, inr, refl, sym, ap, ◌∙◌, arith}
 use Rattle.std.specs.declared.cmp.Ordering.{Ordering}
 use Rattle.std.specs.Ordering.{ordering_then}
-use Rattle.std.proofs.Math.Seq.{drop-cons}
 use Rattle.std.proofs.lemmas.List.{length-map, length-take-le, get_or-map, get_or-take}
 use Rattle.std.proofs.lemmas.Simd.{map-map}
 use Rattle.std.specs.List.{range_with_len}
@@ -19,16 +18,12 @@ use Rattle.compact_record.specs.declared.places.Place.{Place}
 use Rattle.compact_record.specs.Reading.{cell_at, key_kinds, key_of, places_of, place_of, field_count, local_before}
 use Rattle.compact_record.specs.Reading.{local_length, record_end, is_null, Reading, IsReading}
 use Rattle.compact_record.specs.Keys.{key_at, IsOnPage, LiesBelow, HaveChild}
+use Rattle.compact_record.proofs.KeyOrders.{LeftOf, cells_decide, kinds_size, kind_of_field}
 use Rattle.compact_record.proofs.Steps.{local_more}
 
 -- what is left of two keys from field i on, in their order
 abbrev pub KeyLeft : List ℕ → List ℕ → Fields → List Place → List Place → ℕ → Ordering
-KeyLeft page other fields a b i = key_cmp (drop i (key_kinds fields)) (drop i (key_at page fields a))
-    (drop i (key_at other fields b))
-
-length-kinds : (fields : Fields) → fields.keys ≤ length fields.fields → length (key_kinds fields) ≡ fields.keys
-length-kinds fields most = length-map (take fields.keys fields.fields) (λ (f : Field). f.kind) ∙ length-take-le
-    fields.keys fields.fields most
+KeyLeft page other fields a b i = LeftOf (key_kinds fields) (key_at page fields a) (key_at other fields b) i
 
 length-key : (page : List ℕ) (fields : Fields) (a : List Place) → fields.keys ≤ length a
     → length (key_at page fields a) ≡ fields.keys
@@ -42,13 +37,6 @@ cell_in page fields a i d most below =
     get_or-map (cell_at page) (take fields.keys a) i d None (omega (arith, length-take-le fields.keys a most))
     ∙ ap (λ p. cell_at page p) (get_or-take fields.keys a i d below)
 
-kind_in : (fields : Fields) (i : ℕ) (d : Field) → fields.keys ≤ length fields.fields → i < fields.keys
-    → get_or (key_kinds fields) i Child ≡ (get_or fields.fields i d).kind
-kind_in fields i d most below =
-    get_or-map (λ (f : Field). f.kind) (take fields.keys fields.fields) i d Child
-    (omega (arith, length-take-le fields.keys fields.fields most))
-    ∙ ap (λ f. f.kind) (get_or-take fields.keys fields.fields i d below)
-
 -- the fields at a place decide, or what is left behind them does
 pub key_decides : (page other : List ℕ) (fields : Fields) (a b : List Place) (i : ℕ) (f : Field) (p q : Place)
     (o answer whole : Ordering)
@@ -57,17 +45,14 @@ pub key_decides : (page other : List ℕ) (fields : Fields) (a b : List Place) (
     → o ≡ cell_cmp f.kind (cell_at page p) (cell_at other q) → o ≡ answer
     → KeyLeft page other fields a b i ≡ whole → ordering_then answer (KeyLeft page other fields a b (i + 1)) ≡ whole
 key_decides page other fields a b i f p q o answer whole few first second below ff pp qq is says left =
-    let rest = KeyLeft page other fields a b (i + 1) in
-    let kinds = drop-cons (key_kinds fields) i Child (omega (arith, length-kinds fields few)) in
-    let one = drop-cons (key_at page fields a) i None (omega (arith, length-key page fields a first)) in
-    let two = drop-cons (key_at other fields b) i None (omega (arith, length-key other fields b second)) in
-    let k = kind_in fields i (record { kind = Child; nullable = false; may_leave = false }) few below
-    ∙ ap (λ (g : Field). g.kind) (sym ff) in
-    let x = cell_in page fields a i p first below ∙ ap (λ r. cell_at page r) (sym (pp p)) in
-    let y = cell_in other fields b i q second below ∙ ap (λ r. cell_at other r) (sym (qq q)) in
-    let step : KeyLeft page other fields a b i ≡ ordering_then (cell_cmp f.kind (cell_at page p) (cell_at other q))
-    rest = rw (kinds, one, two, k, x, y, add-one) refl in
-    ap (λ (r : Ordering). ordering_then r rest) (sym says ∙ is) ∙ sym step ∙ left
+    let size = kinds_size fields few in
+    let one = ap (cell_at page) (pp p) ∙ sym (cell_in page fields a i p first below) in
+    let two = ap (cell_at other) (qq q) ∙ sym (cell_in other fields b i q second below) in
+    cells_decide (key_kinds fields) (key_at page fields a) (key_at other fields b) i Child f.kind o answer whole
+    (length-key page fields a first ∙ sym size) (length-key other fields b second ∙ sym size) (omega (arith, below, size))
+    (ap (λ (g : Field). g.kind) ff ∙ kind_of_field fields i few below)
+    (is ∙ ap (λ (v : Option (List ℕ)). cell_cmp f.kind v (cell_at other q)) one
+    ∙ ap (cell_cmp f.kind (get_or (key_at page fields a) i None)) two) says left
 
 -- the key of a record that was read
 pub key_is : (page : List ℕ) (origin : ℕ) (fields : Fields) → fields.keys ≤ length fields.fields
@@ -129,7 +114,7 @@ count_of_places page origin fields = length-map-range_with_len (place_of page or
 pub same_keys : (fields others : Fields) → fields.keys ≤ length fields.fields → others.keys ≤ length others.fields
     → key_kinds others ≡ key_kinds fields → others.keys ≡ fields.keys
 same_keys fields others few other_few same =
-    sym (length-kinds others other_few) ∙ ap (λ (kinds : List FieldType). length kinds) same ∙ length-kinds fields few
+    sym (kinds_size others other_few) ∙ ap (λ (kinds : List FieldType). length kinds) same ∙ kinds_size fields few
 
 pub order_of_keys : (page other : List ℕ) (fields others : Fields) (here there : ℕ) (a b : List Place) (o : Ordering)
     → fields.keys ≤ length fields.fields → others.keys ≤ length others.fields → key_kinds others ≡ key_kinds fields

@@ -7,8 +7,8 @@ ghost use Rattle.compact_record.specs.Reading.{cell_at, key_kinds};
 ghost use Rattle.compact_record.specs.Keys.{IsOnPage, key_at};
 
 use crate::field::field_at;
-use crate::places::Place;
-use column_values::{FieldList, FieldType, compare};
+use crate::places::{Place, bytes_of};
+use column_values::{FieldList, FieldType, compare_values};
 use page_source::Page;
 use std::cmp::Ordering;
 
@@ -18,21 +18,7 @@ fn compare_cells(kind: &FieldType, page: &Page, a: Place, other: &Page, b: Place
     requires second { IsOnPage b }
     ensures { result ≡ cell_cmp kind.now (cell_at page.now a) (cell_at other.now b) }
 {
-    if a.null {
-        if b.null {
-            Ordering::Equal
-        } else {
-            Ordering::Less
-        }
-    } else if b.null {
-        Ordering::Greater
-    } else {
-        compare(
-            kind,
-            &page.bytes()[a.from..a.until],
-            &other.bytes()[b.from..b.until],
-        )
-    }
+    compare_values(kind, bytes_of(page.bytes(), a), bytes_of(other.bytes(), b))
 }
 
 fn place_at(places: &[Place], i: usize) -> Place

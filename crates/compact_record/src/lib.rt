@@ -17,6 +17,6 @@ pub use errors::LocateError;
 pub use header::{deleted, heap_number, minimum, next_field, next_origin, owned, status};
 pub use located::{Located, locate};
 pub use parts::{Part, Parts};
-pub use places::Place;
+pub use places::{Place, bytes_of};
 pub use whole::lies_whole;
 pub use writing::{RecordPlace, place, place_record, record_size};

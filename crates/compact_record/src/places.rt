@@ -1,9 +1,10 @@
 //! Where the fields of a record lie.
 
 ghost use Rattle.std.specs.Prelude.{◌≡◌, ◌+◌, ◌*◌, ◌≤◌, ◌<◌, ◌↔◌, ℕ, IsSome, IfSome, length, slice_index_or};
+ghost use Rattle.std.specs.Option.{option_copied};
 ghost use Rattle.column_values.specs.Types.{field_at};
 ghost use Rattle.compact_record.specs.Reading.{IsHeapOrigin, FieldIsSpelled, lengths_before, local_before};
-ghost use Rattle.compact_record.specs.Reading.{field_count, place_of, nullable_before, is_null, has_long_length};
+ghost use Rattle.compact_record.specs.Reading.{field_count, place_of, nullable_before, is_null, has_long_length, cell_at};
 ghost use Rattle.compact_record.specs.declared.places.Place.{Place};
 
 use crate::field::{is_field_spelled, lengths_top, read_field, storage_at};
@@ -21,6 +22,19 @@ pub struct Place {
     pub from: usize,
     /// The offset of the byte behind the field's last one, which may lie past the page.
     pub until: usize,
+}
+
+/// The bytes at a place among some bytes; none if the field is null.
+pub fn bytes_of(bytes: &[u8], place: Place) -> Option<&[u8]>
+    requires rising { place.from ≤ place.until }
+    requires inside { place.until ≤ length bytes.now }
+    ensures { option_copied result ≡ cell_at bytes.now place }
+{
+    if place.null {
+        None
+    } else {
+        Some(&bytes[place.from..place.until])
+    }
 }
 
 /// How many bytes the lengths of a record take, and how many its fields.

@@ -1,5 +1,4 @@
 pub mod Ranges
-pub mod KeyOrders
 pub mod Pieces
 pub mod GoodLines
 pub mod Refused

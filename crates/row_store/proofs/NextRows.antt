@@ -31,7 +31,7 @@ use Rattle.row_store.specs.StoredRows.{Rows, stored_rows, value_of}
 use Rattle.row_store.specs.calls.NextRow.{first_cells, IsAfter, HoldsRows, RisesBehind, IsNextRow, AreWide}
 use Rattle.tree_layout.proofs.Zips.{zip_length, zip_at}
 use Rattle.row_store.proofs.Spots.{no_field}
-use Rattle.row_store.proofs.KeyOrders.{LeftOf, cells_decide, kinds_size}
+use Rattle.compact_record.proofs.KeyOrders.{LeftOf, cells_decide, kinds_size}
 use Rattle.row_store.proofs.Shapes.{length-stored_row, keys_within, key_cells, cells_same}
 
 -- the rows of a table with one more

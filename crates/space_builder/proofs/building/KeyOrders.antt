@@ -15,17 +15,10 @@ use Rattle.column_values.specs.Order.{Key, cell_cmp}
 use Rattle.compact_record.specs.Reading.{key_kinds}
 use Rattle.row_layout.specs.StoredRow.{Stored, stored_at}
 use Rattle.row_store.specs.StoredRows.{value_of}
-use Rattle.row_store.proofs.KeyOrders.{LeftOf, cells_decide, kinds_size}
+use Rattle.compact_record.proofs.KeyOrders.{LeftOf, cells_decide, kinds_size, kind_of_field}
 use Rattle.space_builder.specs.calls.Picked.{picked_key}
 use Rattle.key_ranks.specs.Keys.{IsRowOrder}
 use Rattle.space_builder.specs.calls.Order.{IsKeyOrder, table_of}
-
-kind_of_field : (fields : Fields) (i : ℕ) → fields.keys ≤ length fields.fields → i < fields.keys
-    → (field_at fields i).kind ≡ get_or (key_kinds fields) i Child
-kind_of_field fields i few below =
-    sym (get_or-map (λ (f : Field). f.kind) (take fields.keys fields.fields) i child_field Child
-    (omega (arith, below, length-take-le fields.keys fields.fields few))
-    ∙ ap (λ (f : Field). f.kind) (get_or-take fields.keys fields.fields i child_field below))
 
 module _ (list : Fields) (fields : List ℕ) (a b : List Stored) (few : list.keys ≤ length list.fields)
     (each : length fields ≡ list.keys) where

@@ -2,7 +2,7 @@ use Rattle.std.proofs.Common.{◌≡◌}
 use Rattle.column_values.specs.Order.{key_cmp}
 use Rattle.compact_record.specs.Reading.{key_kinds}
 use Rattle.cross_index.specs.calls.Kept.{kept_key}
-use Rattle.cross_index.proofs.CellSteps.{LeftOf}
+use Rattle.compact_record.proofs.KeyOrders.{LeftOf}
 use Rattle.cross_index.proofs.order.compare_rows.Given as goal
 
 -- the fields so far are equal

@@ -3,7 +3,7 @@ use Rattle.column_values.specs.Order.{key_cmp}
 use Rattle.compact_record.specs.Reading.{key_kinds}
 use Rattle.row_layout.specs.HoldsValues.{stored_in}
 use Rattle.row_store.specs.calls.NextRow.{first_cells}
-use Rattle.row_store.proofs.KeyOrders.{LeftOf}
+use Rattle.compact_record.proofs.KeyOrders.{LeftOf}
 use Rattle.row_store.proofs.next_row.compare_keys.Given as goal
 
 -- the fields so far are equal
