@@ -14,3 +14,4 @@ pub mod Groups
 pub mod DecimalValues
 pub mod Spellings
 pub mod ValueOrder
+pub mod WordOrder

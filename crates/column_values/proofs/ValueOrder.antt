@@ -40,7 +40,7 @@ then_none Equal = refl
 then_none Greater = refl
 
 -- two lists that begin with parts of one length
-cmp-append : (a b c d : List ℕ) → length a ≡ length c → bytes_cmp (a ++ b) (c ++ d) ≡ ordering_then (bytes_cmp a c)
+pub cmp-append : (a b c d : List ℕ) → length a ≡ length c → bytes_cmp (a ++ b) (c ++ d) ≡ ordering_then (bytes_cmp a c)
     (bytes_cmp b d)
 cmp-append [] b [] d size = refl
 cmp-append [] b (y ∷ c) d size = absurd (omega arith)

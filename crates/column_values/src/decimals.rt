@@ -19,7 +19,7 @@ use page_source::{ByteList, NoMemory};
 use std::alloc::Global;
 
 // The greatest length of a decimal.
-const MOST: usize = 18;
+const MOST_BYTES: usize = 18;
 
 fn group_count(p: u8, s: u8) -> usize
     requires { IsColumnType (ColumnType.Decimal p s) }
@@ -138,7 +138,7 @@ pub(crate) fn decimal(p: u8, s: u8, bytes: &[u8]) -> Option<Value>
     if bytes.len() != size {
         return None;
     }
-    let mut room = [0; MOST];
+    let mut room = [0; MOST_BYTES];
     let turned = &mut room[..size];
     turned.copy_from_slice(bytes);
     Some(Value::Decimal(signed_units(p, s, turned)?))
@@ -151,7 +151,7 @@ fn signed_bytes(alloc: Global, is_negative: bool, plain: &[u8]) -> Result<ByteLi
         list ≡ with_top_turned (if is_negative then complemented plain.now else plain.now)) }
     ensures are_bytes { IfOk result AreBytes }
 {
-    let mut room = [0; MOST];
+    let mut room = [0; MOST_BYTES];
     let bytes = &mut room[..plain.len()];
     bytes.copy_from_slice(plain);
     if is_negative {

@@ -1,7 +1,8 @@
 //! The order of two fields (rem0cmp).
 
-ghost use Rattle.std.specs.Prelude.{◌≡◌, ◌≤◌, length, slice_index_or};
-ghost use Rattle.column_values.specs.Order.{bytes_cmp, text_cmp, field_cmp};
+ghost use Rattle.std.specs.Prelude.{◌≡◌, ◌≤◌, length, take, slice_index_or};
+ghost use Rattle.std.specs.Option.{option_copied};
+ghost use Rattle.column_values.specs.Order.{bytes_cmp, text_cmp, field_cmp, cell_cmp};
 
 use crate::big_endian::number_at;
 use crate::field::FieldType;
@@ -25,6 +26,18 @@ pub fn compare(kind: &FieldType, a: &[u8], b: &[u8]) -> Ordering
     }
 }
 
+/// The order of two fields that may be null, which is least.
+pub fn compare_values(kind: &FieldType, a: Option<&[u8]>, b: Option<&[u8]>) -> Ordering
+    ensures { result ≡ cell_cmp kind.now (option_copied a.entry) (option_copied b.entry) }
+{
+    match (a, b) {
+        (Some(a), Some(b)) => compare(kind, a, b),
+        (Some(_), None) => Ordering::Greater,
+        (None, Some(_)) => Ordering::Less,
+        (None, None) => Ordering::Equal,
+    }
+}
+
 /// The order of `W` bytes, by the numbers that they spell.
 fn compare_numbers<const W: usize>(a: &[u8], b: &[u8]) -> Ordering
     requires some { 1 ≤ W }
@@ -37,6 +50,26 @@ fn compare_numbers<const W: usize>(a: &[u8], b: &[u8]) -> Ordering
     number_at(a, 0, W).cmp(&number_at(b, 0, W))
 }
 
+/// How far two lists of bytes were compared as whole numbers of eight bytes, and the order of what was compared: up to
+/// the first numbers that differ, or as long as both lists have eight bytes more.
+fn compare_words(a: &[u8], b: &[u8]) -> (usize, Ordering)
+    ensures first { result.0 ≤ length a.now }
+    ensures second { result.0 ≤ length b.now }
+    ensures order { result.1 ≡ bytes_cmp (take result.0 a.now) (take result.0 b.now) }
+{
+    let words = a.len().min(b.len()) / 8;
+    for word in 0..words {
+        let at = 8 * word;
+        let order = number_at(a, at, 8).cmp(&number_at(b, at, 8));
+        match order {
+            Ordering::Less => return (at + 8, Ordering::Less),
+            Ordering::Greater => return (at + 8, Ordering::Greater),
+            Ordering::Equal => {}
+        }
+    }
+    (8 * words, Ordering::Equal)
+}
+
 /// The order of bytes, a proper prefix first. Four or eight of each, as most whole numbers have, are compared as one
 /// number.
 fn compare_bytes(a: &[u8], b: &[u8]) -> Ordering
@@ -47,7 +80,12 @@ fn compare_bytes(a: &[u8], b: &[u8]) -> Ordering
     } else if a.len() == 8 && b.len() == 8 {
         compare_numbers::<8>(a, b)
     } else {
-        a.cmp(b)
+        let (from, order) = compare_words(a, b);
+        match order {
+            Ordering::Less => Ordering::Less,
+            Ordering::Greater => Ordering::Greater,
+            Ordering::Equal => a[from..].cmp(&b[from..]),
+        }
     }
 }
 
@@ -62,9 +100,15 @@ fn compare_text(a: &[u8], b: &[u8]) -> Ordering
     ensures { result ≡ text_cmp a.now b.now }
 {
     if a.len() == b.len() {
-        return a.cmp(b);
+        return compare_bytes(a, b);
     }
-    for i in 0..a.len().max(b.len()) {
+    let (from, order) = compare_words(a, b);
+    match order {
+        Ordering::Less => return Ordering::Less,
+        Ordering::Greater => return Ordering::Greater,
+        Ordering::Equal => {}
+    }
+    for i in from..a.len().max(b.len()) {
         let here = byte_at(a, i).cmp(&byte_at(b, i));
         match here {
             Ordering::Less => return Ordering::Less,

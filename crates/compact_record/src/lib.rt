@@ -6,6 +6,7 @@ mod field;
 mod header;
 mod keys;
 pub mod laws;
+pub mod layout;
 mod located;
 mod parts;
 mod places;

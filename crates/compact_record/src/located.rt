@@ -7,18 +7,13 @@ ghost use Rattle.compact_record.specs.Keys.{IsWholeReading, HaveChild, LiesBelow
 
 use crate::errors::LocateError;
 use crate::keys::compare_keys;
+use crate::layout::{HEAP_START, RECORD_HEADER};
 use crate::places::{Place, read_places};
 use column_values::FieldList;
 use page_source::{NoMemory, Page, read_be};
 use std::alloc::Global;
 use std::cmp::Ordering;
 use std::marker::Model;
-
-/// PAGE_NEW_SUPREMUM_END, where the heap of a page begins.
-const HEAP_START: usize = 120;
-
-/// The bytes of a record's header before its origin (REC_N_NEW_EXTRA_BYTES).
-const HEADER: usize = 5;
 
 /// The places of a record's fields, with room for a number of fields.
 #[derive(Debug, Drop)]
@@ -80,7 +75,7 @@ impl Located {
         let Some(sizes) = read_places(&mut self.places, page, origin, fields) else {
             return false;
         };
-        let head = HEADER + (fields.nullable() as usize + 7) / 8 + sizes.lengths;
+        let head = RECORD_HEADER + (fields.nullable() as usize + 7) / 8 + sizes.lengths;
         if HEAP_START + head > origin {
             return false;
         }

@@ -10,13 +10,11 @@ ghost use Rattle.compact_record.specs.Writing.{all_null_bytes, all_lengths, valu
 ghost use Rattle.compact_record.specs.Writing.{origin_in, size_of_record};
 
 use crate::field::storage_at;
+use crate::layout::RECORD_HEADER;
 use crate::parts::{Part, Parts};
 use crate::places::Sizes;
 use column_values::FieldList;
 use page_source::{PAGE_SIZE, Page};
-
-/// The bytes of a record's header before its origin (REC_N_NEW_EXTRA_BYTES).
-const HEADER: usize = 5;
 
 /// The minimum mark in the first byte of a header (REC_INFO_MIN_REC_FLAG).
 const MINIMUM: u8 = 0x10;
@@ -96,7 +94,7 @@ pub fn record_size(fields: &FieldList, parts: &Parts) -> usize
     ensures { result ≡ size_of_record fields.now parts.now }
 {
     let sizes = part_sizes(fields, parts);
-    (fields.nullable() as usize + 7) / 8 + sizes.lengths + HEADER + sizes.local
+    (fields.nullable() as usize + 7) / 8 + sizes.lengths + RECORD_HEADER + sizes.local
 }
 
 /// Writes the length of field `i` from byte `at` on, its last byte first, and answers where it ends.
@@ -200,7 +198,7 @@ fn put_header(page: &mut Page, at: usize, heap: u16, kind: u8, minimum: bool) ->
         at,
         &[mark, (number / 256) as u8, (number % 256) as u8, 0, 0],
     );
-    at + HEADER
+    at + RECORD_HEADER
 }
 
 /// Writes the bytes of all parts from byte `at` on, and answers where they end.

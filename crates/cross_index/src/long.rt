@@ -4,21 +4,16 @@ ghost use Rattle.std.specs.Prelude.{◌≡◌, ◌+◌, ◌≤◌, ◌++◌, len
 ghost use Rattle.page_source.specs.Calls.{OfFile};
 ghost use Rattle.offpage_chain.specs.Chain.{chain_pages};
 ghost use Rattle.offpage_chain.specs.Reference.{reference_of};
-ghost use Rattle.table_check.specs.Values.{front_of};
 ghost use Rattle.sql_dump.specs.Long.{CanFollowIn, chain_bytes, whole_bytes};
 ghost use Rattle.cross_index.specs.Stops.{CrossesOver, OnlyReads};
 ghost use Rattle.cross_index.specs.calls.Broken.{BreaksAt, BreaksChain};
 
 use crate::crossed::CrossStop;
-use offpage_chain::{ChainReader, Reference, read_reference};
+use offpage_chain::layout::PART_START;
+use offpage_chain::{ChainReader, Reference};
 use page_source::{NoMemory, Page, PageSource, Steps};
 use std::sync::ledger::Ledger;
-
-/// BTR_EXTERN_FIELD_REF_SIZE, the bytes of a reference.
-const REFERENCE: usize = 20;
-
-/// Where the bytes of a part begin, after the header of the page and that of the part (btr0cur).
-const PART: usize = 46;
+use table_check::split_local;
 
 /// A page for the parts of chains, how many may still be fetched, and the value that was read last.
 #[derive(Debug, Drop)]
@@ -55,19 +50,12 @@ fn read_chain<S: PageSource, L: Ledger>(
 {
     let mut reader = ChainReader::new(reference);
     while let Some(length) = reader.part(source, &mut room.page, &mut room.left, steps)? {
-        append(&mut room.value, &room.page.bytes()[PART..PART + length])?;
+        append(
+            &mut room.value,
+            &room.page.bytes()[PART_START..PART_START + length],
+        )?;
     }
     Ok(())
-}
-
-/// The local bytes before the reference, and the reference.
-fn split(local: &[u8]) -> (&[u8], Reference)
-    requires { 20 ≤ length local.now }
-    ensures front { result.0.now ≡ front_of local.now }
-    ensures reference { result.1 ≡ reference_of local.now }
-{
-    let (front, reference) = local.split_at(local.len() - REFERENCE);
-    (front, read_reference(reference))
 }
 
 /// Reads the value that begins with these local bytes and goes on elsewhere.
@@ -88,7 +76,7 @@ pub(crate) fn read_long<S: PageSource, L: Ledger>(
     ensures cost { steps.new + room.new.left ≡ steps.old + room.old.left }
     ensures over { CrossesOver S.PageSource source.old source.new steps.old steps.new result }
 {
-    let (front, reference) = split(local);
+    let (front, reference) = split_local(local);
     room.value.clear();
     append(&mut room.value, front)?;
     read_chain(source, &reference, room, steps)

@@ -7,7 +7,7 @@ use std::alloc::Global;
 use std::marker::Model;
 
 /// The greatest number that has four bytes.
-const MOST: usize = 4_294_967_295;
+const GREATEST_SMALL: usize = 4_294_967_295;
 
 /// Numbers.
 #[derive(Debug, Drop)]
@@ -49,7 +49,7 @@ impl Numbers {
         ensures ok { OnOk result (self.new ≡ self.old ++ number ∷ []) }
         ensures err { OnErr result (self.new ≡ self.old) }
     {
-        if number <= MOST && self.large.is_empty() {
+        if number <= GREATEST_SMALL && self.large.is_empty() {
             self.small.push(number as u32)?;
             return Ok(());
         }

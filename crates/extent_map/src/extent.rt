@@ -5,19 +5,17 @@ ghost use Rattle.page_source.specs.Pages.{with_bytes};
 ghost use Rattle.extent_map.specs.Extents.{extent_at, used_mask};
 ghost use Rattle.extent_map.specs.Writing.{bitmap_byte, bitmap_bytes, extent_bytes};
 
+use crate::layout::BITMAP;
 use page_source::{PAGE_SIZE, Page, read_be, write_be};
 use space_header::{Node, read_node, write_node};
 
 // The places of the fields, with their names in fsp0fsp.h.
 
 /// XDES_FLST_NODE, a list node.
-const NODE: usize = 8;
+const LIST_NODE: usize = 8;
 
 /// XDES_STATE, 4 bytes.
 const STATE: usize = 20;
-
-/// XDES_BITMAP, 16 bytes.
-const BITMAP: usize = 24;
 
 /// The descriptor of an extent (xdes_t). Each field has its name in fsp0fsp.h and its first byte within
 /// the 40 of a descriptor.
@@ -42,7 +40,7 @@ pub fn read_extent(page: &Page, at: usize) -> Extent
 {
     Extent {
         id: read_be::<8>(page, at),
-        node: read_node(page, at + NODE),
+        node: read_node(page, at + LIST_NODE),
         state: read_be::<4>(page, at + STATE) as u32,
         used: read_used(page, at + BITMAP),
     }
@@ -73,7 +71,7 @@ pub fn write_extent(page: &mut Page, at: usize, extent: &Extent)
 {
     prove!(page.bytes().len() == PAGE_SIZE);
     write_be::<8>(page, at, extent.id);
-    write_node(page, at + NODE, &extent.node);
+    write_node(page, at + LIST_NODE, &extent.node);
     write_be::<4>(page, at + STATE, u64::from(extent.state));
     page.put_bytes(at + BITMAP, &bitmap(extent.used));
 }

@@ -10,27 +10,14 @@ ghost use Rattle.extent_map.specs.Head.{HeadChecks, HeaderChecks, IsSize, IsLimi
 ghost use Rattle.extent_map.specs.Head.{without_data_directory};
 
 use fil_frame::kinds::FIL_PAGE_TYPE_FSP_HDR;
+use fil_frame::layout::PAGE_SPACE;
 use fil_frame::{frame_fault, kind};
 use page_source::{Fault, Halt, Page, PageSource, Rule, Steps, read_be};
 use space_header::SpaceHeader;
+use space_header::layout::{FREE_LIMIT, SPACE_FLAGS, SPACE_ID, SPACE_SIZE};
 use std::sync::ledger::Ledger;
 
-/// FIL_PAGE_ARCH_LOG_NO_OR_SPACE_ID, 4 bytes.
-const FRAME_SPACE: usize = 34;
-
 // The fields of the space header, 4 bytes each.
-
-/// FSP_SPACE_ID.
-const SPACE: usize = 38;
-
-/// FSP_SIZE, in pages.
-const SIZE: usize = 46;
-
-/// FSP_FREE_LIMIT: no page from here on was ever used.
-const LIMIT: usize = 50;
-
-/// FSP_SPACE_FLAGS.
-const FLAGS: usize = 54;
 
 /// The flag for a table with a DATA DIRECTORY clause, bit 10, which may stand besides.
 const DATA_DIRECTORY: u32 = 1024;
@@ -67,24 +54,24 @@ fn check_header(page: &Page, pages: u32, flags: u32) -> Result<SpaceHeader, Faul
     ensures within { IfOk result (λ header. header.size ≤ pages) }
     ensures bounds { IfOk result HasBounds }
 {
-    let space = number(page, FRAME_SPACE);
-    let size = number(page, SIZE);
+    let space = number(page, PAGE_SPACE);
+    let size = number(page, SPACE_SIZE);
     if frame_fault(page, 0, space) {
         return Err(Rule::HeadFrame.at(0));
     }
     if kind(page) != FIL_PAGE_TYPE_FSP_HDR {
         return Err(Rule::HeadType.at(0));
     }
-    if space != number(page, SPACE) {
+    if space != number(page, SPACE_ID) {
         return Err(Rule::HeadSpace.at(0));
     }
-    if without_data_directory(number(page, FLAGS)) != flags {
+    if without_data_directory(number(page, SPACE_FLAGS)) != flags {
         return Err(Rule::HeadFlags.at(0));
     }
     if !is_size(size, pages) {
         return Err(Rule::HeadSize.at(0));
     }
-    if !is_limit(size, number(page, LIMIT)) {
+    if !is_limit(size, number(page, FREE_LIMIT)) {
         return Err(Rule::HeadLimit.at(0));
     }
     Ok(SpaceHeader::read(page))

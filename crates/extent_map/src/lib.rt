@@ -8,6 +8,7 @@ mod extents;
 mod flags;
 mod head;
 pub mod laws;
+pub mod layout;
 pub mod states;
 
 pub use descriptors::read_extents;

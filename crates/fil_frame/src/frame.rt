@@ -10,6 +10,7 @@ ghost use Rattle.fil_frame.specs.Frame.{kind_of, IsFramed, Seals, SealsAs, with_
 
 use crate::body::body_sum;
 use crate::crc::crc32c;
+use crate::layout::{LOW_LSN, LSN_ECHO, PAGE_KIND, PAGE_LSN, PAGE_NUMBER, PAGE_SPACE};
 use crate::rnd::fold;
 use page_source::{PAGE_SIZE, Page, read_be, write_be};
 
@@ -18,32 +19,14 @@ use page_source::{PAGE_SIZE, Page, read_be, write_be};
 /// FIL_PAGE_SPACE_OR_CHKSUM, 4 bytes.
 const CHECKSUM: usize = 0;
 
-/// FIL_PAGE_OFFSET, 4 bytes.
-const NUMBER: usize = 4;
-
-/// FIL_PAGE_LSN, 8 bytes.
-const LSN: usize = 16;
-
-/// The low 4 bytes of the LSN.
-const LOW_LSN: usize = 20;
-
-/// FIL_PAGE_TYPE, 2 bytes.
-const KIND: usize = 24;
-
 /// FIL_PAGE_FILE_FLUSH_LSN, 8 bytes.
 const FLUSH_LSN: usize = 26;
-
-/// FIL_PAGE_ARCH_LOG_NO_OR_SPACE_ID, 4 bytes.
-const SPACE: usize = 34;
 
 /// FIL_PAGE_DATA, where the body begins.
 const BODY: usize = 38;
 
 /// FIL_PAGE_END_LSN_OLD_CHKSUM, where the body ends: the checksum again, 4 bytes.
 const TAIL_CHECKSUM: usize = 16376;
-
-/// The echo of the low 4 bytes of the LSN.
-const ECHO: usize = 16380;
 
 /// The number that stands where a page has no checksum (BUF_NO_CHECKSUM_MAGIC).
 const NO_SUM: u32 = 0xDEAD_BEEF;
@@ -67,7 +50,7 @@ pub fn page_sum(page: &Page) -> u32
     ensures { result ≡ page_sum_of page.now }
 {
     let bytes = page.bytes();
-    crc32c(&bytes[NUMBER..FLUSH_LSN]) ^ body_sum(&bytes[BODY..TAIL_CHECKSUM])
+    crc32c(&bytes[PAGE_NUMBER..FLUSH_LSN]) ^ body_sum(&bytes[BODY..TAIL_CHECKSUM])
 }
 
 /// The fold of bytes 4 to 25 and that of bytes 38 to 16375, added.
@@ -76,7 +59,7 @@ fn page_fold(page: &Page) -> u32
     ensures { result ≡ page_fold_of page.now }
 {
     let bytes = page.bytes();
-    fold(&bytes[NUMBER..FLUSH_LSN]).wrapping_add(fold(&bytes[BODY..TAIL_CHECKSUM]))
+    fold(&bytes[PAGE_NUMBER..FLUSH_LSN]).wrapping_add(fold(&bytes[BODY..TAIL_CHECKSUM]))
 }
 
 /// The fold of bytes 0 to 25.
@@ -131,7 +114,7 @@ pub fn sum_kind(page: &Page) -> Option<SumKind>
 pub fn kind(page: &Page) -> u16
     ensures { result ≡ kind_of page.now }
 {
-    read_be::<2>(page, KIND) as u16
+    read_be::<2>(page, PAGE_KIND) as u16
 }
 
 /// Whether the frame is broken as that of page `n` of the tablespace `space`: its checksums are of no
@@ -147,9 +130,9 @@ pub fn frame_fault(page: &Page, n: u32, space: u32) -> bool
 fn is_framed(page: &Page, n: u32, space: u32) -> bool
     ensures { IsTrue result ↔ IsFramed page.now n space }
 {
-    read_be::<4>(page, ECHO) == read_be::<4>(page, LOW_LSN)
-        && read_be::<4>(page, NUMBER) == u64::from(n)
-        && read_be::<4>(page, SPACE) == u64::from(space)
+    read_be::<4>(page, LSN_ECHO) == read_be::<4>(page, LOW_LSN)
+        && read_be::<4>(page, PAGE_NUMBER) == u64::from(n)
+        && read_be::<4>(page, PAGE_SPACE) == u64::from(space)
         && has_some_sums(page)
 }
 
@@ -208,9 +191,9 @@ fn second_sum(page: &Page, kind: SumKind, first: u32) -> u32
 fn put_fields(page: &mut Page, n: u32, space: u32, lsn: u64, kind: u16)
     ensures { page.new ≡ with_frame page.old n space lsn kind }
 {
-    write_be::<4>(page, NUMBER, u64::from(n));
-    write_be::<8>(page, LSN, lsn);
-    write_be::<2>(page, KIND, u64::from(kind));
-    write_be::<4>(page, SPACE, u64::from(space));
-    write_be::<4>(page, ECHO, lsn & 0xFFFF_FFFF);
+    write_be::<4>(page, PAGE_NUMBER, u64::from(n));
+    write_be::<8>(page, PAGE_LSN, lsn);
+    write_be::<2>(page, PAGE_KIND, u64::from(kind));
+    write_be::<4>(page, PAGE_SPACE, u64::from(space));
+    write_be::<4>(page, LSN_ECHO, lsn & 0xFFFF_FFFF);
 }

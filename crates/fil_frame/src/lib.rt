@@ -7,6 +7,7 @@ mod crc;
 mod frame;
 pub mod kinds;
 pub mod laws;
+pub mod layout;
 mod rnd;
 pub mod tables;
 

@@ -6,16 +6,11 @@ ghost use Rattle.image_listing.specs.Versions.{Puts, newer, page_cmp, version_of
 
 use fil_frame::kind;
 use fil_frame::kinds::FIL_PAGE_INDEX;
+use index_page::layout::{INDEX_ID, LEVEL};
 use page_scan::{FoundPage, lsn};
 use page_source::{NoMemory, Page, read_be};
 use std::alloc::Global;
 use std::collections::BTreeMap;
-
-/// PAGE_LEVEL, 2 bytes.
-const LEVEL: usize = 64;
-
-/// PAGE_INDEX_ID, 8 bytes.
-const INDEX_ID: usize = 66;
 
 /// What is kept of a version of a page.
 #[derive(Clone, Copy, Debug, PartialEq, Eq)]

@@ -6,44 +6,16 @@ ghost use Rattle.index_page.specs.Header.{slot_count, heap_top, heap_count, firs
 ghost use Rattle.index_page.specs.Header.{free_count};
 ghost use Rattle.index_page.specs.Page.{HasHeader, HasEnds, IsOrigin};
 
+use crate::layout::{
+    COMPACT_BIT, DIRECTORY_END, FIRST_FREE, HEAP_COUNT, INFIMUM, RECORD_COUNT, SLOT_COUNT,
+    SLOT_SIZE, SUPREMUM,
+};
+use compact_record::layout::{HEAP_START, RECORD_HEADER};
 use compact_record::{heap_number, next_field, status};
 use page_source::{Page, read_be};
 
-/// PAGE_NEW_INFIMUM, the origin of the record before the first one.
-pub(crate) const INFIMUM: usize = 99;
-
-/// PAGE_NEW_SUPREMUM, the origin of the record behind the last one.
-pub(crate) const SUPREMUM: usize = 112;
-
-/// PAGE_N_DIR_SLOTS, the number of directory slots.
-const SLOT_COUNT: usize = 38;
-
 /// PAGE_HEAP_TOP, where the used part of the heap ends.
 const HEAP_TOP: usize = 40;
-
-/// PAGE_N_HEAP, the number of heap records, with bit 15 set in the compact format.
-const HEAP_COUNT: usize = 42;
-
-/// PAGE_FREE, the first free record, 0 where there is none.
-const FIRST_FREE: usize = 44;
-
-/// PAGE_N_RECS, the number of records in the chain.
-const RECORD_COUNT: usize = 54;
-
-/// Bit 15 of PAGE_N_HEAP.
-const COMPACT: usize = 0x8000;
-
-/// PAGE_NEW_SUPREMUM_END, where the heap begins.
-pub(crate) const HEAP_START: usize = 120;
-
-/// The first byte behind directory slot 0, whose slots go down from here (PAGE_DIR).
-const DIRECTORY_END: usize = 16376;
-
-/// The bytes of a directory slot (PAGE_DIR_SLOT_SIZE).
-const SLOT_SIZE: usize = 2;
-
-/// The bytes of a record's header before its origin (REC_N_NEW_EXTRA_BYTES).
-const RECORD_HEADER: usize = 5;
 
 /// REC_STATUS_INFIMUM.
 const STATUS_INFIMUM: u8 = 2;
@@ -81,7 +53,7 @@ pub(crate) fn heap_count(page: &Page) -> usize
     ensures value { result ≡ heap_count page.now }
     ensures within { result < 32768 }
 {
-    field(page, HEAP_COUNT) % COMPACT
+    field(page, HEAP_COUNT) % COMPACT_BIT
 }
 
 /// The first free record, 0 where there is none.
@@ -92,8 +64,8 @@ pub(crate) fn first_free(page: &Page) -> usize
     field(page, FIRST_FREE)
 }
 
-/// The number of records in the chain, infimum and supremum not counted.
-pub(crate) fn record_count(page: &Page) -> usize
+/// PAGE_N_RECS: the number of records in the chain, infimum and supremum not counted.
+pub fn record_count(page: &Page) -> usize
     ensures value { result ≡ record_count page.now }
     ensures within { result < 65536 }
 {
@@ -126,7 +98,7 @@ pub(crate) fn has_header(page: &Page) -> bool
     slots >= 2
         && top >= HEAP_START
         && top + SLOT_SIZE * slots <= DIRECTORY_END
-        && field(page, HEAP_COUNT) >= COMPACT
+        && field(page, HEAP_COUNT) >= COMPACT_BIT
         && record_count(page) + 2 <= heap_count(page)
 }
 

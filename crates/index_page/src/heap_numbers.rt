@@ -11,9 +11,8 @@ ghost use Rattle.index_page.specs.Marks.{bits_of, PassInTurn, seen_after, IsNew,
 
 use crate::chain::has_chain;
 use crate::directory::{Groups, are_whole, grow};
-use crate::header::{
-    INFIMUM, SUPREMUM, first_free, free_count, heap_count, is_origin, record_count,
-};
+use crate::header::{first_free, free_count, heap_count, is_origin, record_count};
+use crate::layout::{INFIMUM, SUPREMUM};
 use crate::marks::Marks;
 use compact_record::{heap_number, next_field, next_origin};
 use page_source::{Page, Rule};

@@ -5,7 +5,8 @@ ghost use Rattle.compact_record.specs.Keys.{IsWholeReading};
 ghost use Rattle.index_page.specs.Header.{records_of, heap_of};
 ghost use Rattle.index_page.specs.Page.{HasHeader, IsChain, AreSpelled, LieApart, KeysRise, IsRise};
 
-use crate::header::{INFIMUM, record_count};
+use crate::header::record_count;
+use crate::layout::INFIMUM;
 use column_values::FieldList;
 use compact_record::{Located, next_origin};
 use page_source::Page;

@@ -8,6 +8,7 @@ mod header;
 mod heap_numbers;
 mod keys;
 pub mod laws;
+pub mod layout;
 mod marks;
 mod minimum_mark;
 mod pass;
@@ -16,5 +17,6 @@ mod room;
 mod spelling;
 
 pub use fault::{Scratch, page_fault};
+pub use header::record_count;
 pub use minimum_mark::{mark_fault, next_record};
 pub use records::Records;

@@ -7,7 +7,8 @@ ghost use Rattle.index_page.specs.Header.{records_of, next_of};
 ghost use Rattle.index_page.specs.Page.{HasHeader, IsChain, HasMinimumMark, HasMarkAt, IsFirst};
 
 use crate::fault::is_lowest_first;
-use crate::header::{INFIMUM, SUPREMUM, record_count};
+use crate::header::record_count;
+use crate::layout::{INFIMUM, SUPREMUM};
 use compact_record::{minimum, next_field, next_origin};
 use page_source::{PAGE_SIZE, Page};
 

@@ -9,12 +9,14 @@ ghost use Rattle.index_page.specs.Page.{HasHeader, IsChain, HasKind, AreSpelled,
 ghost use Rattle.index_page.specs.PageChecks.{HasFreeList};
 ghost use Rattle.index_page.specs.Marks.{bits_of, none_seen, PassInTurn, seen_after, LiesFree, with_record};
 
-use crate::header::{HEAP_START, INFIMUM, first_free, free_count, heap_top, record_count};
+use crate::header::{first_free, free_count, heap_top, record_count};
 use crate::keys::rise;
+use crate::layout::INFIMUM;
 use crate::marks::Marks;
 use crate::room::mark_records;
 use crate::spelling::{are_spelled, has_kind};
 use column_values::FieldList;
+use compact_record::layout::HEAP_START;
 use compact_record::{Located, next_origin};
 use page_source::Page;
 

@@ -5,7 +5,8 @@ ghost use Rattle.index_page.specs.Header.{records_of};
 ghost use Rattle.index_page.specs.Page.{HasHeader, IsChain, AreSpelled};
 ghost use Rattle.index_page.specs.Readings.{AreRead};
 
-use crate::header::{INFIMUM, record_count};
+use crate::header::record_count;
+use crate::layout::INFIMUM;
 use column_values::FieldList;
 use compact_record::{Located, next_origin};
 use page_source::{NoMemory, Page};

@@ -7,9 +7,11 @@ ghost use Rattle.index_page.specs.Page.{HasHeader, AreOrigins, IsChain, AreSpell
 ghost use Rattle.index_page.specs.PageChecks.{HasFreeList};
 ghost use Rattle.index_page.specs.Marks.{bits_of, PassInTurn, seen_after, LiesFree, with_record};
 
-use crate::header::{HEAP_START, INFIMUM, first_free, free_count, heap_top, record_count};
+use crate::header::{first_free, free_count, heap_top, record_count};
+use crate::layout::INFIMUM;
 use crate::marks::Marks;
 use column_values::FieldList;
+use compact_record::layout::HEAP_START;
 use compact_record::{Located, next_origin};
 use page_source::Page;
 

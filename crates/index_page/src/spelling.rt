@@ -6,7 +6,8 @@ ghost use Rattle.index_page.specs.Header.{records_from, records_of, heap_of};
 ghost use Rattle.index_page.specs.Page.{HasHeader, AreOrigins, IsChain, HasKind, AreSpelled};
 ghost use Rattle.index_page.specs.PageChecks.{HasFreeList};
 
-use crate::header::{INFIMUM, first_free, free_count, record_count};
+use crate::header::{first_free, free_count, record_count};
+use crate::layout::INFIMUM;
 use column_values::FieldList;
 use compact_record::{Located, next_origin, status};
 use page_source::Page;

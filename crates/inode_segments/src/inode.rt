@@ -14,13 +14,13 @@ use space_header::{Base, read_base, write_base};
 const NOT_FULL_USED: usize = 8;
 
 /// FSEG_FREE, a list base.
-const FREE: usize = 12;
+const FREE_LIST: usize = 12;
 
 /// FSEG_NOT_FULL, a list base.
-const NOT_FULL: usize = 28;
+const NOT_FULL_LIST: usize = 28;
 
 /// FSEG_FULL, a list base.
-const FULL: usize = 44;
+const FULL_LIST: usize = 44;
 
 /// FSEG_MAGIC_N, 4 bytes.
 const MAGIC: usize = 60;
@@ -61,9 +61,9 @@ pub fn read_inode(page: &Page, at: usize) -> Inode
     Inode {
         id: read_be::<8>(page, at),
         not_full_used: read_be::<4>(page, at + NOT_FULL_USED) as u32,
-        free: read_base(page, at + FREE),
-        not_full: read_base(page, at + NOT_FULL),
-        full: read_base(page, at + FULL),
+        free: read_base(page, at + FREE_LIST),
+        not_full: read_base(page, at + NOT_FULL_LIST),
+        full: read_base(page, at + FULL_LIST),
         magic: read_be::<4>(page, at + MAGIC) as u32,
         slots: read_slots(page, at + SLOTS),
     }
@@ -89,9 +89,9 @@ pub fn write_inode(page: &mut Page, at: usize, inode: &Inode)
     prove!(page.bytes().len() == PAGE_SIZE);
     write_be::<8>(page, at, inode.id);
     write_be::<4>(page, at + NOT_FULL_USED, u64::from(inode.not_full_used));
-    write_base(page, at + FREE, &inode.free);
-    write_base(page, at + NOT_FULL, &inode.not_full);
-    write_base(page, at + FULL, &inode.full);
+    write_base(page, at + FREE_LIST, &inode.free);
+    write_base(page, at + NOT_FULL_LIST, &inode.not_full);
+    write_base(page, at + FULL_LIST, &inode.full);
     write_be::<4>(page, at + MAGIC, u64::from(inode.magic));
     write_slots(page, at + SLOTS, &inode.slots);
 }

@@ -6,16 +6,11 @@ ghost use Rattle.inode_segments.specs.Inodes.{inode_byte, is_used_place, used_pl
 ghost use Rattle.inode_segments.specs.Kept.{none_kept};
 
 use crate::inode::{Inode, read_inode};
+use crate::layout::{FIRST_INODE, INODE_SIZE};
 use page_source::{NoMemory, Page, read_be};
 use space_header::Address;
 use std::alloc::Global;
 use std::marker::Model;
-
-/// FSEG_ARR_OFFSET: the first inode of an inode page begins here.
-const FIRST: usize = 50;
-
-/// FSEG_INODE_SIZE, the bytes of an inode.
-const INODE: usize = 192;
 
 /// FSP_SEG_INODES_PER_PAGE.
 pub const INODES: u32 = 85;
@@ -127,7 +122,7 @@ fn inode_place(k: u32) -> usize
     requires { k < 85 }
     ensures { result ≡ inode_byte k }
 {
-    FIRST + INODE * k as usize
+    FIRST_INODE + INODE_SIZE * k as usize
 }
 
 /// Whether inode `k` of a page is used.

@@ -4,6 +4,7 @@
 mod inode;
 mod inodes;
 pub mod laws;
+pub mod layout;
 mod read;
 mod segments;
 mod walk;

@@ -9,12 +9,10 @@ ghost use Rattle.inode_segments.specs.InodeChecks.{SegmentChecks};
 ghost use Rattle.inode_segments.specs.Kept.{AreKept};
 
 use crate::inodes::Inodes;
+use crate::layout::MAGIC_NUMBER;
 use page_source::{NoMemory, Rule, Stop};
 use std::alloc::Global;
 use std::collections::BTreeSet;
-
-/// FSEG_MAGIC_N_VALUE.
-const MAGIC: u32 = 97_937_874;
 
 /// Checks the magics and the ids of the inodes, in order, where `next` is the id that the next
 /// segment gets.
@@ -27,7 +25,7 @@ pub fn check_segments(alloc: Global, inodes: &Inodes, next: u64) -> Result<(), S
     for i in 0..inodes.count() {
         let inode = inodes.inode(i);
         let holder = inodes.place(i).page;
-        if inode.magic != MAGIC {
+        if inode.magic != MAGIC_NUMBER {
             return Err(Rule::SegmentMagic.at(holder).into());
         }
         if inode.id >= next || !add_id(&mut ids, inode.id)? {

@@ -13,14 +13,12 @@ ghost use Rattle.inode_segments.specs.Kept.{AreKept, none_kept};
 ghost use Rattle.inode_segments.specs.Walk.{DescribesFile, Grew};
 
 use crate::inodes::{INODES, Inodes, used_inodes};
+use crate::layout::INODE_PAGE_NODE;
 use fil_frame::kinds::FIL_PAGE_INODE;
 use fil_frame::{frame_fault, kind};
 use page_source::{Fault, Page, PageSource, Rule, Steps, Stop};
 use space_header::{Address, Base, SpaceHeader, is_null, read_node};
 use std::sync::ledger::Ledger;
-
-/// FSEG_INODE_PAGE_NODE: the list node of an inode page stands here.
-const NODE: u16 = 38;
 
 /// A step along a list of inode pages.
 #[derive(Clone, Copy)]
@@ -76,7 +74,7 @@ fn check_page(page: &Page, space: u32, full: bool, step: &Step) -> Result<Addres
     if kind(page) != FIL_PAGE_INODE {
         return Err(Rule::InodeType.at(n));
     }
-    let node = read_node(page, usize::from(NODE));
+    let node = read_node(page, usize::from(INODE_PAGE_NODE));
     if !is_address(&node.prev, &step.before) {
         return Err(Rule::InodeList.at(n));
     }
@@ -98,7 +96,7 @@ impl Lists<'_> {
         ensures new { IsTrue result → flag_in inodes.now.pages address.now.page ≡ false }
     {
         let n = address.page;
-        address.offset == NODE
+        address.offset == INODE_PAGE_NODE
             && n < self.header.size
             && self.fragments.get(n as usize).copied().unwrap_or(false)
             && !inodes.is_inode_page(n)

@@ -8,28 +8,16 @@ ghost use Rattle.key_lookup.specs.Choice.{IsLast};
 use crate::key::SearchKey;
 use column_values::FieldList;
 use compact_record::{Located, next_origin};
+use index_page::layout::INFIMUM;
+use index_page::record_count;
 use page_source::{Page, read_be};
 use std::cmp::Ordering;
-
-/// PAGE_NEW_INFIMUM, the origin of the record before the first one.
-pub(crate) const INFIMUM: usize = 99;
-
-/// PAGE_N_RECS, the number of records.
-const RECORD_COUNT: usize = 54;
 
 /// A record of a page: its number in the chain, and its origin.
 #[derive(Clone, Copy, Debug, PartialEq, Eq)]
 pub(crate) struct Chosen {
     pub k: usize,
     pub origin: usize,
-}
-
-/// The number of records of a page.
-pub(crate) fn record_count(page: &Page) -> usize
-    ensures value { result ≡ record_count page.now }
-    ensures within { result < 65536 }
-{
-    read_be::<2>(page, RECORD_COUNT) as usize
 }
 
 /// The last node pointer of a page that is the first one, or whose key isn't greater than the one that is sought.

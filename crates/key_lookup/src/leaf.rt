@@ -5,10 +5,11 @@ ghost use Rattle.tree_walk.specs.Index.{Index, page_in};
 ghost use Rattle.tree_walk.specs.Records.{PageFacts, IsRecord, IsHeld};
 ghost use Rattle.key_lookup.specs.Leaf.{is_sought, row_at_origin, IsRowOn};
 
-use crate::choose::{INFIMUM, record_count};
 use crate::key::SearchKey;
 use column_values::FieldList;
 use compact_record::{Located, deleted, next_origin};
+use index_page::layout::INFIMUM;
+use index_page::record_count;
 use page_source::Page;
 use std::cmp::Ordering;
 

@@ -12,10 +12,8 @@ use schema_text::Schema;
 use schema_text::laws::lists_are_of_one_index;
 use sql_dump::{Buffer, ChainRoom, RowReader};
 use std::alloc::Global;
+use table_check::MOST_FIELDS;
 use tree_walk::Walk;
-
-/// The most fields of a record: 64 columns, a row id, a transaction id and a roll pointer are fewer.
-const MOST_FIELDS: u32 = 128;
 
 /// What a look-up works in: the fields of the clustered index, the room for the way, that for the row, and that for the
 /// chains of its values.

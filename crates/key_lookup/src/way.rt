@@ -27,20 +27,12 @@ use crate::tree::Tree;
 use column_values::FieldList;
 use compact_record::next_origin;
 use fil_frame::kinds::FIL_PAGE_INDEX;
+use index_page::layout::{FIRST_ORIGIN, INDEX_ID, LEVEL};
 use offpage_chain::fetch_framed;
 use page_source::{FIL_NULL, Fault, Halt, PageSource, Rule, Steps, read_be};
 use std::mem;
 use std::sync::ledger::Ledger;
 use tree_walk::{Cursor, Next, Stand, Walk, check_node};
-
-/// PAGE_LEVEL, the level of an index page.
-const LEVEL: usize = 64;
-
-/// PAGE_INDEX_ID, the id of the index of an index page.
-const INDEX_ID: usize = 66;
-
-/// The least origin of a record of the heap.
-const FIRST_ORIGIN: usize = 125;
 
 /// A page of the way that is due: where it stands, between which node pointers, and what is broken if it can't be one.
 #[derive(Clone, Copy, Debug, PartialEq, Eq)]

@@ -8,18 +8,14 @@ ghost use Rattle.leaf_salvage.specs.Unused.{IsUnused, map_kind, is_clear_on};
 ghost use Rattle.leaf_salvage.specs.Known.{Knows};
 
 use crate::standing::stands;
+use extent_map::layout::BITMAP;
 use fil_frame::kind;
 use fil_frame::kinds::{FIL_PAGE_TYPE_FSP_HDR, FIL_PAGE_TYPE_XDES};
 use page_source::{NoMemory, Page, read_be};
+use space_header::layout::FREE_LIMIT;
 use space_header::{DESCRIBED_PAGES, DESCRIPTOR_SIZE, FIRST_DESCRIPTOR};
 use std::alloc::Global;
 use std::marker::Model;
-
-/// FSP_FREE_LIMIT, 4 bytes on page 0: no page from here on was ever used.
-const LIMIT: usize = 50;
-
-/// XDES_BITMAP, from the first byte of a descriptor on.
-const BITMAP: usize = 24;
 
 /// What the descriptor pages tell that were met so far: the free limit, and the last of these pages.
 #[derive(Debug, Drop)]
@@ -119,7 +115,7 @@ impl Descriptors {
         copy(&mut self.page, page);
         if n == 0 {
             self.limit = if self.told {
-                Some(read_be::<4>(page, LIMIT) as u32)
+                Some(read_be::<4>(page, FREE_LIMIT) as u32)
             } else {
                 None
             };

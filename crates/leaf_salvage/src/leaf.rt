@@ -8,14 +8,9 @@ use crate::verdict::Verdict;
 use column_values::FieldList;
 use fil_frame::kind;
 use fil_frame::kinds::FIL_PAGE_INDEX;
+use index_page::layout::{INDEX_ID, LEVEL};
 use index_page::{Scratch, page_fault};
 use page_source::{Page, Rule, read_be};
-
-/// PAGE_LEVEL, 2 bytes.
-const LEVEL: usize = 64;
-
-/// PAGE_INDEX_ID, 8 bytes.
-const INDEX_ID: usize = 66;
 
 /// Whether all these bytes are zero.
 fn are_zeros(bytes: &[u8]) -> bool

@@ -5,23 +5,19 @@ ghost use Rattle.fil_frame.specs.Frame.{space_of};
 ghost use Rattle.leaf_salvage.specs.Standing.{Stands, TellsIndexId};
 
 use fil_frame::kinds::FIL_PAGE_INDEX;
+use fil_frame::layout::PAGE_SPACE;
 use fil_frame::{frame_fault, kind};
+use index_page::layout::INDEX_ID;
 use page_source::{Page, read_be};
 
 /// How many pages of a file are looked at: 64 GiB.
 pub const MOST_PAGES: u32 = 4_194_304;
 
-/// FIL_PAGE_ARCH_LOG_NO_OR_SPACE_ID, 4 bytes.
-const SPACE: usize = 34;
-
-/// PAGE_INDEX_ID, 8 bytes.
-const INDEX_ID: usize = 66;
-
 /// The space id that a page names.
 pub fn space_id(page: &Page) -> u32
     ensures { result ≡ space_of page.now }
 {
-    read_be::<4>(page, SPACE) as u32
+    read_be::<4>(page, PAGE_SPACE) as u32
 }
 
 /// Whether the frame is that of page `n`, of whatever space: its checksums are of some kind, and its page number and

@@ -4,6 +4,7 @@
 mod check;
 mod fetch;
 pub mod laws;
+pub mod layout;
 mod pages;
 pub mod part;
 mod reader;

@@ -13,15 +13,13 @@ ghost use Rattle.offpage_chain.specs.ChainChecks.{IsChainPlace, IsNewPlace};
 ghost use Rattle.offpage_chain.specs.Places.{page_total, AreOf, PlaceIn, CanCheck};
 
 use crate::fetch::fetch_framed;
+use crate::layout::PART_HEADER;
 use crate::reference::Reference;
 use fil_frame::kinds::FIL_PAGE_TYPE_BLOB;
 use page_source::{Halt, Page, PageSource, Rule, Steps};
 use space_audit::{Marks, Space};
 use space_header::SpaceHeader;
 use std::sync::ledger::Ledger;
-
-/// The first byte of a part's header on its page, which a reference names.
-const PART_HEADER: u32 = 38;
 
 /// The pages that a chain may go on at.
 #[derive(Clone, Copy)]

@@ -6,7 +6,8 @@ ghost use Rattle.page_source.specs.Lists.{AreDistinct, after_place};
 ghost use Rattle.offpage_chain.specs.ValuePage.{pages_for, blob_part, part_body, value_page};
 ghost use Rattle.offpage_chain.specs.Writing.{AreBelow, WritesValue};
 
-use crate::part::{MOST, NEXT_PAGE, PART, PART_LENGTH};
+use crate::layout::{LONGEST_PART, PART_START};
+use crate::part::{NEXT_PART, PART_LENGTH};
 use fil_frame::kinds::FIL_PAGE_TYPE_BLOB;
 use fil_frame::seal;
 use page_source::{FIL_NULL, Failed, Page, PageStore, write_be};
@@ -48,11 +49,11 @@ fn put_part_page(page: &mut Page, space: u32, numbers: &[u32], bytes: &[u8], k: 
 
 /// Part `k` of the bytes.
 fn part_of(bytes: &[u8], k: usize) -> &[u8]
-    requires { MOST * k ≤ length bytes.now }
+    requires { LONGEST_PART * k ≤ length bytes.now }
     ensures { result.now ≡ blob_part bytes.now k }
 {
-    let rest = &bytes[MOST as usize * k..];
-    &rest[..rest.len().min(MOST as usize)]
+    let rest = &bytes[LONGEST_PART as usize * k..];
+    &rest[..rest.len().min(LONGEST_PART as usize)]
 }
 
 /// The number of the page behind page `k`.
@@ -69,11 +70,11 @@ fn next_of(numbers: &[u32], k: usize) -> u32
 
 /// Makes the page all zeros but for this part behind its header.
 fn put_part(page: &mut Page, next: u32, part: &[u8])
-    requires { length part.now ≤ MOST }
+    requires { length part.now ≤ LONGEST_PART }
     ensures { page.new ≡ with_bytes (replicate 16384 0) 38 (part_body part.now next) }
 {
     page.clear();
     write_be::<4>(page, PART_LENGTH, part.len() as u64);
-    write_be::<4>(page, NEXT_PAGE, u64::from(next));
-    page.put_bytes(PART, part);
+    write_be::<4>(page, NEXT_PART, u64::from(next));
+    page.put_bytes(PART_START, part);
 }

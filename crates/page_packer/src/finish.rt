@@ -9,16 +9,11 @@ ghost use Rattle.page_packer.specs.Laws.{HoldsPushed};
 
 use crate::packer::{Heads, Packer};
 use crate::parts::{
-    FILL_START, INFIMUM, SUPREMUM, next_between, owned_at, owned_by_supremum, put_heads,
-    put_neighbours, put_numbers, slots_for,
+    next_between, owned_at, owned_by_supremum, put_heads, put_neighbours, put_numbers, slots_for,
 };
+use compact_record::layout::HEAP_START;
+use index_page::layout::{COMPACT_BIT, DIRECTORY_END, INDEX_ID, INFIMUM, SLOT_COUNT, SUPREMUM};
 use page_source::{PAGE_SIZE, Page, write_be};
-
-/// The end of the directory.
-const DIRECTORY_END: usize = 16376;
-
-/// Bit 15 of the heap count.
-const COMPACT: u16 = 0x8000;
 
 impl Packer {
     /// The origin of record `k`; behind the last one stands the supremum.
@@ -82,7 +77,7 @@ impl Packer {
     {
         prove!(page.bytes().len() == PAGE_SIZE);
         prove!(self.top() <= PAGE_SIZE);
-        page.put_bytes(FILL_START, self.heap());
+        page.put_bytes(HEAP_START, self.heap());
         for k in 0..self.count() {
             self.link_record(page, k);
         }
@@ -113,11 +108,11 @@ impl Packer {
         let top = self.top() as u16;
         put_numbers(
             page,
-            38,
+            SLOT_COUNT,
             &[
                 slots,
                 top,
-                COMPACT + (count + 2),
+                COMPACT_BIT as u16 + (count + 2),
                 0,
                 0,
                 0,
@@ -131,7 +126,7 @@ impl Packer {
                 self.level(),
             ],
         );
-        write_be::<8>(page, 66, index_id);
+        write_be::<8>(page, INDEX_ID, index_id);
         put_heads(page, heads);
     }
 

@@ -6,9 +6,11 @@ ghost use Rattle.page_packer.specs.Packing.{AreWhole, slots_for, total_size, fit
 ghost use Rattle.page_packer.specs.Packing.{with_record};
 ghost use Rattle.page_packer.specs.Filling.{unlinked_bytes, HasSpot};
 
-use crate::parts::{FILL_START, slots_for, status_on};
+use crate::parts::{slots_for, status_on};
 use column_values::FieldList;
+use compact_record::layout::HEAP_START;
 use compact_record::{Parts, place_record};
+use index_page::layout::DIRECTORY_END;
 use page_source::{NoMemory, PAGE_SIZE, Page};
 use std::alloc::Global;
 use std::marker::Model;
@@ -42,9 +44,6 @@ const MOST_RECORDS: usize = 4096;
 
 /// PAGE_HEAP_NO_USER_LOW, the heap number of the first record.
 const FIRST_NUMBER: usize = 2;
-
-/// The end of the directory.
-const DIRECTORY_END: usize = 16376;
 
 /// A page that is filled with records. It is seen as its level and the records that were pushed, each as its bytes
 /// with the place of its origin among them.
@@ -84,7 +83,7 @@ impl Packer {
             spots: Vec::from_elem(alloc, none, MOST_RECORDS)?,
             level: 0,
             count: 0,
-            top: FILL_START,
+            top: HEAP_START,
         })
     }
 
@@ -94,7 +93,7 @@ impl Packer {
     {
         self.level = level;
         self.count = 0;
-        self.top = FILL_START;
+        self.top = HEAP_START;
     }
 
     /// Whether one more record of this size fits.
@@ -163,6 +162,6 @@ impl Packer {
         ensures value { result.now ≡ unlinked_bytes self.now.records }
         ensures size { length result.now ≡ total_size self.now.records }
     {
-        &self.page.bytes()[FILL_START..self.top]
+        &self.page.bytes()[HEAP_START..self.top]
     }
 }

@@ -6,15 +6,9 @@ ghost use Rattle.page_packer.specs.Packing.{slots_for, next_between, segment_hea
 ghost use Rattle.page_packer.specs.Packing.{owned_by_supremum, status_on};
 
 use crate::packer::Heads;
+use compact_record::layout::HEAP_START;
+use index_page::layout::{INFIMUM, SUPREMUM};
 use page_source::{PAGE_SIZE, Page, write_be};
-
-/// PAGE_NEW_SUPREMUM_END, where the heap of a page begins.
-pub(crate) const FILL_START: usize = 120;
-
-/// PAGE_NEW_INFIMUM and PAGE_NEW_SUPREMUM, the origins of the records at the two ends of the chain.
-pub(crate) const INFIMUM: usize = 99;
-
-pub(crate) const SUPREMUM: usize = 112;
 
 /// The status of the records of a level: rows on the leaves, node pointers above.
 pub(crate) fn status_on(level: u16) -> u8

@@ -10,32 +10,15 @@ use fil_frame::kinds::{
     FIL_PAGE_IBUF_BITMAP, FIL_PAGE_INDEX, FIL_PAGE_INODE, FIL_PAGE_TYPE_BLOB,
     FIL_PAGE_TYPE_FSP_HDR, FIL_PAGE_TYPE_XDES,
 };
+use fil_frame::layout::{LOW_LSN, LSN_ECHO, PAGE_KIND, PAGE_LSN, PAGE_NUMBER, PAGE_SPACE};
 use leaf_salvage::{MOST_PAGES, stands};
 use page_source::{PAGE_SIZE, Page, read_be};
-
-/// FIL_PAGE_OFFSET, the page's number, 4 bytes.
-const NUMBER: usize = 4;
-
-/// FIL_PAGE_LSN, 8 bytes.
-const LSN: usize = 16;
-
-/// The low 4 bytes of the LSN.
-const LOW_LSN: usize = 20;
-
-/// FIL_PAGE_TYPE, 2 bytes.
-const KIND: usize = 24;
-
-/// FIL_PAGE_ARCH_LOG_NO_OR_SPACE_ID, 4 bytes.
-const SPACE: usize = 34;
-
-/// The low 4 bytes of the LSN once more, at the end of the page.
-const ECHO: usize = 16380;
 
 /// The LSN of the last change of a page.
 pub fn lsn(page: &Page) -> u64
     ensures { result ≡ lsn_of page.now }
 {
-    read_be::<8>(page, LSN)
+    read_be::<8>(page, PAGE_LSN)
 }
 
 /// The number in the 2 bytes from byte `at` on.
@@ -75,10 +58,10 @@ fn looks_like_page(bytes: &[u8]) -> bool
     requires { length bytes.now ≡ 16384 }
     ensures { IsTrue result ↔ LooksLikePage bytes.now }
 {
-    is_table_kind(short_at(bytes, KIND))
-        && long_at(bytes, ECHO) == long_at(bytes, LOW_LSN)
-        && long_at(bytes, NUMBER) < MOST_PAGES
-        && long_at(bytes, SPACE) != 0
+    is_table_kind(short_at(bytes, PAGE_KIND))
+        && long_at(bytes, LSN_ECHO) == long_at(bytes, LOW_LSN)
+        && long_at(bytes, PAGE_NUMBER) < MOST_PAGES
+        && long_at(bytes, PAGE_SPACE) != 0
 }
 
 /// The page whose bytes these are, which are copied then.
@@ -91,12 +74,12 @@ fn page_of_bytes(bytes: &[u8], page: &mut Page) -> Option<FoundPage>
     }
     prove!(page.bytes().len() == PAGE_SIZE);
     page.put_bytes(0, bytes);
-    let number = long_at(bytes, NUMBER);
+    let number = long_at(bytes, PAGE_NUMBER);
     if !stands(page, number) {
         return None;
     }
     Some(FoundPage {
-        space: long_at(bytes, SPACE),
+        space: long_at(bytes, PAGE_SPACE),
         number,
     })
 }

@@ -19,14 +19,12 @@ use column_values::Utf8;
 use fil_frame::kinds::FIL_PAGE_TYPE_BLOB;
 use fil_frame::{frame_fault, kind};
 use offpage_chain::Reference;
+use offpage_chain::layout::PART_HEADER;
 use offpage_chain::part::{is_part, next_part, part_bytes, part_length};
 use page_source::{Page, PageSource, Rule, Steps};
 use salvage_model::Loss;
 use space_audit::Marks;
 use std::sync::ledger::Ledger;
-
-/// The first byte of a part's header on its page, which a reference names.
-const PART_HEADER: u32 = 38;
 
 /// The chain that is checked: how many pages are looked at in the file, the space id that the leaf names, the leaf, and
 /// the reference.

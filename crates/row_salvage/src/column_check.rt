@@ -15,7 +15,7 @@ use salvage_model::Loss;
 use space_audit::Marks;
 use sql_dump::Cell;
 use std::sync::ledger::Ledger;
-use table_check::{cut, text_of};
+use table_check::{split_local, text_of};
 
 /// Checks the value of a column on leaf number `leaf`, and answers how many pages it goes on in. Marks the pages that
 /// are looked at. `pages` is the number of pages that are looked at in the file.
@@ -45,7 +45,7 @@ pub(crate) fn check_cell<S: PageSource, L: Ledger>(
     if cell.place.null || !cell.place.external {
         return Ok(0);
     }
-    let (front, reference) = cut(cell.local());
+    let (front, reference) = split_local(cell.local());
     let mut text = text_of(cell.kind);
     text.feed(front);
     let chain = Chain {

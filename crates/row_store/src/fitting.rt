@@ -9,16 +9,12 @@ ghost use Rattle.row_store.specs.calls.RowFields.{local_length, length_length, f
 
 use crate::row_fields::RowFields;
 use column_values::{Field, FieldList};
+use compact_record::layout::RECORD_HEADER;
+use offpage_chain::layout::REFERENCE_SIZE;
 use schema_text::{Format, Schema};
 
 /// A record with so many bytes is too long.
 const TOO_LONG: usize = 8_126;
-
-/// A reference to the pages of a value (BTR_EXTERN_FIELD_REF_SIZE).
-const REFERENCE: usize = 20;
-
-/// The bytes of a record's header before its origin (REC_N_NEW_EXTRA_BYTES).
-const HEADER: usize = 5;
 
 /// Field `i` of a record.
 pub(crate) fn field_at(fields: &FieldList, i: usize) -> Field
@@ -58,7 +54,7 @@ fn local_length(format: Format, row: &RowFields, i: usize) -> usize
     if row.is_null(i) {
         0
     } else if row.is_off(i) {
-        size.min(kept_prefix(format)) + REFERENCE
+        size.min(kept_prefix(format)) + REFERENCE_SIZE
     } else {
         size
     }
@@ -102,7 +98,7 @@ fn is_too_long(schema: &Schema, fields: &FieldList, row: &RowFields) -> bool
 {
     let nulls = (fields.nullable() as usize + 7) / 8;
     let size = fields_size(schema.format(), fields, row);
-    size.saturating_add(nulls + HEADER) >= TOO_LONG
+    size.saturating_add(nulls + RECORD_HEADER) >= TOO_LONG
 }
 
 /// How long field `i` is where it may go off the page, else 0.

@@ -10,10 +10,8 @@ mod row_shape;
 mod rows;
 mod stop;
 mod stored;
-mod value_order;
 
 pub use row_shape::is_among;
 pub use rows::read_rows;
 pub use stop::{RowsStop, RowsWhy};
 pub use stored::StoredRows;
-pub use value_order::compare_values;

@@ -25,14 +25,14 @@ pub(crate) struct Mark {
 }
 
 /// No row has so many bytes.
-const MOST: usize = 1_073_741_824;
+const MOST_MARKED: usize = 1_073_741_824;
 
 impl Mark {
     /// The mark of a field.
     fn new(spot: FieldSpot) -> Result<Mark, NoMemory>
         ensures { IfOk result (λ mark. spot_of mark ≡ spot) }
     {
-        if spot.end >= MOST {
+        if spot.end >= MOST_MARKED {
             return Err(NoMemory);
         }
         let null = if spot.null { 2 } else { 0 };

@@ -17,7 +17,7 @@ use schema_text::Schema;
 use std::alloc::Global;
 
 /// How many bytes the text of rows may have.
-const LONGEST_TEXT: usize = 4_294_967_296;
+const LONGEST_ROWS: usize = 4_294_967_296;
 
 /// Tests a line by its bytes alone, behind so many bytes of the text. Answers where it ends.
 pub(crate) fn check_line(line: NextLine, taken: usize) -> Result<usize, RowsWhy>
@@ -29,7 +29,7 @@ pub(crate) fn check_line(line: NextLine, taken: usize) -> Result<usize, RowsWhy>
     if size > LONGEST_LINE {
         return Err(RowsWhy::Long);
     }
-    if taken + size > LONGEST_TEXT {
+    if taken + size > LONGEST_ROWS {
         return Err(RowsWhy::Input);
     }
     if !line.feed {

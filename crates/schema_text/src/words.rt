@@ -10,8 +10,8 @@ use std::str;
 
 const LONGEST_NAME: usize = 64;
 
-/// Root pages are behind the first three pages, which are the tablespace's own.
-const FIRST_ROOT: u32 = 3;
+/// The first page that may be a root: the three before it are the tablespace's own.
+pub const FIRST_ROOT: u32 = 3;
 
 const LAST_ROOT: u32 = 4_194_303;
 

@@ -9,11 +9,9 @@ use crate::numbering::Numbering;
 use extent_map::Extents;
 use extent_map::states::FSEG;
 use page_source::NoMemory;
+use space_header::layout::EXTENT_PAGES;
 use std::alloc::Global;
 use std::marker::Model;
-
-/// The pages of an extent.
-const EXTENT_PAGES: u32 = 64;
 
 /// The number of the list on which each extent must stand and how many of its pages are used; by
 /// list, how many extents it must have and how many of their pages are used.

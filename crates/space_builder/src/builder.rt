@@ -12,12 +12,9 @@ use crate::plan::{plan_space, row_orders};
 use crate::space::Space;
 use page_source::{ByteSource, PageStore, Steps};
 use row_store::read_rows;
-use schema_text::Schema;
+use schema_text::{FIRST_ROOT, Schema};
 use std::alloc::Global;
 use std::sync::ledger::Ledger;
-
-/// The number of the first root.
-const FIRST_ROOT: u32 = 3;
 
 /// The line of the first root that isn't the page behind the root before it.
 fn misplaced_root(schema: &Schema) -> Option<u32>

@@ -7,6 +7,7 @@ ghost use Rattle.space_builder.specs.calls.Picked.{first_page_in, clustered_part
 
 use crate::entries::{Entries, Leaves};
 use compact_record::Parts;
+use offpage_chain::layout::REFERENCE_SIZE;
 use offpage_chain::{Reference, write_reference};
 use page_source::{ByteList, NoMemory};
 use row_store::StoredRows;
@@ -24,9 +25,6 @@ pub(crate) struct ClusteredEntries<'a> {
     pub(crate) first_pages: &'a [u32],
     pub(crate) starts: &'a [u32],
 }
-
-/// The length of a reference.
-const REFERENCE: usize = 20;
 
 /// How many bytes of a value stay where it goes off the page.
 pub(crate) fn kept_prefix(format: Format) -> usize
@@ -50,7 +48,7 @@ fn off_local(
     ensures { IfOk result (λ local. local ≡ off_local format page (kept bytes.now)) }
 {
     let prefix = kept_prefix(format).min(bytes.len());
-    let mut reference = [0; REFERENCE];
+    let mut reference = [0; REFERENCE_SIZE];
     write_reference(
         &mut reference,
         &Reference {

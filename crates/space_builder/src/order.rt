@@ -11,10 +11,10 @@ ghost use Rattle.row_layout.specs.HoldsValues.{stored_in};
 ghost use Rattle.space_builder.specs.calls.Picked.{picked_key, entry_fields};
 ghost use Rattle.space_builder.specs.calls.Order.{IsKeyOrder, IsIndexOrder};
 
-use column_values::{Field, FieldList, FieldType};
+use column_values::{Field, FieldList, FieldType, compare_values};
 use key_ranks::{RowKeys, order_of_rows};
 use page_source::NoMemory;
-use row_store::{StoredRows, compare_values, is_among};
+use row_store::{StoredRows, is_among};
 use schema_text::{Schema, column_fields};
 use std::alloc::Global;
 use std::cmp::Ordering;

@@ -22,11 +22,9 @@ use page_source::{Page, PageStore};
 use row_layout::laws::fitted_rows_are_rows;
 use row_store::StoredRows;
 use schema_text::Schema;
+use space_header::layout::EXTENT_PAGES;
 use space_layout::extents_needed;
 use std::alloc::Global;
-
-/// The pages of an extent.
-const EXTENT: u32 = 64;
 
 /// A tablespace that is to be put: its schema, its rows, their orders in the indexes, and how many pages it has.
 #[derive(Clone, Copy)]
@@ -182,7 +180,7 @@ impl Space<'_> {
         ensures { OfSpace self.now (λ rows. result ≡ layout_size self.now.schema.now rows) }
     {
         laws_below();
-        EXTENT * extents_needed(&self.plan.sizes)
+        EXTENT_PAGES * extents_needed(&self.plan.sizes)
     }
 
     /// Sizes the store, and puts all pages, page 0 last.

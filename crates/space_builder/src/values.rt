@@ -14,22 +14,17 @@ ghost use Rattle.space_builder.specs.calls.Room.{first_page, row_first_pages, pa
 ghost use Rattle.space_builder.specs.calls.Room.{KeepsRow, TakesRow, TakesValues};
 
 use crate::built::PutStop;
+use offpage_chain::layout::LONGEST_PART;
 use offpage_chain::write_chain;
 use page_source::{NoMemory, Page, PageStore};
 use row_store::StoredRows;
 use schema_text::Format;
 use space_layout::laws::numbers_differ;
-use space_layout::segment_page;
+use space_layout::{BUILT_SPACE, segment_page};
 use std::alloc::Global;
 
 /// The segment of the leaves of the first index.
 const LEAVES: usize = 1;
-
-/// The id of a tablespace that is built.
-const SPACE: u32 = 1;
-
-/// The most bytes of a value on one page.
-const PART: usize = 16330;
 
 /// How many bytes of a value stay on the page of its record.
 fn kept_prefix(format: Format) -> usize
@@ -132,10 +127,10 @@ fn put_value<T: PageStore>(
     ensures starts { room.new.starts.items ≡ room.old.starts.items }
 {
     numbers_differ();
-    let count = (bytes.len() + (PART - 1)) / PART;
+    let count = (bytes.len() + (LONGEST_PART as usize - 1)) / LONGEST_PART as usize;
     list_numbers(&mut room.numbers, sizes, at, count)?;
     list_first(&mut room.first_pages, &room.numbers)?;
-    write_chain(store, SPACE, &room.numbers, bytes, &mut room.page)?;
+    write_chain(store, BUILT_SPACE, &room.numbers, bytes, &mut room.page)?;
     Ok(at + count as u32)
 }
 

@@ -1,33 +1,22 @@
 //! The space header (fsp_header_t, fsp0fsp).
 
 use crate::address::{Base, put_base, read_base};
+use crate::layout::{FREE_LIMIT, SPACE_FLAGS, SPACE_ID, SPACE_SIZE};
 use page_source::{PAGE_SIZE, Page, read_be, write_be};
 
 // The places of the fields on page 0, with their names in fsp0fsp.h.
-
-/// FSP_SPACE_ID, 4 bytes.
-const SPACE: usize = 38;
-
-/// FSP_SIZE, 4 bytes.
-const SIZE: usize = 46;
-
-/// FSP_FREE_LIMIT, 4 bytes.
-const LIMIT: usize = 50;
-
-/// FSP_SPACE_FLAGS, 4 bytes.
-const FLAGS: usize = 54;
 
 /// FSP_FRAG_N_USED, 4 bytes.
 const FRAG_USED: usize = 58;
 
 /// FSP_FREE, a list base.
-const FREE: usize = 62;
+const FREE_LIST: usize = 62;
 
 /// FSP_FREE_FRAG, a list base.
-const FREE_FRAG: usize = 78;
+const FREE_FRAG_LIST: usize = 78;
 
 /// FSP_FULL_FRAG, a list base.
-const FULL_FRAG: usize = 94;
+const FULL_FRAG_LIST: usize = 94;
 
 /// FSP_SEG_ID, 8 bytes.
 const NEXT_SEGMENT: usize = 110;
@@ -78,15 +67,15 @@ impl SpaceHeader {
         ensures { result ≡ header_of page.now }
     {
         SpaceHeader {
-            space: read_be::<4>(page, SPACE) as u32,
-            size: read_be::<4>(page, SIZE) as u32,
-            limit: read_be::<4>(page, LIMIT) as u32,
-            flags: read_be::<4>(page, FLAGS) as u32,
+            space: read_be::<4>(page, SPACE_ID) as u32,
+            size: read_be::<4>(page, SPACE_SIZE) as u32,
+            limit: read_be::<4>(page, FREE_LIMIT) as u32,
+            flags: read_be::<4>(page, SPACE_FLAGS) as u32,
             frag_used: read_be::<4>(page, FRAG_USED) as u32,
             next_segment: read_be::<8>(page, NEXT_SEGMENT),
-            free: read_base(page, FREE),
-            free_frag: read_base(page, FREE_FRAG),
-            full_frag: read_base(page, FULL_FRAG),
+            free: read_base(page, FREE_LIST),
+            free_frag: read_base(page, FREE_FRAG_LIST),
+            full_frag: read_base(page, FULL_FRAG_LIST),
             inodes_full: read_base(page, INODES_FULL),
             inodes_free: read_base(page, INODES_FREE),
         }
@@ -98,14 +87,14 @@ impl SpaceHeader {
         ensures read { header_of page.new ≡ self.now }
     {
         prove!(page.bytes().len() == PAGE_SIZE);
-        write_be::<4>(page, SPACE, u64::from(self.space));
-        write_be::<4>(page, SIZE, u64::from(self.size));
-        write_be::<4>(page, LIMIT, u64::from(self.limit));
-        write_be::<4>(page, FLAGS, u64::from(self.flags));
+        write_be::<4>(page, SPACE_ID, u64::from(self.space));
+        write_be::<4>(page, SPACE_SIZE, u64::from(self.size));
+        write_be::<4>(page, FREE_LIMIT, u64::from(self.limit));
+        write_be::<4>(page, SPACE_FLAGS, u64::from(self.flags));
         write_be::<4>(page, FRAG_USED, u64::from(self.frag_used));
-        put_base(page, FREE, &self.free);
-        put_base(page, FREE_FRAG, &self.free_frag);
-        put_base(page, FULL_FRAG, &self.full_frag);
+        put_base(page, FREE_LIST, &self.free);
+        put_base(page, FREE_FRAG_LIST, &self.free_frag);
+        put_base(page, FULL_FRAG_LIST, &self.full_frag);
         write_be::<8>(page, NEXT_SEGMENT, self.next_segment);
         put_base(page, INODES_FULL, &self.inodes_full);
         put_base(page, INODES_FREE, &self.inodes_free);

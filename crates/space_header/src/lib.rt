@@ -5,6 +5,7 @@
 mod address;
 mod header;
 pub mod laws;
+pub mod layout;
 mod list;
 
 pub use address::{Address, Base, Node, is_null, read_base, read_node, write_base, write_node};

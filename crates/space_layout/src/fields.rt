@@ -7,24 +7,23 @@ ghost use Rattle.space_layout.specs.Fields.{full_fragments, open_fragments, full
 ghost use Rattle.space_layout.specs.Fields.{fragment_descriptor, own_descriptor, header, slot_of, inode};
 
 use crate::numbers::{
-    EXTENT, extent_start, extents_needed, extents_of, fragment_extents, own_of, segment_page,
+    extent_start, extents_needed, extents_of, fragment_extents, own_of, segment_page,
     used_fragments,
 };
 use crate::runs::{NO_RUN, Run, base_of, node_of};
 use extent_map::Extent;
 use extent_map::states::{FREE_FRAG, FSEG, FULL_FRAG};
 use inode_segments::Inode;
+use inode_segments::layout::MAGIC_NUMBER;
 use page_source::FIL_NULL;
+use space_header::layout::EXTENT_PAGES;
 use space_header::{Address, Base, SpaceHeader};
 
 /// The space id of a built tablespace.
-pub(crate) const SPACE: u32 = 1;
+pub const BUILT_SPACE: u32 = 1;
 
 /// The page of inodes.
-pub(crate) const INODE_PAGE: u32 = 2;
-
-/// FSEG_MAGIC_N_VALUE.
-const MAGIC: u32 = 97937874;
+pub(crate) const INODE_PAGE_NUMBER: u32 = 2;
 
 /// The fragment extents whose pages are all used.
 fn full_fragments(sizes: &[u32]) -> Run
@@ -34,7 +33,7 @@ fn full_fragments(sizes: &[u32]) -> Run
 {
     Run {
         first: 0,
-        count: used_fragments(sizes) / EXTENT,
+        count: used_fragments(sizes) / EXTENT_PAGES,
     }
 }
 
@@ -44,7 +43,7 @@ fn open_fragments(sizes: &[u32]) -> Run
     ensures exact { result ≡ open_fragments sizes.now }
     ensures small { result.first + result.count ≤ 256 }
 {
-    let first = used_fragments(sizes) / EXTENT;
+    let first = used_fragments(sizes) / EXTENT_PAGES;
     Run {
         first,
         count: fragment_extents(sizes) - first,
@@ -60,7 +59,7 @@ fn full_of(sizes: &[u32], s: usize) -> Run
 {
     Run {
         first: extent_start(sizes, s),
-        count: own_of(sizes[s]) / EXTENT,
+        count: own_of(sizes[s]) / EXTENT_PAGES,
     }
 }
 
@@ -71,7 +70,7 @@ fn open_of(sizes: &[u32], s: usize) -> Run
     ensures exact { result ≡ open_of sizes.now s }
     ensures small { result.first + result.count ≤ 256 }
 {
-    let full = own_of(sizes[s]) / EXTENT;
+    let full = own_of(sizes[s]) / EXTENT_PAGES;
     Run {
         first: extent_start(sizes, s) + full,
         count: extents_of(sizes[s]) - full,
@@ -115,10 +114,10 @@ pub(crate) fn fragment_descriptor(sizes: &[u32], e: u32) -> Extent
     ensures { result ≡ fragment_descriptor sizes.now e }
 {
     let used = used_fragments(sizes);
-    if e < used / EXTENT {
-        described(0, FULL_FRAG, full_fragments(sizes), EXTENT, e)
+    if e < used / EXTENT_PAGES {
+        described(0, FULL_FRAG, full_fragments(sizes), EXTENT_PAGES, e)
     } else {
-        described(0, FREE_FRAG, open_fragments(sizes), used % EXTENT, e)
+        described(0, FREE_FRAG, open_fragments(sizes), used % EXTENT_PAGES, e)
     }
 }
 
@@ -135,10 +134,10 @@ pub(crate) fn own_descriptor(sizes: &[u32], s: usize, k: u32) -> Extent
     let full = full_of(sizes, s);
     let open = open_of(sizes, s);
     let e = full.first + k;
-    if k < own / EXTENT {
-        described(id, FSEG, full, EXTENT, e)
+    if k < own / EXTENT_PAGES {
+        described(id, FSEG, full, EXTENT_PAGES, e)
     } else {
-        described(id, FSEG, open, own % EXTENT, e)
+        described(id, FSEG, open, own % EXTENT_PAGES, e)
     }
 }
 
@@ -148,17 +147,17 @@ pub(crate) fn header(sizes: &[u32], flags: u32) -> SpaceHeader
     requires { IsShape sizes.now }
     ensures { result ≡ header sizes.now flags }
 {
-    let size = EXTENT * extents_needed(sizes);
+    let size = EXTENT_PAGES * extents_needed(sizes);
     let inodes = Address {
-        page: INODE_PAGE,
+        page: INODE_PAGE_NUMBER,
         offset: 38,
     };
     SpaceHeader {
-        space: SPACE,
+        space: BUILT_SPACE,
         size,
         limit: size,
         flags,
-        frag_used: used_fragments(sizes) % EXTENT,
+        frag_used: used_fragments(sizes) % EXTENT_PAGES,
         next_segment: sizes.len() as u64 + 1,
         free: base_of(NO_RUN),
         free_frag: base_of(open_fragments(sizes)),
@@ -206,11 +205,11 @@ pub(crate) fn inode(sizes: &[u32], s: usize) -> Inode
 {
     Inode {
         id: s as u64 + 1,
-        not_full_used: own_of(sizes[s]) % EXTENT,
+        not_full_used: own_of(sizes[s]) % EXTENT_PAGES,
         free: base_of(NO_RUN),
         not_full: base_of(open_of(sizes, s)),
         full: base_of(full_of(sizes, s)),
-        magic: MAGIC,
+        magic: MAGIC_NUMBER,
         slots: slots(sizes, s),
     }
 }

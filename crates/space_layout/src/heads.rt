@@ -5,30 +5,21 @@ ghost use Rattle.space_layout.specs.Numbers.{IsShape, extents_needed};
 ghost use Rattle.space_layout.specs.HeadPages.{header_page, bitmap_page, inode_page};
 ghost use Rattle.space_layout.specs.calls.Written.{with_descriptors, with_inodes};
 
-use crate::fields::{INODE_PAGE, SPACE, fragment_descriptor, header, inode, own_descriptor};
+use crate::fields::{
+    BUILT_SPACE, INODE_PAGE_NUMBER, fragment_descriptor, header, inode, own_descriptor,
+};
 use crate::numbers::{extent_start, extents_of, fragment_extents};
 use crate::runs::NULL;
 use extent_map::write_extent;
 use fil_frame::kinds::{FIL_PAGE_IBUF_BITMAP, FIL_PAGE_INODE, FIL_PAGE_TYPE_FSP_HDR};
 use fil_frame::seal;
+use inode_segments::layout::{FIRST_INODE, INODE_PAGE_NODE, INODE_SIZE};
 use inode_segments::write_inode;
 use page_source::{PAGE_SIZE, Page};
-use space_header::{Node, write_node};
+use space_header::{DESCRIPTOR_SIZE, FIRST_DESCRIPTOR, Node, write_node};
 
 /// The LSN of each page.
 const LSN: u64 = 1;
-
-/// Where the descriptors begin on page 0, and how many bytes each has.
-const DESCRIPTORS: usize = 150;
-
-const DESCRIPTOR: usize = 40;
-
-/// Where the list node of an inode page stands, where its inodes begin, and how many bytes each has.
-const NODE: usize = 38;
-
-const INODES: usize = 50;
-
-const INODE: usize = 192;
 
 fn put_descriptors(page: &mut Page, sizes: &[u32])
     requires { IsShape sizes.now }
@@ -37,7 +28,11 @@ fn put_descriptors(page: &mut Page, sizes: &[u32])
     prove!(page.bytes().len() == PAGE_SIZE);
     for e in 0..fragment_extents(sizes) {
         let extent = fragment_descriptor(sizes, e);
-        write_extent(page, DESCRIPTORS + DESCRIPTOR * e as usize, &extent);
+        write_extent(
+            page,
+            FIRST_DESCRIPTOR as usize + DESCRIPTOR_SIZE as usize * e as usize,
+            &extent,
+        );
     }
     for s in 0..sizes.len() {
         let start = extent_start(sizes, s);
@@ -45,7 +40,7 @@ fn put_descriptors(page: &mut Page, sizes: &[u32])
             let extent = own_descriptor(sizes, s, k);
             write_extent(
                 page,
-                DESCRIPTORS + DESCRIPTOR * (start + k) as usize,
+                FIRST_DESCRIPTOR as usize + DESCRIPTOR_SIZE as usize * (start + k) as usize,
                 &extent,
             );
         }
@@ -59,7 +54,7 @@ fn put_inodes(page: &mut Page, sizes: &[u32])
     prove!(page.bytes().len() == PAGE_SIZE);
     for s in 0..sizes.len() {
         let inode = inode(sizes, s);
-        write_inode(page, INODES + INODE * s, &inode);
+        write_inode(page, FIRST_INODE + INODE_SIZE * s, &inode);
     }
 }
 
@@ -71,7 +66,7 @@ pub fn put_header_page(page: &mut Page, sizes: &[u32], flags: u32)
     page.clear();
     header(sizes, flags).write(page);
     put_descriptors(page, sizes);
-    seal(page, 0, SPACE, LSN, FIL_PAGE_TYPE_FSP_HDR);
+    seal(page, 0, BUILT_SPACE, LSN, FIL_PAGE_TYPE_FSP_HDR);
 }
 
 /// Makes a page the bitmap page.
@@ -80,7 +75,7 @@ pub fn put_bitmap_page(page: &mut Page)
     ensures { page.new ≡ bitmap_page }
 {
     page.clear();
-    seal(page, 1, SPACE, LSN, FIL_PAGE_IBUF_BITMAP);
+    seal(page, 1, BUILT_SPACE, LSN, FIL_PAGE_IBUF_BITMAP);
 }
 
 /// Makes a page the inode page.
@@ -91,12 +86,12 @@ pub fn put_inode_page(page: &mut Page, sizes: &[u32])
     page.clear();
     write_node(
         page,
-        NODE,
+        usize::from(INODE_PAGE_NODE),
         &Node {
             prev: NULL,
             next: NULL,
         },
     );
     put_inodes(page, sizes);
-    seal(page, INODE_PAGE, SPACE, LSN, FIL_PAGE_INODE);
+    seal(page, INODE_PAGE_NUMBER, BUILT_SPACE, LSN, FIL_PAGE_INODE);
 }

@@ -8,5 +8,6 @@ pub mod laws;
 mod numbers;
 mod runs;
 
+pub use fields::BUILT_SPACE;
 pub use heads::{put_bitmap_page, put_header_page, put_inode_page};
 pub use numbers::{extents_needed, is_shape, segment_page};

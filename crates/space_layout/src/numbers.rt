@@ -5,11 +5,10 @@ ghost use Rattle.space_layout.specs.Numbers.{fragments_of, own_of, extents_of, f
 ghost use Rattle.space_layout.specs.Numbers.{used_fragments, fragment_extents, extent_start, extents_needed};
 ghost use Rattle.space_layout.specs.Numbers.{fragment_start, fragment_page, segment_page, size_at, IsShape, HaveRoots};
 
+use space_header::layout::EXTENT_PAGES;
+
 /// The fragment pages that a segment has at the most.
 pub const SLOTS: u32 = 32;
-
-/// The pages of an extent.
-pub const EXTENT: u32 = 64;
 
 fn fragments_of(size: u32) -> u32
     ensures { result ≡ fragments_of size }
@@ -29,10 +28,10 @@ pub(crate) fn extents_of(size: u32) -> u32
     ensures { result ≡ extents_of size }
 {
     let own = own_of(size);
-    if own % EXTENT == 0 {
-        own / EXTENT
+    if own % EXTENT_PAGES == 0 {
+        own / EXTENT_PAGES
     } else {
-        own / EXTENT + 1
+        own / EXTENT_PAGES + 1
     }
 }
 
@@ -76,7 +75,7 @@ pub(crate) fn fragment_extents(sizes: &[u32]) -> u32
     ensures exact { result ≡ fragment_extents sizes.now }
     ensures most { result ≤ 17 }
 {
-    (used_fragments(sizes) + EXTENT - 1) / EXTENT
+    (used_fragments(sizes) + EXTENT_PAGES - 1) / EXTENT_PAGES
 }
 
 /// The first extent of segment `s`.
@@ -133,7 +132,7 @@ pub fn segment_page(sizes: &[u32], s: usize, i: u32) -> u32
     if i < SLOTS {
         fragment_page(sizes, s, i)
     } else {
-        EXTENT * extent_start(sizes, s) + (i - SLOTS)
+        EXTENT_PAGES * extent_start(sizes, s) + (i - SLOTS)
     }
 }
 

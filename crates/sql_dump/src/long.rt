@@ -13,17 +13,13 @@ ghost use Rattle.sql_dump.specs.Long.{CanFollowIn, FitsLong, IsSplit, chain_byte
 use crate::buffer::Buffer;
 use crate::stop::WriteStop;
 use column_values::{ColumnType, FieldType};
-use offpage_chain::{ChainReader, Reference, read_reference};
+use offpage_chain::layout::PART_START;
+use offpage_chain::{ChainReader, Reference};
 use page_source::{ByteSink, Failed, Page, PageSource, Rule, Steps};
 use row_text::RowWriter;
 use row_text::laws::parts_are_the_value;
 use std::sync::ledger::Ledger;
-
-/// BTR_EXTERN_FIELD_REF_SIZE, the bytes of a reference.
-const REFERENCE: usize = 20;
-
-/// Where the bytes of a part begin, after the header of the page and that of the part (btr0cur).
-const PART: usize = 46;
+use table_check::split_local;
 
 /// A page for the parts of chains, how many may still be fetched, and room for the text of one part.
 #[derive(Debug, Drop)]
@@ -44,13 +40,12 @@ struct LocalBytes<'a> {
     stated: u64,
 }
 
-/// Splits the local bytes of a value that goes on elsewhere.
-fn split_local(local: &[u8]) -> LocalBytes<'_>
+/// The parts of the local bytes of a value that goes on elsewhere.
+fn local_parts(local: &[u8]) -> LocalBytes<'_>
     requires { 20 ≤ length local.now }
     ensures { IsSplit local.now result.front.now result.reference result.stated }
 {
-    let (front, reference) = local.split_at(local.len() - REFERENCE);
-    let reference = read_reference(reference);
+    let (front, reference) = split_local(local);
     LocalBytes {
         front,
         reference,
@@ -64,7 +59,7 @@ pub(crate) fn fits_long(kind: &ColumnType, local: &[u8]) -> bool
     ensures { IsTrue result ↔ FitsLong kind.now local.now }
 {
     let field = FieldType::Column(*kind);
-    field.is_variable() && split_local(local).stated <= field.fixed_length() as u64
+    field.is_variable() && local_parts(local).stated <= field.fixed_length() as u64
 }
 
 /// Makes the text of some bytes of a long value. Each byte has two at the most, so there is room.
@@ -135,7 +130,7 @@ fn put_chain<S: PageSource, O: ByteSink, L: Ledger>(
     parts_are_the_value();
     let mut reader = ChainReader::new(reference);
     while let Some(length) = reader.part(source, &mut room.page, &mut room.left, steps)? {
-        let part = &room.page.bytes()[PART..PART + length];
+        let part = &room.page.bytes()[PART_START..PART_START + length];
         put_part(sink, writer, &mut room.text, kind, part)?;
     }
     Ok(())
@@ -170,7 +165,7 @@ pub(crate) fn put_long<S: PageSource, O: ByteSink, L: Ledger>(
         steps.old steps.new result }
 {
     parts_are_the_value();
-    let value = split_local(local);
+    let value = local_parts(local);
     writer.start_long(sink, kind, value.stated)?;
     put_part(sink, writer, &mut room.text, kind, value.front)?;
     put_chain(source, sink, writer, kind, &value.reference, room, steps)?;

@@ -1,11 +1,11 @@
 //! A whole table: all rules of its file, in order.
 #![tactic(auto)]
 
-mod any_bytes;
 mod check_file;
 mod ends;
 pub mod laws;
 mod leaf;
+mod no_look;
 mod pass;
 mod record;
 mod rows;
@@ -21,4 +21,5 @@ pub use leaf::RowLeaf;
 pub use record::check_row_values;
 pub use rows::LiveRows;
 pub use table::{Checked, Table, Whole};
-pub use value::{cut, text_of};
+pub use trees::MOST_FIELDS;
+pub use value::{split_local, text_of};

@@ -24,8 +24,8 @@ use std::alloc::Global;
 use std::sync::ledger::Ledger;
 use tree_walk::{TreeEnds, Walk, walk_tree};
 
-/// More fields than any list has.
-const MOST_FIELDS: u32 = 128;
+/// More fields than a record has: 64 columns, a row id, a transaction id and a roll pointer are fewer.
+pub const MOST_FIELDS: u32 = 128;
 
 /// What is known of the trees of a table: the clustered one, the segments of the leaves of all, in the order of the
 /// indexes, and the pages of all.

@@ -18,13 +18,11 @@ ghost use Rattle.offpage_chain.specs.Places.{CanCheck};
 use crate::leaf::RowLeaf;
 use column_values::{ColumnType, Utf8, greatest_length, is_value};
 use compact_record::Place;
+use offpage_chain::layout::REFERENCE_SIZE;
 use offpage_chain::{Reference, check_chain_in, read_reference};
 use page_source::{Halt, Page, PageSource, Rule, Steps};
 use space_audit::Marks;
 use std::sync::ledger::Ledger;
-
-/// The bytes of a reference, at the end of the local ones (BTR_EXTERN_FIELD_REF_SIZE).
-const REFERENCE: usize = 20;
 
 /// A reader of the texts of a type; any bytes are one, where it isn't of utf8mb4.
 pub fn text_of(kind: &ColumnType) -> Utf8
@@ -39,14 +37,14 @@ pub fn text_of(kind: &ColumnType) -> Utf8
     }
 }
 
-/// The local bytes before the reference, and the reference.
-pub fn cut(local: &[u8]) -> (&[u8], Reference)
+/// Splits the local bytes of a value that goes on elsewhere: those that begin the value, and the reference after them.
+pub fn split_local(local: &[u8]) -> (&[u8], Reference)
     requires { 20 ≤ length local.now }
     ensures front { result.0.now ≡ front_of local.now }
     ensures size { length result.0.now ≡ length local.now - 20 }
     ensures reference { result.1 ≡ reference_of local.now }
 {
-    let (front, reference) = local.split_at(local.len() - REFERENCE);
+    let (front, reference) = local.split_at(local.len() - REFERENCE_SIZE);
     (front, read_reference(reference))
 }
 
@@ -71,7 +69,7 @@ fn check_external<S: PageSource, L: Ledger>(
     ensures told { OfFile S.PageSource source.old (λ file.
         steps.new ≤ steps.old + length (pages_of_value file local.now true)) }
 {
-    let (front, reference) = cut(local);
+    let (front, reference) = split_local(local);
     if front.len() + reference.length as usize > greatest_length(*kind) {
         return Err(Halt::Broken(Rule::Value.at(leaf.number)));
     }

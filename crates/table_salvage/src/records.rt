@@ -6,23 +6,9 @@ ghost use Rattle.compact_record.specs.Header.{HasHeaderBytes};
 ghost use Rattle.salvage_model.specs.Records.{list_start, first_place, list_length, is_of};
 
 use compact_record::{deleted, next_origin};
+use index_page::layout::{COMPACT_BIT, FIRST_FREE, HEAP_COUNT, INFIMUM, RECORD_COUNT};
 use page_source::{Page, read_be};
 use salvage_model::RecordKind;
-
-/// PAGE_NEW_INFIMUM, the origin of the record before the first one of the chain.
-const INFIMUM: usize = 99;
-
-/// PAGE_N_HEAP, 2 bytes: the number of heap records, with bit 15 set in the compact format.
-const HEAP_COUNT: usize = 42;
-
-/// PAGE_FREE, 2 bytes: the first record of the free list.
-const FIRST_FREE: usize = 44;
-
-/// PAGE_N_RECS, 2 bytes: the number of records in the chain.
-const RECORD_COUNT: usize = 54;
-
-/// Bit 15 of PAGE_N_HEAP.
-const COMPACT: u32 = 0x8000;
 
 /// The infimum and the supremum, which are in the heap, and neither in the chain's count nor free.
 const ENDS: u32 = 2;
@@ -70,7 +56,9 @@ impl RecordList {
             RecordKind::Freed => RecordList {
                 first: field(page, FIRST_FREE) as usize,
                 place: records,
-                count: (field(page, HEAP_COUNT) % COMPACT).saturating_sub(records + ENDS),
+                count: (field(page, HEAP_COUNT) % COMPACT_BIT as u32).saturating_sub(
+                    records + ENDS,
+                ),
             },
         }
     }

@@ -12,9 +12,7 @@ use schema_text::Schema;
 use space_audit::Marks;
 use sql_dump::{Buffer, ChainRoom, RowReader};
 use std::alloc::Global;
-
-/// The most fields of a record: 64 columns, a row id, a transaction id and a roll pointer are fewer.
-const MOST_FIELDS: u32 = 128;
+use table_check::MOST_FIELDS;
 
 /// What a salvage works in: three pages, a mark for each page of the file, the room of one record, the buffers of the
 /// output, the numbers so far, and whether the report failed.

@@ -18,13 +18,11 @@ ghost use Rattle.tree_walk.specs.Leaf.{BreaksOff, LeadsAstray, HasMoved, HasHopp
 ghost use Rattle.tree_walk.specs.Hops.{IsDue, Hops, GoesByNextFields};
 
 use crate::cursor::FIL_NULL;
-use crate::place::{FIRST_ORIGIN, INFIMUM, NEXT};
 use compact_record::next_origin;
+use fil_frame::layout::NEXT_PAGE;
+use index_page::layout::{FIRST_ORIGIN, INFIMUM, SUPREMUM};
 use page_source::{Failed, Halt, Page, PageSource, Rule, Steps, read_be};
 use std::sync::ledger::Ledger;
-
-/// PAGE_NEW_SUPREMUM, the origin of the record behind the last one.
-const SUPREMUM: usize = 112;
 
 /// A leaf, its number, and how many further leaves may be fetched.
 #[derive(Debug, Drop)]
@@ -76,7 +74,7 @@ fn hop<S: PageSource, L: Ledger>(
     ensures keeps { HaltsOver S.PageSource source.old source.new steps.old steps.new result }
     ensures steps { steps.new + leaf.new.may_fetch ≡ steps.old + leaf.old.may_fetch }
 {
-    let number = read_be::<4>(&leaf.page, NEXT) as u32;
+    let number = read_be::<4>(&leaf.page, NEXT_PAGE) as u32;
     if number == FIL_NULL {
         if leaf.may_fetch > 0 {
             return Err(Halt::Broken(Rule::Sibling.at(leaf.number)));

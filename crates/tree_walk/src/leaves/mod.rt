@@ -15,7 +15,7 @@ ghost use Rattle.tree_walk.specs.Hops.{IsDue, Hops, GoesByNextFields};
 mod leaf;
 
 use crate::ends::TreeEnds;
-use crate::place::INFIMUM;
+use index_page::layout::INFIMUM;
 use leaf::{Leaf, seek, take};
 use page_source::{Halt, NoMemory, Page, PageSource, Steps};
 use std::alloc::Global;

@@ -12,10 +12,12 @@ ghost use Rattle.tree_walk.specs.Walk.{origin_after, more_after};
 
 use crate::cursor::{Cursor, FIL_NULL, Next};
 use crate::level::{Aim, Place};
-use crate::place::{FIRST_ORIGIN, INFIMUM, NEXT, read_record};
+use crate::place::read_record;
 use crate::walk::Walk;
 use column_values::FieldList;
 use compact_record::next_origin;
+use fil_frame::layout::NEXT_PAGE;
+use index_page::layout::{FIRST_ORIGIN, INFIMUM};
 use page_source::{Fault, Halt, PageSource, Rule, Steps, read_be};
 use std::mem;
 use std::sync::ledger::Ledger;
@@ -79,7 +81,7 @@ pub(crate) fn look<S: PageSource, L: Ledger>(
             ..place.cursor
         }));
     }
-    let number = read_be::<4>(&walk.parent, NEXT) as u32;
+    let number = read_be::<4>(&walk.parent, NEXT_PAGE) as u32;
     if number == FIL_NULL {
         return Ok(Next::End);
     }

@@ -15,11 +15,11 @@ mod look;
 
 use crate::cursor::{Cursor, FIL_NULL};
 use crate::index::Tree;
-use crate::place::INFIMUM;
 use crate::place::tally::{NONE, Tally};
 use crate::walk::Walk;
 use compact_record::next_origin;
 use here::check_here;
+use index_page::layout::INFIMUM;
 use look::{advance, read_low};
 use page_source::{Halt, PageSource, Steps};
 use space_audit::Marks;

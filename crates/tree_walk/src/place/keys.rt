@@ -10,9 +10,10 @@ ghost use Rattle.tree_walk.specs.Walk.{page_after, origin_after, HoldsHigh, Hold
 
 use crate::cursor::{Next, origin_after, page_after};
 use crate::place::Stand;
-use crate::place::records::{first_record, last_record, record_count};
+use crate::place::records::{first_record, last_record};
 use crate::walk::Walk;
 use column_values::FieldList;
+use index_page::record_count;
 use std::cmp::Ordering;
 
 /// Whether the first key isn't below the low separator, and above the leaves equal to it.

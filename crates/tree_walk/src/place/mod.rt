@@ -8,8 +8,8 @@ pub(crate) mod tally;
 
 pub(crate) use child_place::{is_place, is_root, is_used_by};
 pub use page::check_node;
-pub(crate) use page::{INDEX_ID, LEVEL, NEXT, check_spot};
-pub(crate) use records::{FIRST_ORIGIN, INFIMUM, read_record};
+pub(crate) use page::check_spot;
+pub(crate) use records::read_record;
 
 /// Where a page stands in its tree, and between which neighbours.
 #[derive(Clone, Copy, Debug, PartialEq, Eq)]

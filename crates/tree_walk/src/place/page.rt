@@ -17,19 +17,10 @@ use crate::place::keys::is_between;
 use crate::place::tally::{Tally, count_on};
 use crate::walk::Walk;
 use column_values::FieldList;
+use fil_frame::layout::{NEXT_PAGE, PREVIOUS_PAGE};
+use index_page::layout::{INDEX_ID, LEVEL};
 use index_page::{mark_fault, page_fault};
 use page_source::{Fault, Page, Rule, read_be};
-
-/// FIL_PAGE_PREV and FIL_PAGE_NEXT, the neighbours of a page on its level.
-pub(crate) const PREVIOUS: usize = 8;
-
-pub(crate) const NEXT: usize = 12;
-
-/// PAGE_LEVEL, the level of an index page.
-pub(crate) const LEVEL: usize = 64;
-
-/// PAGE_INDEX_ID, the id of the index of an index page.
-pub(crate) const INDEX_ID: usize = 66;
 
 /// The greatest level of a root.
 const GREATEST_LEVEL: u16 = 50;
@@ -38,7 +29,8 @@ const GREATEST_LEVEL: u16 = 50;
 fn is_beside(page: &Page, previous: u32, next: u32) -> bool
     ensures { IsTrue result ↔ IsBeside page.now previous next }
 {
-    read_be::<4>(page, PREVIOUS) as u32 == previous && read_be::<4>(page, NEXT) as u32 == next
+    read_be::<4>(page, PREVIOUS_PAGE) as u32 == previous
+        && read_be::<4>(page, NEXT_PAGE) as u32 == next
 }
 
 /// The checks of the records of the page in hand.

@@ -7,31 +7,14 @@ ghost use Rattle.tree_walk.specs.Records.{IsRecord, IsHeld, PageFacts, HasPassed
 
 use column_values::FieldList;
 use compact_record::{Located, next_origin};
+use index_page::layout::{FIRST_ORIGIN, INFIMUM, SLOT_COUNT, SLOT_SIZE, SUPREMUM};
 use page_source::{PAGE_SIZE, Page, read_be};
-
-/// PAGE_NEW_INFIMUM, the origin of the record before the first one.
-pub(crate) const INFIMUM: usize = 99;
-
-/// The least origin of a record of the heap.
-pub(crate) const FIRST_ORIGIN: usize = 125;
-
-/// PAGE_NEW_SUPREMUM, the origin of the record behind the last one.
-const SUPREMUM: usize = 112;
-
-/// PAGE_N_DIR_SLOTS, the number of directory slots.
-const SLOT_COUNT: usize = 38;
 
 /// Where the first directory slot stands; the others go down from it.
 const FIRST_SLOT: usize = 16374;
 
-/// The bytes of a slot (PAGE_DIR_SLOT_SIZE).
-const SLOT_SIZE: usize = 2;
-
 /// The most records that an owner owns (PAGE_DIR_SLOT_MAX_N_OWNED).
 const GREATEST_GROUP: usize = 8;
-
-/// PAGE_N_RECS, the number of records.
-const RECORD_COUNT: usize = 54;
 
 /// Reads the record at this origin, and answers whether there is one.
 pub(crate) fn read_record(
@@ -49,14 +32,6 @@ pub(crate) fn read_record(
         return false;
     }
     located.again(page, origin, fields) && located.end() <= PAGE_SIZE
-}
-
-/// The number of records of a page.
-pub(crate) fn record_count(page: &Page) -> usize
-    ensures value { result ≡ record_count page.now }
-    ensures within { result < 65536 }
-{
-    read_be::<2>(page, RECORD_COUNT) as usize
 }
 
 /// The first record of a page.

@@ -12,7 +12,7 @@ returns-in_err-start_long-clause-puts g c =
     (told0 (g.S.PageSource.content c.args.source.now)
     (λ file. first_cut (g.O.ByteSink.written c.args.sink.now) (g.O.ByteSink.written c.start_long.new.sink)
     (long_in_four file c.args.kind.now (before_value c.args.writer.now.came) c.parts_are_the_value.ensures.join
-    c.split_local-value.ensures)
+    c.local_parts-value.ensures)
     c.in_err-start_long.ensures.puts.failed))
 
 pub returns-in_err-put_part-clause-puts : goal.returns-in_err-put_part-clause-puts
@@ -23,7 +23,7 @@ returns-in_err-put_part-clause-puts g c =
     (λ file. second_cut (g.O.ByteSink.written c.args.sink.now) (g.O.ByteSink.written c.start_long.new.sink)
     (g.O.ByteSink.written c.put_part.new.sink)
     (long_in_four file c.args.kind.now (before_value c.args.writer.now.came) c.parts_are_the_value.ensures.join
-    c.split_local-value.ensures)
+    c.local_parts-value.ensures)
     c.in_ok-start_long.ensures.puts.ok c.in_err-put_part.ensures.puts.failed))
 
 pub returns-in_err-put_chain-clause-puts : goal.returns-in_err-put_chain-clause-puts
@@ -35,7 +35,7 @@ returns-in_err-put_chain-clause-puts g c =
     (g.O.ByteSink.written c.put_part.new.sink) (g.O.ByteSink.written c.put_chain.new.sink)
     c.in_err-put_chain.field-0.0
     (long_in_four file c.args.kind.now (before_value c.args.writer.now.came) c.parts_are_the_value.ensures.join
-    c.split_local-value.ensures)
+    c.local_parts-value.ensures)
     c.in_ok-start_long.ensures.puts.ok c.in_ok-put_part.ensures.puts.ok ends)
     c.in_err-put_chain.ensures.puts)
 
@@ -48,7 +48,7 @@ returns-in_err-end_long-clause-puts g c =
     (g.O.ByteSink.written c.put_part.new.sink) (g.O.ByteSink.written c.put_chain.new.sink)
     (g.O.ByteSink.written c.end_long.new.sink)
     (long_in_four file c.args.kind.now (before_value c.args.writer.now.came) c.parts_are_the_value.ensures.join
-    c.split_local-value.ensures)
+    c.local_parts-value.ensures)
     c.in_ok-start_long.ensures.puts.ok c.in_ok-put_part.ensures.puts.ok chain c.in_err-end_long.ensures.puts.failed)
     c.in_ok-put_chain.ensures.puts)
 
@@ -59,7 +59,7 @@ returns-clause-puts g c =
     (g.O.ByteSink.written c.put_part.new.sink) (g.O.ByteSink.written c.put_chain.new.sink)
     (g.O.ByteSink.written c.end_long.new.sink)
     (long_in_four file c.args.kind.now (before_value c.args.writer.now.came) c.parts_are_the_value.ensures.join
-    c.split_local-value.ensures)
+    c.local_parts-value.ensures)
     c.in_ok-start_long.ensures.puts.ok c.in_ok-put_part.ensures.puts.ok chain c.in_ok-end_long.ensures.puts.ok)
     c.in_ok-put_chain.ensures.puts
 
@@ -92,10 +92,10 @@ returns-in_err-end_long-clause-some g c =
 
 pub returns-clause-some : goal.returns-clause-some
 returns-clause-some g c =
-    long_value c.args.kind.now c.args.writer.now.came c.split_local-value.result.reference.length
-    c.split_local-value.result.stated c.split_local-value.result.front.now
+    long_value c.args.kind.now c.args.writer.now.came c.local_parts-value.result.reference.length
+    c.local_parts-value.result.stated c.local_parts-value.result.front.now
     (g.O.ByteSink.written c.args.sink.now) (g.O.ByteSink.written c.start_long.new.sink)
     (g.O.ByteSink.written c.put_part.new.sink) (g.O.ByteSink.written c.put_chain.new.sink)
     (g.O.ByteSink.written c.end_long.new.sink) c.parts_are_the_value.ensures.join c.requires.long
-    c.split_local-value.ensures.stated_is c.in_ok-start_long.ensures.puts.ok c.in_ok-put_part.ensures.puts.ok
+    c.local_parts-value.ensures.stated_is c.in_ok-start_long.ensures.puts.ok c.in_ok-put_part.ensures.puts.ok
     c.in_ok-put_chain.ensures.some c.in_ok-end_long.ensures.puts.ok

@@ -15,8 +15,8 @@ use Rattle.table_check.proofs.value.check_external.Goals as goal
 
 pub check_chain_in-requires-clause-count : goal.check_chain_in-requires-clause-count
 check_chain_in-requires-clause-count g c =
-    counts_most c.feed.new.self (0 + length c.cut.result.0.now) 16384 (omega
-    (arith, c.cut.ensures.size, c.requires.most))
+    counts_most c.feed.new.self (0 + length c.split_local.result.0.now) 16384 (omega
+    (arith, c.split_local.ensures.size, c.requires.most))
     (c.feed.ensures.counts 0 c.text_of-text.ensures.count)
 
 pub returns-then-front-reference-clause-told : goal.returns-then-front-reference-clause-told
@@ -27,20 +27,20 @@ pub returns-clause-told : goal.returns-clause-told
 returns-clause-told g c =
     told1 (g.S.PageSource.content c.args.source.now)
     (λ file few. subst (λ (r : Reference). c.check_chain_in.new.steps ≤ c.args.steps.now + length (chain_pages file r))
-    c.cut.ensures.reference few) c.check_chain_in.ensures.told
+    c.split_local.ensures.reference few) c.check_chain_in.ensures.told
 
 pub returns-clause-checks : goal.returns-clause-checks
 returns-clause-checks g c =
     let leaf = c.args.leaf.now in
     let local = c.args.local.now in
     let kind = c.args.kind.now in
-    let size = ap (λ (r : Reference). r.length) c.cut.ensures.reference in
-    let feeds = subst (λ (b : List ℕ). IsFed c.text_of-text.result c.feed.new.self b) c.cut.ensures.front
+    let size = ap (λ (r : Reference). r.length) c.split_local.ensures.reference in
+    let feeds = subst (λ (b : List ℕ). IsFed c.text_of-text.result c.feed.new.self b) c.split_local.ensures.front
     c.feed.ensures.feeds in
-    let front : length (front_of local) ≡ length local - 20 = sym (ap length c.cut.ensures.front)
-    ∙ c.cut.ensures.size in
+    let front : length (front_of local) ≡ length local - 20 = sym (ap length c.split_local.ensures.front)
+    ∙ c.split_local.ensures.size in
     let fits : FitsKind kind local = omega
-    (arith, c.if-front-reference.false, c.greatest_length.ensures.value, c.cut.ensures.size, size) in
+    (arith, c.if-front-reference.false, c.greatest_length.ensures.value, c.split_local.ensures.size, size) in
     let was : WasFed c.feed.new.self (front_of local) = feeds.fed [] c.text_of-text.ensures.fresh in
     record {
       exact =
@@ -52,13 +52,13 @@ returns-clause-checks g c =
           (subst (λ (r : Reference). Halts c.check_chain_in.result
           (ChainChecksBy file (place_on file leaf) leaf.number r
           (is_set c.args.marks.now) (λ bytes. TakesText c.feed.new.self (front_of local ++ bytes))))
-          c.cut.ensures.reference (chain (front_of local) was)))
+          c.split_local.ensures.reference (chain (front_of local) was)))
           c.check_chain_in.ensures.exact;
       count = subst (λ (r : Reference). IfOk c.check_chain_in.result (λ count. OfFile g.S.PageSource c.args.source.now
-          (λ file. count ≡ length (chain_pages file r)))) c.cut.ensures.reference c.check_chain_in.ensures.count;
+          (λ file. count ≡ length (chain_pages file r)))) c.split_local.ensures.reference c.check_chain_in.ensures.count;
       grew = subst (λ (r : Reference). OnOk c.check_chain_in.result (OfFile g.S.PageSource c.args.source.now
           (λ file. Marked (is_set c.args.marks.now) c.check_chain_in.new.marks
-          (chain_pages file r)))) c.cut.ensures.reference c.check_chain_in.ensures.grew;
+          (chain_pages file r)))) c.split_local.ensures.reference c.check_chain_in.ensures.grew;
       members = c.check_chain_in.ensures.members;
       fewer = c.check_chain_in.ensures.fewer;
       cost = c.check_chain_in.ensures.cost;
