@@ -10,3 +10,4 @@ pub mod PassSteps
 pub mod ChecksLaw
 pub mod AllNumbers
 pub mod ReadRecords
+pub mod Chains

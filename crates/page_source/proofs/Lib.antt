@@ -1,5 +1,6 @@
 pub mod Numbers
 pub mod Written
+pub mod WrittenFields
 pub mod Edits
 pub mod Unique
 pub mod Slots

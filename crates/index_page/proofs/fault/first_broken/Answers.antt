@@ -1,6 +1,7 @@
-use Rattle.std.proofs.Common.{refl, inl, inr}
+use Rattle.std.proofs.Common.{refl, inl}
 use Rattle.std.proofs.lemmas.Bool.{false≢true}
 use Rattle.index_page.specs.PageChecks.{PageChecks}
+use Rattle.index_page.proofs.Chains.{passed}
 use Rattle.index_page.proofs.fault.first_broken.Goals as goal
 
 pub returns-then-not-have_room-clause-exact : goal.returns-then-not-have_room-clause-exact
@@ -14,34 +15,8 @@ returns-then-not-have_room-clause-exact c =
     let directory = c.has_directory.ensures.0 c.if-not-has_directory.false in
     let kind = c.have_kind.ensures.0 c.if-not-have_kind.false in
     let spelled = c.heap_is_spelled.ensures.exact.0 c.if-not-heap_is_spelled.false in
-    inr (
-      header,
-      inr (
-        ends,
-        inr (
-          chain,
-          inr (
-            numbers,
-            inr (
-              free,
-              inr (
-                directory,
-                inr (
-                  kind,
-                  inr (
-                    spelled,
-                    inl (
-                      λ room. false≢true (c.if-not-have_room.ensures.exact.1 room),
-                      refl,
-                    ),
-                  ),
-                ),
-              ),
-            ),
-          ),
-        ),
-      ),
-    )
+    passed header (passed ends (passed chain (passed numbers (passed free (passed directory (passed kind (passed spelled
+    (inl (λ room. false≢true (c.if-not-have_room.ensures.exact.1 room), refl)))))))))
 
 pub returns-then-not-may_be_empty-clause-exact : goal.returns-then-not-may_be_empty-clause-exact
 unfolding PageChecks
@@ -55,34 +30,8 @@ returns-then-not-may_be_empty-clause-exact c =
     let kind = c.have_kind.ensures.0 c.if-not-have_kind.false in
     let spelled = c.heap_is_spelled.ensures.exact.0 c.if-not-heap_is_spelled.false in
     let room = c.have_room.ensures.exact.0 c.if-not-have_room.false in
-    inr (
-      header,
-      inr (
-        ends,
-        inr (
-          chain,
-          inr (
-            numbers,
-            inr (
-              free,
-              inr (
-                directory,
-                inr (
-                  kind,
-                  inr (
-                    spelled,
-                    inr (
-                      room,
-                      inl (λ empty. false≢true (c.if-not-may_be_empty.ensures.1 empty), refl),
-                    ),
-                  ),
-                ),
-              ),
-            ),
-          ),
-        ),
-      ),
-    )
+    passed header (passed ends (passed chain (passed numbers (passed free (passed directory (passed kind (passed spelled
+    (passed room (inl (λ empty. false≢true (c.if-not-may_be_empty.ensures.1 empty), refl))))))))))
 
 pub returns-then-not-keys_rise-clause-exact : goal.returns-then-not-keys_rise-clause-exact
 unfolding PageChecks
@@ -97,39 +46,6 @@ returns-then-not-keys_rise-clause-exact c =
     let spelled = c.heap_is_spelled.ensures.exact.0 c.if-not-heap_is_spelled.false in
     let room = c.have_room.ensures.exact.0 c.if-not-have_room.false in
     let empty = c.may_be_empty-2.ensures.0 c.if-not-may_be_empty.false in
-    let page = c.args.page.now in
-    inr (
-      header,
-      inr (
-        ends,
-        inr (
-          chain,
-          inr (
-            numbers,
-            inr (
-              free,
-              inr (
-                directory,
-                inr (
-                  kind,
-                  inr (
-                    spelled,
-                    inr (
-                      room,
-                      inr (
-                        empty,
-                        (
-                          λ rise. false≢true (c.if-not-keys_rise.ensures.exact.1
-                              (rw (c.is_lowest_first-lowest.ensures) rise)),
-                          refl,
-                        ),
-                      ),
-                    ),
-                  ),
-                ),
-              ),
-            ),
-          ),
-        ),
-      ),
-    )
+    passed header (passed ends (passed chain (passed numbers (passed free (passed directory (passed kind (passed spelled
+    (passed room (passed empty
+    (λ rise. false≢true (c.if-not-keys_rise.ensures.exact.1 (rw (c.is_lowest_first-lowest.ensures) rise)), refl))))))))))
