@@ -94,7 +94,7 @@ fn put_part<O: ByteSink>(
     ensures puts { Puts O.ByteSink sink.old sink.new (long_part kind.now bytes.now) result }
     ensures counts { writer.new ≡ record writer.old { lacks = writer.old.lacks - length bytes.now } }
 {
-    if writer.is_as_it_is(kind, bytes) {
+    if writer.take_plain(kind, bytes) {
         return sink.put(bytes);
     }
     part_text(writer, text, kind, bytes);

@@ -148,9 +148,9 @@ impl RowWriter {
         Ok(())
     }
 
-    /// Whether the text of the next bytes of a long value is known to be these bytes, which are counted then: so that
-    /// they may be added as they are. Otherwise nothing changes, and `part` adds their text.
-    pub fn is_as_it_is(&mut self, kind: &ColumnType, bytes: &[u8]) -> bool
+    /// Counts the next bytes of a long value if their text is known to be these very bytes, which may be added as they
+    /// are then, and answers whether it did. Otherwise nothing changes, and `part` adds their text.
+    pub fn take_plain(&mut self, kind: &ColumnType, bytes: &[u8]) -> bool
         requires long { is_long kind.now ≡ true }
         requires lacks { length bytes.now ≤ self.old.lacks }
         ensures same { IsTrue result → long_part kind.now bytes.now ≡ bytes.now }

@@ -4,7 +4,7 @@ use Rattle.hex.specs.Hex.{encode_lower}
 use Rattle.row_text.specs.Values.{escaped_text}
 use Rattle.row_text.specs.Writer.{is_text}
 use Rattle.row_text.proofs.Escapes.{escaped_plain}
-use Rattle.row_text.proofs.write.writer.RowWriter.is_as_it_is.Goals as goal
+use Rattle.row_text.proofs.write.writer.RowWriter.take_plain.Goals as goal
 
 pub returns-clause-same : goal.returns-clause-same
 returns-clause-same c _ =
