@@ -10,4 +10,3 @@ pub mod PassSteps
 pub mod ChecksLaw
 pub mod AllNumbers
 pub mod ReadRecords
-pub mod Chains

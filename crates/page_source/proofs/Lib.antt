@@ -3,6 +3,7 @@ pub mod Written
 pub mod WrittenFields
 pub mod Edits
 pub mod Unique
+pub mod Chains
 pub mod Slots
 pub mod Members
 pub mod Marks

@@ -150,19 +150,8 @@ header_from page header space read =
     let full_frag = base_from page 94 header.full_frag (drop 19 numbers) free_frag.1 in
     let inodes_full = base_from page 118 header.inodes_full (drop 25 numbers) full_frag.1.1 in
     let inodes_free = base_from page 134 header.inodes_free [] inodes_full.1 in
-    rw (
-      space,
-      read.0,
-      read.1.0,
-      read.1.1.0,
-      read.1.1.1.0,
-      free.0,
-      free_frag.0,
-      full_frag.0,
-      full_frag.1.0,
-      inodes_full.0,
-      inodes_free.0,
-    ) refl
+    rw (space, read.0, read.1.0, read.1.1.0, read.1.1.1.0)
+    (rw (free.0, free_frag.0, full_frag.0, full_frag.1.0, inodes_full.0, inodes_free.0) refl)
 
 pub header_read : (page : List ℕ) (header : SpaceHeader) → length page ≡ 16384 → FitsHeader header
     → header_of (with_header page header) ≡ header

@@ -1,7 +1,7 @@
 use Rattle.std.proofs.Common.{refl, inl}
 use Rattle.std.proofs.lemmas.Bool.{false≢true}
+use Rattle.page_source.proofs.Chains.{passed}
 use Rattle.index_page.specs.PageChecks.{PageChecks}
-use Rattle.index_page.proofs.Chains.{passed}
 use Rattle.index_page.proofs.fault.first_broken.Goals as goal
 
 pub returns-then-not-have_room-clause-exact : goal.returns-then-not-have_room-clause-exact
