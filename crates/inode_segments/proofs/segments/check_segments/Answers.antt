@@ -9,14 +9,14 @@ use Rattle.inode_segments.proofs.segments.check_segments.Goals as goal
 use Rattle.inode_segments.proofs.segments.check_segments.Goals.{then-inode-next-via-then-inode-next}
 use Rattle.inode_segments.proofs.segments.check_segments.Goals.{then-inode-next-via-else-inode-next+in_ok-add_id+then-not-branch}
 
-pub returns-then-inode-ne-MAGIC-clause-exact : goal.returns-then-inode-ne-MAGIC-clause-exact
-returns-then-inode-ne-MAGIC-clause-exact c = λ file are head.
+pub returns-then-inode-ne-MAGIC_NUMBER-clause-exact : goal.returns-then-inode-ne-MAGIC_NUMBER-clause-exact
+returns-then-inode-ne-MAGIC_NUMBER-clause-exact c = λ file are head.
     let i = c.loop-i.i in
     let place = c.place-holder.result in
     let inode = c.inode-inode.result.now in
     let here = segment_there file c.args.inodes.now i place inode are c.place-holder.ensures c.inode-inode.ensures in
     rw c.into.ensures (segment_breaks file i place inode c.at.result here (c.loop-i.invariant.held file are head)
-    (inl (λ magic. c.if-inode-ne-MAGIC.true (sym (ap (λ (y : Inode). y.magic) here.is) ∙ magic), c.at.ensures)))
+    (inl (λ magic. c.if-inode-ne-MAGIC_NUMBER.true (sym (ap (λ (y : Inode). y.magic) here.is) ∙ magic), c.at.ensures)))
 
 -- the id is not new
 seen : (c : goal.After-drop-ids-then-inode-next) → (c.inode-inode.result.now.id < c.args.next)
@@ -39,7 +39,7 @@ returns-then-inode-next-clause-exact c = λ file are head.
     rw c.into-then-inode-next.ensures (segment_breaks file i place inode c.at-then-inode-next.result here
     (c.loop-i.invariant.held file are head)
     (inr (
-      ap (λ (y : Inode). y.magic) here.is ∙ c.if-inode-ne-MAGIC.false,
+      ap (λ (y : Inode). y.magic) here.is ∙ c.if-inode-ne-MAGIC_NUMBER.false,
       (
         λ new. seen c (is_new file c.args.inodes.now i c.args.next place inode are head here new),
         c.at-then-inode-next.ensures,
@@ -59,7 +59,7 @@ loop-i-preserved c =
           let here = segment_there file c.args.inodes.now i place inode are c.place-holder.ensures
           c.inode-inode.ensures in
           segment_holds file i place inode here (c.loop-i.invariant.held file are head) (
-            ap (λ (y : Inode). y.magic) here.is ∙ c.if-inode-ne-MAGIC.false,
+            ap (λ (y : Inode). y.magic) here.is ∙ c.if-inode-ne-MAGIC_NUMBER.false,
             new_id file c.args.inodes.now i c.args.next place inode are head here (omega (arith, c.if-inode-next.false))
                 (λ has. false≢true (sym unseen ∙ (c.loop-i.invariant.ids inode.id).1 has)),
           );
