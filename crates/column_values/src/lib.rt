@@ -1,6 +1,7 @@
 //! Column types, the fields of an index, the values that their bytes spell, and their order.
 #![tactic(auto)]
 
+mod any_bytes;
 mod big_endian;
 mod codec;
 mod dates;
@@ -18,6 +19,7 @@ mod utf8;
 mod utf8_blocks;
 mod value;
 
+pub use any_bytes::take_any_bytes;
 pub use codec::{decode, decode_number, encode, is_value};
 pub use field::{Field, FieldList, FieldType, Storage};
 pub use integers::IntCode;

@@ -3,7 +3,7 @@ use Rattle.std.proofs.Common.{◌≡◌, ◌≢◌, ℕ, ◌<◌, List, map, get
 use Rattle.std.proofs.lemmas.Bool.{cases_eq, ne_eqb}
 use Rattle.std.proofs.lemmas.List.FromFn.{get_or-map-range_with_len}
 use Rattle.std.specs.List.{range_with_len}
-use Rattle.row_text.specs.declared.read_runs.TheConstants.{BYTES}
+use Rattle.row_text.specs.declared.read.runs.TheConstants.{BYTES}
 use Rattle.row_text.specs.Values.{escape_letter}
 use Rattle.row_text.specs.calls.Texts.{byte_of}
 use Rattle.row_text.proofs.Quotes.{cases_letter}

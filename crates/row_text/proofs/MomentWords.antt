@@ -10,7 +10,7 @@ use Rattle.column_values.specs.Moments.{IsYear, IsFraction, IsMoment, year_byte,
 use Rattle.column_values.specs.Spell.{packed_date}
 use Rattle.column_values.proofs.MomentValues.{year_spelled, year_in_range, date_spelled, moment_spelled}
 use Rattle.page_source.specs.Pages.{be_bytes}
-use Rattle.row_text.specs.declared.read_moments.MomentParts.{MomentParts}
+use Rattle.row_text.specs.declared.read.moments.MomentParts.{MomentParts}
 use Rattle.row_text.specs.Digits.{two_digits, four_digits, behind_point}
 use Rattle.row_text.specs.Values.{quoted, date_text, clock_text, time_text, moment_text}
 use Rattle.row_text.specs.calls.Words.{IsWordOf}

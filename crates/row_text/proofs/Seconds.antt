@@ -11,7 +11,7 @@ use Rattle.column_values.specs.declared.value.Value.{Value}
 use Rattle.column_values.specs.declared.value.Value.TheVariants as values
 use Rattle.column_values.specs.Moments.{IsTimestamp, fraction_bytes}
 use Rattle.column_values.proofs.MomentValues.{timestamp_spelled}
-use Rattle.row_text.specs.declared.read_moments.MomentParts.{MomentParts}
+use Rattle.row_text.specs.declared.read.moments.MomentParts.{MomentParts}
 use Rattle.row_text.specs.Values.{quoted, date_text, time_text, moment_text, day_text, timestamp_text}
 use Rattle.row_text.specs.calls.Words.{IsWordOf}
 use Rattle.row_text.specs.calls.Moments.{IsMomentWord, IsDateOf, IsSecondOf, IsNoSecond}

@@ -4,7 +4,10 @@ ghost use Rattle.std.specs.Prelude.{◌≡◌, ◌<◌, ◌≤◌, position, len
 ghost use Rattle.row_text.specs.Values.{IsPlain, is_escaped, escape_letter};
 
 use crate::escape::{escape_letter, is_escaped, is_special};
-use crate::pieces::CHUNK;
+
+/// How many bytes of a long text are looked at together, and how many are turned to digits, or to a text with escapes,
+/// at a time.
+pub(crate) const CHUNK: usize = 256;
 
 /// How many bytes of a text are looked at together.
 const RUN: usize = 32;

@@ -14,6 +14,7 @@ pub mod TextLemmas
 pub mod ReadingLemmas
 pub mod FieldLemmas
 pub mod ColumnFields
+pub mod EntryFields
 pub mod PrintLemmas
 pub mod GoodLines
 pub mod WordsBack

@@ -109,3 +109,16 @@ field_of_column table column =
 -- the fields of the columns of a table, in its order
 abbrev pub fields_of_columns : TableDef → List ℕ
 fields_of_columns table = map (field_of_column table) (range_with_len 0 (length table.columns))
+
+-- the columns of an entry of index j: its own, and the others of the clustered key
+abbrev pub entry_columns : TableDef → ℕ → List ℕ
+entry_columns table j =
+    (index_at table j).columns ++ positions_without (clustered_positions table) (index_at table j).columns
+
+-- the hidden row id, the first field of a clustered leaf record, if there is no clustered key
+abbrev pub hidden_fields : TableDef → List ℕ
+hidden_fields table = if length (clustered_positions table) == 0 then 0 ∷ [] else []
+
+-- the fields of a clustered leaf record that an entry of index j has
+unfoldable pub entry_fields : TableDef → ℕ → List ℕ
+entry_fields table j = map (field_of_column table) (entry_columns table j) ++ hidden_fields table

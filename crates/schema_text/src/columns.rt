@@ -1,11 +1,14 @@
 //! Where the columns of a table stand among the fields of a clustered leaf record (dict0dict): those of the key
 //! first, or the row id where there is no key, then transaction id and roll pointer, then the other columns in the
-//! order of the table.
+//! order of the table. The fields of such a record that an entry of another index has.
 
-ghost use Rattle.std.specs.Prelude.{◌≡◌, ◌<◌, ◌==◌, if◌then◌else◌, length, position, IfOk, IfSome};
+ghost use Rattle.std.specs.Prelude.{◌≡◌, ◌<◌, ◌==◌, ◌++◌, if◌then◌else◌, length, map, position, All, IfOk, IfSome};
+ghost use Rattle.std.specs.Prelude.{OnOk, slice_index_or};
+ghost use Rattle.std.specs.List.{list_any};
 ghost use Rattle.schema_text.specs.Grammar.{IsTable};
-ghost use Rattle.schema_text.specs.IndexFields.{fields_of_columns};
+ghost use Rattle.schema_text.specs.IndexFields.{fields_of_columns, positions_without, entry_fields};
 
+use crate::fields::positions_at;
 use crate::table::Schema;
 use page_source::NoMemory;
 use std::alloc::Global;
@@ -45,5 +48,70 @@ pub fn column_fields(alloc: Global, schema: &Schema) -> Result<Vec<usize>, NoMem
             }
         }
     }
+    Ok(list)
+}
+
+/// Whether the column is among these.
+pub fn is_among(columns: &[u16], column: usize) -> bool
+    ensures { result ≡ list_any (λ j. j == column) columns.now }
+{
+    columns.iter().any(|c| usize::from(*c) == column)
+}
+
+/// Adds the fields of those of the columns that aren't among the others; `at` has the field of each column.
+fn push_columns(
+    list: &mut Vec<usize>,
+    at: &[usize],
+    columns: &[u16],
+    others: &[u16],
+) -> Result<(), NoMemory>
+    requires { All (λ c. c < length at.now) columns.now }
+    ensures { OnOk result (list.new.items
+        ≡ list.old.items ++ map (λ c. slice_index_or at.now c 0) (positions_without columns.now others.now)) }
+{
+    for column in columns {
+        let place = usize::from(*column);
+        if !is_among(others, place) {
+            list.push(at[place])?;
+        }
+    }
+    Ok(())
+}
+
+/// Adds the fields of a clustered leaf record that an entry of an index has; `at` has the field of each column.
+pub fn push_entry_fields(
+    list: &mut Vec<usize>,
+    schema: &Schema,
+    at: &[usize],
+    index: usize,
+) -> Result<(), NoMemory>
+    requires index { index < length schema.now.indexes }
+    requires columns { at.now ≡ fields_of_columns schema.now }
+    ensures { OnOk result (list.new.items ≡ list.old.items ++ entry_fields schema.now index) }
+{
+    let _ = schema.indexes();
+    let key = positions_at(schema, 0);
+    let own = positions_at(schema, index);
+    push_columns(list, at, own, &[])?;
+    push_columns(list, at, key, own)?;
+    if key.len() == 0 {
+        list.push(0)?;
+    }
+    Ok(())
+}
+
+/// The fields of a clustered leaf record that an entry of an index has; `at` has the field of each column.
+pub fn entry_fields(
+    alloc: Global,
+    schema: &Schema,
+    at: &[usize],
+    index: usize,
+) -> Result<Vec<usize>, NoMemory>
+    requires index { index < length schema.now.indexes }
+    requires columns { at.now ≡ fields_of_columns schema.now }
+    ensures { IfOk result (λ list. list.items ≡ entry_fields schema.now index) }
+{
+    let mut list = Vec::new(alloc);
+    push_entry_fields(&mut list, schema, at, index)?;
     Ok(list)
 }

@@ -11,6 +11,7 @@ ghost use Rattle.schema_text.specs.IndexFields.{kept_at, leaving_at, positions_w
 ghost use Rattle.schema_text.specs.IndexFields.{clustered_key, secondary_fields, key_fields, rest_fields};
 ghost use Rattle.schema_text.specs.IndexFields.{index_fields};
 
+use crate::columns::is_among;
 use crate::table::{Column, IndexDef, Schema};
 use column_values::{Field, FieldList, FieldType};
 use page_source::NoMemory;
@@ -39,13 +40,6 @@ const CHILD: Field = Field {
     nullable: false,
     may_leave: false,
 };
-
-/// Whether the position is among these.
-fn is_among(positions: &[u16], position: usize) -> bool
-    ensures { result ≡ list_any (λ j. j == position) positions.now }
-{
-    positions.iter().any(|p| usize::from(*p) == position)
-}
 
 /// Adds the columns at those of the positions that aren't among the others, as fields that stay on the page.
 fn push_kept(
@@ -131,7 +125,7 @@ fn push_row_key(
 }
 
 /// The columns of an index.
-fn positions_at(schema: &Schema, index: usize) -> &[u16]
+pub(crate) fn positions_at(schema: &Schema, index: usize) -> &[u16]
     requires { index < length schema.now.indexes }
     ensures value { result.now ≡ (index_at schema.now index).columns }
     ensures known { All (λ i. i < length schema.now.columns) result.now }

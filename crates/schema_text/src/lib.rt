@@ -16,7 +16,7 @@ mod table;
 mod types;
 mod words;
 
-pub use columns::column_fields;
+pub use columns::{column_fields, entry_fields, is_among, push_entry_fields};
 pub use errors::{SchemaError, SchemaWhy};
 pub use table::{Column, ColumnList, Format, IndexDef, Schema};
 pub use words::{FIRST_ROOT, decimal_number};

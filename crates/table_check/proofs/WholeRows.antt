@@ -37,7 +37,7 @@ use Rattle.tree_walk.specs.Records.{IsRecord}
 use Rattle.tree_walk.specs.Segments.{leaf_segment}
 use Rattle.tree_walk.specs.Walk.{RowLiesWhole}
 use Rattle.tree_walk.proofs.LeafFacts.{leaf_facts}
-use Rattle.table_check.specs.AnyBytes.{takes_any_bytes, field_takes_any, TakeAnyBytes}
+use Rattle.column_values.specs.AnyBytes.{takes_any_bytes, field_takes_any, TakeAnyBytes}
 use Rattle.table_check.specs.Trees.{index_in, clustered_tree, all_tree_pages}
 use Rattle.table_check.specs.Taken.{AreExactly, IsClustered, IsReached}
 use Rattle.table_check.specs.Values.{bytes_at, ValueChecks, FieldChecks, RecordChecksBy, RecordChecks, RowChecks}

@@ -1,6 +1,5 @@
 pub mod Trees
 pub mod Values
-pub mod AnyBytes
 pub mod Leaf
 pub mod Marking
 pub mod Rows

@@ -1,11 +1,11 @@
 //! A whole table: all rules of its file, in order.
 #![tactic(auto)]
 
-mod any_bytes;
 mod check_file;
 mod ends;
 pub mod laws;
 mod leaf;
+mod no_look;
 mod pass;
 mod record;
 mod rows;

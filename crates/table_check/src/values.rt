@@ -17,8 +17,8 @@ ghost use Rattle.table_check.specs.Live.{GivesAll};
 ghost use Rattle.table_check.specs.Values.{RowChecks, all_chain_pages};
 ghost use Rattle.table_check.specs.Leaf.{RecordChecksOn, pages_of_record_on};
 
-use crate::any_bytes::need_no_look;
 use crate::leaf::{Leaf, Leaves};
+use crate::no_look::need_no_look;
 use crate::pass::pass_leaves;
 use crate::record::check_record;
 use crate::rows::LiveRows;

@@ -27,8 +27,8 @@ pub record HasCounted (page : List ℕ) (fields : Fields) (k at live deleted : �
   pub whole_is : whole ≡ true → All (LiesWhole page fields) (take k (records_of page))
   pub most : live + deleted ≡ k
 
-pub counted_none : (page : List ℕ) (fields : Fields) → HasCounted page fields 0 99 0 0 true
-counted_none page fields = record {
+pub counted_none : (page : List ℕ) (fields : Fields) (whole : Bool) → HasCounted page fields 0 99 0 0 whole
+counted_none page fields whole = record {
   passed = refl;
   live_is = refl;
   deleted_is = refl;

@@ -1,7 +1,7 @@
 -- Dates and times of day by their parts.
 use Rattle.std.specs.Prelude.{◌≡◌, ℕ, ◌<◌, ◌/◌, ◌%◌, List}
 use Rattle.column_values.specs.Moments.{IsFraction}
-use Rattle.row_text.specs.declared.read_moments.MomentParts.{MomentParts}
+use Rattle.row_text.specs.declared.read.moments.MomentParts.{MomentParts}
 use Rattle.row_text.specs.Calendar.{year_of_day, month_of_day, day_of_day}
 use Rattle.row_text.specs.Values.{quoted, moment_text, date_text, day_text}
 

@@ -8,7 +8,7 @@ ghost use Rattle.index_page.specs.Header.{records_of, record_count};
 ghost use Rattle.tree_walk.specs.Records.{PageFacts};
 ghost use Rattle.tree_walk.specs.Walk.{IsTally, AreUnmarked};
 
-use column_values::FieldList;
+use column_values::{FieldList, take_any_bytes};
 use compact_record::{deleted, lies_whole, minimum, next_origin};
 use index_page::layout::INFIMUM;
 use index_page::record_count;
@@ -69,14 +69,18 @@ fn none_marked(before: bool, page: &Page, origin: usize) -> bool
     before && !minimum(page, origin)
 }
 
-/// What is found of the records of a page.
+/// What is found of the records of a page. Whether their values lie whole is asked only if nobody has to look at them
+/// then, since any bytes are values of these columns.
 pub(crate) fn count_of(page: &Page, fields: &FieldList) -> Count
     requires facts { PageFacts page.now fields.now }
     ensures exact { IsTally page.now fields.now result.tally }
     ensures most { result.tally.live + result.tally.deleted ≤ 65536 }
     ensures unmarked { result.unmarked ≡ true → AreUnmarked page.now (records_of page.now) }
 {
-    let mut tally = NONE;
+    let mut tally = Tally {
+        whole: take_any_bytes(fields),
+        ..NONE
+    };
     let mut unmarked = true;
     let mut at = INFIMUM;
     for k in 0..record_count(page) {

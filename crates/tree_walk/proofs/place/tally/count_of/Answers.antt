@@ -5,7 +5,7 @@ use Rattle.tree_walk.proofs.place.tally.count_of.Goals as goal
 
 pub loop-k-init : goal.loop-k-init
 loop-k-init c = record {
-  counted = counted_none c.args.page.now c.args.fields.now;
+  counted = counted_none c.args.page.now c.args.fields.now c.take_any_bytes.result;
   unmarked = λ t. none_marked c.args.page.now;
 }
 
