@@ -2,12 +2,11 @@
 use Rattle.std.proofs.Common.{◌≡◌, ℕ, zero, suc, ◌+◌, ◌<◌, ◌≤◌, true, false, List, [], ◌∷◌, ◌++◌, length, get_or, map}
 use Rattle.std.proofs.Common.{drop, take, slice_range, cond, ◌==◌}
 use Rattle.std.proofs.lemmas.Bool.Decides.{nat_tests}
-use Rattle.std.proofs.Common.{All, None, Some, refl, sym, ap, ◌∙◌, subst, inl, inr, arith, add-one, min, ◌^◌, ◌-◌, ◌*◌}
+use Rattle.std.proofs.Common.{All, None, Some, refl, sym, ap, ◌∙◌, subst, inl, inr, arith, min, ◌^◌, ◌-◌, ◌*◌}
 use Rattle.std.specs.declared.cmp.Ordering.{Ordering}
 use Rattle.std.specs.declared.cmp.Ordering.TheVariants.{Equal}
 use Rattle.std.specs.Ordering.{ordering_then}
-use Rattle.std.proofs.Math.Seq.{drop-cons}
-use Rattle.std.proofs.lemmas.List.{drop_all, drop_at, drop-append-le, take_all, take-append-le, length-map}
+use Rattle.std.proofs.lemmas.List.{drop_at, drop-append-le, take_all, take-append-le, length-map}
 use Rattle.std.proofs.lemmas.List.{length-take-le, get_or-map, get_or-take, get_or_past, map-append}
 use Rattle.std.proofs.Common.{length-append, length-drop}
 use Rattle.std.proofs.lemmas.List.Elements.{All-head, All-tail}
@@ -15,7 +14,7 @@ use Rattle.std.proofs.lemmas.Bool.{cases_lt}
 use Rattle.column_values.specs.declared.field.FieldType.{FieldType}
 use Rattle.column_values.specs.declared.field.FieldType.TheVariants.{Child}
 use Rattle.column_values.specs.declared.field.Field.{Field}
-use Rattle.column_values.specs.Types.{Fields, field_at, child_field}
+use Rattle.column_values.specs.Types.{Fields, field_at}
 use Rattle.column_values.specs.Order.{Key, cell_cmp, key_cmp}
 use Rattle.compact_record.specs.declared.places.Place.{Place}
 use Rattle.compact_record.specs.Reading.{cell_at, key_kinds}

@@ -9,8 +9,8 @@ ghost use Rattle.compact_record.specs.declared.places.Place.{Place};
 ghost use Rattle.cross_index.specs.calls.Kept.{LiesIn, LieTo, places_of_marks, value_start};
 
 use crate::numbers::Numbers;
-use column_values::{FieldType, compare};
-use compact_record::Place;
+use column_values::{FieldType, compare_values};
+use compact_record::{Place, bytes_of};
 use page_source::{NoMemory, Page};
 use std::alloc::Global;
 use std::cmp::Ordering;
@@ -80,17 +80,7 @@ fn compare_cells(kind: &FieldType, bytes: &[u8], a: Place, other: &[u8], b: Plac
     requires second { LiesIn (length other.now) b }
     ensures { result ≡ cell_cmp kind.now (cell_at bytes.now a) (cell_at other.now b) }
 {
-    if a.null {
-        if b.null {
-            Ordering::Equal
-        } else {
-            Ordering::Less
-        }
-    } else if b.null {
-        Ordering::Greater
-    } else {
-        compare(kind, &bytes[a.from..a.until], &other[b.from..b.until])
-    }
+    compare_values(kind, bytes_of(bytes, a), bytes_of(other, b))
 }
 
 impl Cells {
@@ -158,10 +148,7 @@ impl Cells {
         ensures { option_copied result ≡ slice_index_or self.now i None }
     {
         let place = place_at(&self.marks, i, self.bytes.len());
-        if place.null {
-            return None;
-        }
-        Some(&self.bytes[place.from..place.until])
+        bytes_of(&self.bytes, place)
     }
 
     /// The order of two of the values, which are of one kind; past the last there are nulls.

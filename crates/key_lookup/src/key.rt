@@ -8,8 +8,8 @@ ghost use Rattle.compact_record.specs.Reading.{cell_at, key_of, key_kinds};
 ghost use Rattle.compact_record.specs.Keys.{IsOnPage, IsWholeReading, key_at};
 ghost use Rattle.key_lookup.specs.Sought.{LiesIn};
 
-use column_values::{Field, FieldList, FieldType, compare};
-use compact_record::{Located, Place};
+use column_values::{Field, FieldList, FieldType, compare_values};
+use compact_record::{Located, Place, bytes_of};
 use page_source::{NoMemory, Page};
 use std::alloc::Global;
 use std::cmp::Ordering;
@@ -85,21 +85,7 @@ fn compare_cells(kind: &FieldType, page: &Page, a: Place, bytes: &[u8], b: Place
     requires second { LiesIn (length bytes.now) b }
     ensures { result ≡ cell_cmp kind.now (cell_at page.now a) (cell_at bytes.now b) }
 {
-    if a.null {
-        if b.null {
-            Ordering::Equal
-        } else {
-            Ordering::Less
-        }
-    } else if b.null {
-        Ordering::Greater
-    } else {
-        compare(
-            kind,
-            &page.bytes()[a.from..a.until],
-            &bytes[b.from..b.until],
-        )
-    }
+    compare_values(kind, bytes_of(page.bytes(), a), bytes_of(bytes, b))
 }
 
 fn field_at(fields: &FieldList, i: usize) -> Field

@@ -1,16 +1,15 @@
 -- Rows in the order of their keys.
-use Rattle.std.proofs.Common.{◌≡◌, ℕ, ◌+◌, ◌<◌, ◌≤◌, List, length, get_or, take, Option, None, sym}
+use Rattle.std.proofs.Common.{◌≡◌, ℕ, ◌+◌, ◌<◌, ◌≤◌, List, length, get_or, Option, None, sym}
 use Rattle.std.proofs.Common.{ap, ◌∙◌, arith}
 use Rattle.std.specs.declared.cmp.Ordering.{Ordering}
 use Rattle.std.specs.Ordering.{ordering_then}
 use Rattle.std.specs.List.{range_with_len}
 use Rattle.std.specs.List.Sorted.{IsPermutation}
 use Rattle.std.proofs.Common.{subst}
-use Rattle.std.proofs.lemmas.List.{length-map, length-take-le, get_or-map, get_or-take}
-use Rattle.column_values.specs.declared.field.Field.{Field}
+use Rattle.std.proofs.lemmas.List.{length-map, get_or-map}
 use Rattle.column_values.specs.declared.field.FieldType.{FieldType}
 use Rattle.column_values.specs.declared.field.FieldType.TheVariants.{Child}
-use Rattle.column_values.specs.Types.{Fields, field_at, child_field}
+use Rattle.column_values.specs.Types.{Fields, field_at}
 use Rattle.column_values.specs.Order.{Key, cell_cmp}
 use Rattle.compact_record.specs.Reading.{key_kinds}
 use Rattle.row_layout.specs.StoredRow.{Stored, stored_at}
