@@ -17,7 +17,8 @@ use Rattle.schema_text.specs.IndexFields.{leaf_fields, key_fields, rest_fields, 
 use Rattle.schema_text.specs.IndexFields.{clustered_rest, positions_without, field_of_column}
 use Rattle.table_check.specs.Trees.{index_count}
 use Rattle.schema_text.proofs.ColumnFields.{holds_column}
-use Rattle.cross_index.specs.Entries.{entry_columns, hidden_fields, entry_fields, entry_kinds}
+use Rattle.schema_text.specs.IndexFields.{entry_columns, hidden_fields, entry_fields}
+use Rattle.cross_index.specs.Entries.{entry_kinds}
 use Rattle.cross_index.specs.calls.Gather.{all_entry_fields, kept_fields}
 use Rattle.cross_index.proofs.EntryKinds.{all_without, kinds_size}
 

@@ -30,7 +30,7 @@ use Rattle.schema_text.specs.IndexFields.{kept_field, columns_at, row_key as key
 use Rattle.schema_text.specs.IndexFields.{row_id_field}
 use Rattle.schema_text.specs.IndexFields.{secondary_fields}
 use Rattle.schema_text.proofs.ColumnFields.{holds_column, length_known}
-use Rattle.cross_index.specs.Entries.{entry_columns, hidden_fields, entry_fields}
+use Rattle.schema_text.specs.IndexFields.{entry_columns, hidden_fields, entry_fields}
 use Rattle.cross_index.specs.Entries.{entry_kinds}
 
 -- the kind of a column's field

@@ -23,7 +23,7 @@ use Rattle.table_check.specs.Live.{LiveView, HasGivenLive}
 use Rattle.table_check.specs.Laws.{TreesAreWalked}
 use Rattle.cross_index.specs.declared.crossed.CrossStop.{CrossStop}
 use Rattle.cross_index.specs.declared.gathered.Gathered.{Gathered}
-use Rattle.cross_index.specs.Entries.{entry_fields}
+use Rattle.schema_text.specs.IndexFields.{entry_fields}
 use Rattle.cross_index.specs.calls.Kept.{kept_keys}
 use Rattle.cross_index.specs.calls.Order.{IsOrder}
 use Rattle.cross_index.specs.calls.Gather.{kept_fields, StandsAt}

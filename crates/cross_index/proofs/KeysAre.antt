@@ -11,7 +11,8 @@ use Rattle.column_values.specs.Order.{Key}
 use Rattle.schema_text.specs.TableDef.{TableDef}
 use Rattle.tree_walk.specs.Index.{Index, Row, no_row}
 use Rattle.table_check.specs.Trees.{clustered_tree}
-use Rattle.cross_index.specs.Entries.{entry_fields, field_of_row, projection, rows_in, row_keys}
+use Rattle.schema_text.specs.IndexFields.{entry_fields}
+use Rattle.cross_index.specs.Entries.{field_of_row, projection, rows_in, row_keys}
 use Rattle.cross_index.specs.calls.Kept.{kept_key, kept_keys}
 use Rattle.cross_index.specs.calls.Gather.{kept_fields, kept_cells, IsGathered, StandsAt}
 

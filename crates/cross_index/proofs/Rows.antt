@@ -31,7 +31,8 @@ use Rattle.table_check.specs.Trees.{index_in, clustered_tree}
 use Rattle.table_check.specs.Values.{live_rows}
 use Rattle.table_check.specs.Valid.{IsValid}
 use Rattle.table_check.specs.Laws.{LiveRowsRise, TreesAreWalked}
-use Rattle.cross_index.specs.Entries.{entry_fields, field_of_row, whole_cell, projection}
+use Rattle.schema_text.specs.IndexFields.{entry_fields}
+use Rattle.cross_index.specs.Entries.{field_of_row, whole_cell, projection}
 use Rattle.cross_index.specs.Entries.{rows_in, entry_kinds, row_keys}
 use Rattle.cross_index.specs.Sides.{AreApart}
 use Rattle.cross_index.proofs.Sides.{not_both}

@@ -1,29 +1,16 @@
 -- The keys of a secondary index: those that the rows ask for, and those that its entries have (row0row, dict0dict).
-use Rattle.std.specs.Prelude.{ℕ, ◌==◌, if◌then◌else◌, List, [], ◌∷◌, ◌++◌, length, map, Option, None, Some}
+use Rattle.std.specs.Prelude.{ℕ, if◌then◌else◌, List, map, Option, None, Some}
 use Rattle.column_values.specs.declared.field.FieldType.{FieldType}
 use Rattle.column_values.specs.Order.{Key}
 use Rattle.compact_record.specs.declared.places.Place.{Place}
 use Rattle.compact_record.specs.Reading.{place_of, key_kinds}
-use Rattle.schema_text.specs.TableDef.{TableDef, index_at}
-use Rattle.schema_text.specs.IndexFields.{leaf_fields, clustered_positions, positions_without, field_of_column}
+use Rattle.schema_text.specs.TableDef.{TableDef}
+use Rattle.schema_text.specs.IndexFields.{leaf_fields, entry_fields}
 use Rattle.tree_walk.specs.Index.{Index, Row, page_in}
 use Rattle.tree_walk.specs.Laws.{row_key}
 use Rattle.table_check.specs.Trees.{index_in, clustered_tree}
 use Rattle.table_check.specs.Values.{bytes_at, live_rows}
 use Rattle.sql_dump.specs.Long.{whole_bytes}
-
--- the columns of an entry: those of the index, and the others of the clustered key
-abbrev pub entry_columns : TableDef → ℕ → List ℕ
-entry_columns table i =
-    (index_at table i).columns ++ positions_without (clustered_positions table) (index_at table i).columns
-
--- the hidden row id, the first field of a row, if there is no clustered key
-abbrev pub hidden_fields : TableDef → List ℕ
-hidden_fields table = if length (clustered_positions table) == 0 then 0 ∷ [] else []
-
--- the fields of a clustered record that an entry of index i has
-unfoldable pub entry_fields : TableDef → ℕ → List ℕ
-entry_fields table i = map (field_of_column table) (entry_columns table i) ++ hidden_fields table
 
 -- the bytes of a field by its place: none for null, and those of the whole value if it goes on elsewhere
 abbrev pub whole_cell : List ℕ → List ℕ → Place → Option (List ℕ)

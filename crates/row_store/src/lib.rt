@@ -11,7 +11,6 @@ mod rows;
 mod stop;
 mod stored;
 
-pub use row_shape::is_among;
 pub use rows::read_rows;
 pub use stop::{RowsStop, RowsWhy};
 pub use stored::StoredRows;

@@ -1,13 +1,12 @@
 //! What the records of a clustered index have.
 
-ghost use Rattle.std.specs.Prelude.{◌≡◌, ◌==◌, IfOk};
-ghost use Rattle.std.specs.List.{list_any};
+ghost use Rattle.std.specs.Prelude.{◌≡◌, IfOk};
 ghost use Rattle.schema_text.specs.IndexFields.{other_positions};
 ghost use Rattle.row_store.specs.calls.NextRow.{IsShapeOf};
 
 use column_values::FieldList;
 use page_source::NoMemory;
-use schema_text::Schema;
+use schema_text::{Schema, is_among};
 use std::alloc::Global;
 
 /// The fields of the records, and the columns that stand behind the key.
@@ -17,13 +16,6 @@ pub(crate) struct RowShape {
     pub(crate) fields: FieldList,
     /// The places of the columns that aren't in the key.
     pub(crate) others: Vec<u16>,
-}
-
-/// Whether the column is among these.
-pub fn is_among(columns: &[u16], column: usize) -> bool
-    ensures { result ≡ list_any (λ j. j == column) columns.now }
-{
-    columns.iter().any(|c| usize::from(*c) == column)
 }
 
 /// The places of the columns that aren't in the clustered key.

@@ -6,7 +6,7 @@ use Rattle.std.proofs.lemmas.Bool.{ne_eqb}
 use Rattle.std.proofs.lemmas.List.FromFn.{get_or-map-range_with_len}
 use Rattle.page_source.specs.declared.objects.PageStore.{Ghosts as StoreOf}
 use Rattle.column_values.specs.Types.{Fields}
-use Rattle.schema_text.specs.IndexFields.{leaf_fields, node_fields}
+use Rattle.schema_text.specs.IndexFields.{leaf_fields, node_fields, entry_fields}
 use Rattle.schema_text.specs.TableDef.{TableDef}
 use Rattle.schema_text.specs.declared.table.Format.{Format}
 use Rattle.schema_text.specs.declared.table.Format.TheVariants.{Compact, Dynamic}
@@ -22,7 +22,7 @@ use Rattle.row_layout.specs.StoredRow.{Stored, stored_at, kept_prefix, going_ove
 use Rattle.space_builder.specs.declared.plan.IndexPages.{IndexPages}
 use Rattle.space_builder.specs.declared.space.Space.{Space}
 use Rattle.space_builder.specs.declared.tree_plan.TreePlan.{TreePlan}
-use Rattle.space_builder.specs.calls.Picked.{first_page_in, picked_entries, entry_fields}
+use Rattle.space_builder.specs.calls.Picked.{first_page_in, picked_entries}
 use Rattle.space_builder.specs.calls.Room.{TakesPages, AreFirstPages, number_behind}
 use Rattle.space_builder.specs.declared.values.FirstPages.{FirstPages}
 use Rattle.space_builder.specs.calls.Space.{IsSpaceOf, IsTreeOf, leaves_of}

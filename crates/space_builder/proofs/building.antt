@@ -2,9 +2,7 @@ pub mod Good
 pub mod Texts
 pub mod PickedParts
 pub mod KeyOrders
-pub mod Columns
 pub mod PickedEntries
 pub mod Weights
 pub mod PlanSteps
-pub mod EntryFields
 pub mod LineRows

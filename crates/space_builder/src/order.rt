@@ -1,21 +1,19 @@
 //! The rows in the order of their entries in an index.
 
-ghost use Rattle.std.specs.Prelude.{◌≡◌, ◌<◌, ◌≤◌, ◌==◌, ◌++◌, IfOk, OnOk, All, length, map, slice_index_or};
+ghost use Rattle.std.specs.Prelude.{◌≡◌, ◌<◌, ◌≤◌, IfOk, length};
 ghost use Rattle.column_values.specs.Types.{field_at};
 ghost use Rattle.column_values.specs.Order.{key_cmp};
 ghost use Rattle.compact_record.specs.Reading.{key_kinds};
-ghost use Rattle.schema_text.specs.Grammar.{IsTable};
-ghost use Rattle.schema_text.specs.TableDef.{index_at};
-ghost use Rattle.schema_text.specs.IndexFields.{positions_without};
+ghost use Rattle.schema_text.specs.IndexFields.{entry_fields};
 ghost use Rattle.row_layout.specs.HoldsValues.{stored_in};
-ghost use Rattle.space_builder.specs.calls.Picked.{picked_key, entry_fields};
+ghost use Rattle.space_builder.specs.calls.Picked.{picked_key};
 ghost use Rattle.space_builder.specs.calls.Order.{IsKeyOrder, IsIndexOrder};
 
 use column_values::{Field, FieldList, FieldType, compare_values};
 use key_ranks::{RowKeys, order_of_rows};
 use page_source::NoMemory;
-use row_store::{StoredRows, is_among};
-use schema_text::{Schema, column_fields};
+use row_store::StoredRows;
+use schema_text::{Schema, column_fields, entry_fields};
 use std::alloc::Global;
 use std::cmp::Ordering;
 use std::marker::Model;
@@ -129,38 +127,8 @@ fn order_of_keys(
     Ok(numbers)
 }
 
-/// Adds the fields of those of the columns that aren't among the others.
-fn push_columns(
-    list: &mut Vec<usize>,
-    at: &[usize],
-    columns: &[u16],
-    others: &[u16],
-) -> Result<(), NoMemory>
-    requires { All (λ c. c < length at.now) columns.now }
-    ensures { OnOk result (list.new.items
-        ≡ list.old.items ++ map (λ c. slice_index_or at.now c 0) (positions_without columns.now others.now)) }
-{
-    for column in columns {
-        let place = usize::from(*column);
-        if !is_among(others, place) {
-            list.push(at[place])?;
-        }
-    }
-    Ok(())
-}
-
-/// The columns of an index.
-fn columns_of(schema: &Schema, index: usize) -> &[u16]
-    requires { index < length schema.now.indexes }
-    ensures value { result.now ≡ (index_at schema.now index).columns }
-    ensures known { All (λ c. c < length schema.now.columns) result.now }
-    ensures table { IsTable schema.now }
-{
-    schema.indexes()[index].columns.items()
-}
-
 /// Which fields of a row the entries of an index have.
-pub(crate) fn entry_fields(
+pub(crate) fn fields_of_entries(
     alloc: Global,
     schema: &Schema,
     index: usize,
@@ -169,15 +137,7 @@ pub(crate) fn entry_fields(
     ensures { IfOk result (λ list. list.items ≡ entry_fields schema.now index) }
 {
     let at = column_fields(alloc, schema)?;
-    let key = columns_of(schema, 0);
-    let own = columns_of(schema, index);
-    let mut list = Vec::new(alloc);
-    push_columns(&mut list, &at, own, &[])?;
-    push_columns(&mut list, &at, key, own)?;
-    if key.len() == 0 {
-        list.push(0)?;
-    }
-    Ok(list)
+    entry_fields(alloc, schema, &at, index)
 }
 
 /// The rows in the order of their entries in an index that isn't the clustered one.
@@ -193,6 +153,6 @@ pub(crate) fn order_of_index(
 {
     let _ = schema.indexes();
     let list = schema.fields(alloc, index, true)?;
-    let fields = entry_fields(alloc, schema, index)?;
+    let fields = fields_of_entries(alloc, schema, index)?;
     order_of_keys(alloc, rows, &list, &fields)
 }

@@ -12,7 +12,7 @@ ghost use Rattle.space_builder.specs.calls.Plan.{stored_total, FindsPages, Finds
 use crate::clustered::{ClusteredEntries, kept_prefix};
 use crate::counts::count_tree;
 use crate::laws::{laws_below, picked_entries_are_sorted};
-use crate::order::{entry_fields, order_of_index};
+use crate::order::{fields_of_entries, order_of_index};
 use crate::places::pages_above;
 use crate::secondary::SecondaryEntries;
 use page_source::NoMemory;
@@ -139,7 +139,7 @@ fn tree_counts(
         };
         return count_tree(alloc, &leaf, &node, &entries);
     }
-    let fields = entry_fields(alloc, schema, index)?;
+    let fields = fields_of_entries(alloc, schema, index)?;
     let entries = SecondaryEntries {
         rows,
         order,

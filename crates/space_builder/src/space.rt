@@ -13,7 +13,7 @@ use crate::clustered::ClusteredEntries;
 use crate::head_pages::{put_head_page, put_system_pages};
 use crate::laws::{laws_below, picked_entries_are_sorted, same_pages_give_records};
 use crate::levels::{PageRoom, put_tree};
-use crate::order::entry_fields;
+use crate::order::fields_of_entries;
 use crate::plan::{RowOrder, SpacePlan, leaf_size};
 use crate::secondary::SecondaryEntries;
 use crate::tree_plan::TreePlan;
@@ -83,7 +83,7 @@ impl Space<'_> {
     {
         laws_below();
         picked_entries_are_sorted();
-        let fields = entry_fields(alloc, self.schema, j)?;
+        let fields = fields_of_entries(alloc, self.schema, j)?;
         let entries = SecondaryEntries {
             rows: self.rows,
             order: &self.orders[j].rows,

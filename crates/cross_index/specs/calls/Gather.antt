@@ -8,7 +8,7 @@ use Rattle.compact_record.specs.declared.places.Place.{Place}
 use Rattle.compact_record.specs.Reading.{field_count}
 use Rattle.offpage_chain.specs.Reference.{reference_of}
 use Rattle.schema_text.specs.TableDef.{TableDef}
-use Rattle.schema_text.specs.IndexFields.{leaf_fields}
+use Rattle.schema_text.specs.IndexFields.{leaf_fields, entry_fields}
 use Rattle.tree_walk.specs.Index.{Row}
 use Rattle.tree_walk.specs.Leaf.{IsWalked}
 use Rattle.table_check.specs.Trees.{clustered_tree, index_count}
@@ -16,7 +16,7 @@ use Rattle.table_check.specs.Values.{bytes_at, live_rows, pages_of_value}
 use Rattle.table_check.specs.Live.{LiveView, HasGivenLive}
 use Rattle.table_check.specs.Valid.{IsValid}
 use Rattle.sql_dump.specs.Long.{CanFollow}
-use Rattle.cross_index.specs.Entries.{entry_fields, field_of_row, whole_cell}
+use Rattle.cross_index.specs.Entries.{field_of_row, whole_cell}
 
 -- the pages that a field goes on in, by its place
 abbrev pub pages_of_place : List ℕ → List ℕ → Place → List ℕ

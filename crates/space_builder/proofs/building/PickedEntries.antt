@@ -20,7 +20,7 @@ use Rattle.schema_text.specs.TableDef.{TableDef, index_at}
 use Rattle.schema_text.specs.Grammar.{IsTable}
 use Rattle.schema_text.specs.IndexFields.{leaf_fields, secondary_fields, row_key, kept_at}
 use Rattle.schema_text.specs.IndexFields.{kept_field, columns_at, clustered_positions, positions_without}
-use Rattle.schema_text.specs.IndexFields.{field_of_column, other_positions}
+use Rattle.schema_text.specs.IndexFields.{field_of_column, other_positions, entry_fields, hidden_fields}
 use Rattle.tree_layout.specs.Entries.{Entry, key_of_entry}
 use Rattle.tree_layout.specs.Sorted.{is_entry_below, SortingRises}
 use Rattle.row_layout.specs.StoredRow.{Stored, stored_at, stored_column, stored_row, row_id, kept}
@@ -32,13 +32,12 @@ use Rattle.row_layout.specs.SecondaryEntries.{secondary_entry, row_entries, seco
 use Rattle.row_layout.specs.EntryLaws.{EntriesDiffer}
 use Rattle.row_store.specs.StoredRows.{Rows, value_of}
 use Rattle.space_builder.specs.layout.Layout.{value_number, index_entries}
-use Rattle.space_builder.specs.calls.Picked.{whole_part, picked_entry, picked_key, picked_entries, entry_fields}
-use Rattle.space_builder.specs.calls.Picked.{hidden_fields, clustered_part}
+use Rattle.space_builder.specs.calls.Picked.{whole_part, picked_entry, picked_key, picked_entries, clustered_part}
 use Rattle.space_builder.specs.calls.StoredRows.{PicksEntries, SamePagesGiveRecords}
 use Rattle.space_builder.specs.calls.StoredRows.{StoredRowsGiveEntries}
 use Rattle.space_builder.proofs.layout.FittedRows.{fitted_if}
 use Rattle.schema_text.proofs.ColumnFields.{length_known}
-use Rattle.space_builder.proofs.building.Columns.{column_stored}
+use Rattle.row_layout.proofs.Stored.{column_stored}
 use Rattle.row_store.proofs.Ranges.{map_ranges}
 
 abbrev IsColumn : TableDef → ℕ → Type 0

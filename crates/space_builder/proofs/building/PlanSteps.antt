@@ -16,7 +16,7 @@ use Rattle.std.proofs.lemmas.List.Sums.{sum_by-cons, sum-map, get_or-le-sum_by, 
 use Rattle.column_values.specs.Types.{Fields}
 use Rattle.schema_text.specs.declared.table.Format.{Format}
 use Rattle.schema_text.specs.TableDef.{TableDef}
-use Rattle.schema_text.specs.IndexFields.{leaf_fields, node_fields}
+use Rattle.schema_text.specs.IndexFields.{leaf_fields, node_fields, entry_fields}
 use Rattle.space_layout.specs.Numbers.{size_at, sizes_of, extents_needed}
 use Rattle.space_layout.specs.ValuePlaces.{pages_before_row}
 use Rattle.tree_layout.specs.Entries.{Entry}
@@ -33,7 +33,7 @@ use Rattle.row_store.specs.StoredRows.{Rows, stored_rows}
 use Rattle.space_builder.specs.layout.Layout.{entries_with, tree_counts, value_counts, value_total}
 use Rattle.space_builder.specs.layout.Layout.{index_sizes, segment_sizes, layout_extents}
 use Rattle.space_builder.specs.layout.LowerLaws.{LowerLaws}
-use Rattle.space_builder.specs.calls.Picked.{first_page_in, picked_entries, entry_fields}
+use Rattle.space_builder.specs.calls.Picked.{first_page_in, picked_entries}
 use Rattle.space_builder.specs.calls.Order.{IsIndexOrder}
 use Rattle.space_builder.specs.calls.StoredRows.{AreStoredRows, PicksEntries}
 use Rattle.space_builder.specs.calls.Plan.{HaveRows, OfStored, stored_total, HasTreeCounts, HasWideLevel, IsFull}

@@ -7,11 +7,11 @@ use Rattle.column_values.specs.Types.{Fields}
 use Rattle.column_values.specs.Order.{key_cmp}
 use Rattle.compact_record.specs.Reading.{key_kinds}
 use Rattle.schema_text.specs.TableDef.{TableDef}
-use Rattle.schema_text.specs.IndexFields.{leaf_fields}
+use Rattle.schema_text.specs.IndexFields.{leaf_fields, entry_fields}
 use Rattle.row_layout.specs.StoredRow.{Stored}
 use Rattle.key_ranks.specs.Keys.{KeyTable}
 use Rattle.row_layout.specs.HoldsValues.{stored_in}
-use Rattle.space_builder.specs.calls.Picked.{picked_key, entry_fields}
+use Rattle.space_builder.specs.calls.Picked.{picked_key}
 
 -- the first of two rows has the lower key, by these fields
 abbrev pub is_row_below : List FieldType → List ℕ → List (List Stored) → ℕ → ℕ → Bool

@@ -1,12 +1,9 @@
 -- The entries of the indexes, by the fields of the rows that are stored.
-use Rattle.std.specs.Prelude.{ℕ, ◌+◌, ◌==◌, if◌then◌else◌, List, [], ◌∷◌, ◌++◌, length, map, slice_index}
-use Rattle.std.specs.Prelude.{false}
+use Rattle.std.specs.Prelude.{ℕ, ◌+◌, if◌then◌else◌, false, List, map, slice_index}
 use Rattle.column_values.specs.Order.{Key}
 use Rattle.compact_record.specs.declared.parts.Part.{Part}
 use Rattle.compact_record.specs.declared.parts.Part.TheVariants as parts
 use Rattle.schema_text.specs.declared.table.Format.{Format}
-use Rattle.schema_text.specs.TableDef.{TableDef, index_at}
-use Rattle.schema_text.specs.IndexFields.{clustered_positions, positions_without, field_of_column}
 use Rattle.tree_layout.specs.Entries.{Entry}
 use Rattle.row_layout.specs.StoredRow.{Stored, stored_at, part_of_field}
 use Rattle.row_layout.specs.HoldsValues.{stored_in}
@@ -35,16 +32,3 @@ picked_key fields row = map (λ i. value_of (stored_at row i)) fields
 -- the entries of rows in this order
 unfoldable pub picked_entries : List ℕ → List (List Stored) → List ℕ → List Entry
 picked_entries fields rows order = map (λ r. picked_entry fields (stored_in rows r)) order
-
--- the columns of an entry of index j: its own, and the others of the clustered key
-abbrev pub entry_columns : TableDef → ℕ → List ℕ
-entry_columns table j =
-    (index_at table j).columns ++ positions_without (clustered_positions table) (index_at table j).columns
-
--- the hidden row id, the first field of a row, where there is no clustered key
-abbrev pub hidden_fields : TableDef → List ℕ
-hidden_fields table = if length (clustered_positions table) == 0 then 0 ∷ [] else []
-
--- the fields of a row that an entry of index j has
-unfoldable pub entry_fields : TableDef → ℕ → List ℕ
-entry_fields table j = map (field_of_column table) (entry_columns table j) ++ hidden_fields table

@@ -3,13 +3,14 @@ use Rattle.std.specs.Prelude.{◌≡◌, ℕ, ◌<◌, true, List, length}
 use Rattle.schema_text.specs.TableDef.{TableDef}
 use Rattle.schema_text.specs.declared.table.Format.{Format}
 use Rattle.schema_text.specs.Grammar.{IsTable}
+use Rattle.schema_text.specs.IndexFields.{entry_fields}
 use Rattle.row_layout.specs.StoredRow.{Stored, stored_at}
 use Rattle.row_layout.specs.HoldsValues.{stored_in, clustered_entries}
 use Rattle.row_layout.specs.SecondaryEntries.{secondary_entries}
 use Rattle.row_store.specs.StoredRows.{Rows, stored_rows}
 use Rattle.space_builder.specs.layout.Layout.{value_number, index_entries}
 use Rattle.row_store.specs.ReadRows.{AreGoodRows}
-use Rattle.space_builder.specs.calls.Picked.{picked_entries, entry_fields}
+use Rattle.space_builder.specs.calls.Picked.{picked_entries}
 use Rattle.space_builder.specs.calls.Order.{IsIndexOrder}
 
 -- these rows of a table, as they are stored

@@ -2,7 +2,7 @@ use Rattle.std.proofs.Common.{◌≡◌, ℕ, List, length, sym, ap, ◌∙◌, 
 use Rattle.page_source.proofs.Told.{told1, told2}
 use Rattle.column_values.specs.Types.{Fields}
 use Rattle.compact_record.specs.Reading.{key_kinds}
-use Rattle.cross_index.specs.Entries.{entry_fields}
+use Rattle.schema_text.specs.IndexFields.{entry_fields}
 use Rattle.cross_index.specs.calls.Gather.{kept_fields}
 use Rattle.cross_index.proofs.EntryFields.{keys_size}
 use Rattle.cross_index.proofs.IndexSteps.{order_of_all, slots_stand, can_compare, few_counted}

@@ -1,6 +1,6 @@
 use Rattle.std.proofs.Common.{arith, ◌≡◌, ◌-◌, ◌∙◌, ap, length, flat_map, ℕ}
 use Rattle.std.specs.List.{range_with_len}
-use Rattle.cross_index.specs.Entries.{entry_fields}
+use Rattle.schema_text.specs.IndexFields.{entry_fields}
 use Rattle.cross_index.specs.calls.Gather.{all_entry_fields}
 use Rattle.cross_index.proofs.KeptSteps.{all_more}
 use Rattle.cross_index.proofs.kept.all_fields.Goals as goal

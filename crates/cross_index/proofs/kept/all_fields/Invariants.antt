@@ -1,6 +1,6 @@
 use Rattle.std.proofs.Common.{◌≡◌, ◌-◌, ◌≤◌, flat_map}
 use Rattle.std.specs.List.{range_with_len}
-use Rattle.cross_index.specs.Entries.{entry_fields}
+use Rattle.schema_text.specs.IndexFields.{entry_fields}
 use Rattle.cross_index.proofs.kept.all_fields.Given as goal
 
 -- the fields of the indexes so far
