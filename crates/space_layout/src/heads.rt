@@ -86,7 +86,7 @@ pub fn put_inode_page(page: &mut Page, sizes: &[u32])
     page.clear();
     write_node(
         page,
-        usize::from(INODE_PAGE_NODE),
+        INODE_PAGE_NODE as usize,
         &Node {
             prev: NULL,
             next: NULL,
