@@ -52,7 +52,7 @@ returns-then-cell-clause-reads g c =
 
 pub check_parts-requires-clause-count : goal.check_parts-requires-clause-count
 check_parts-requires-clause-count g c =
-    counts_to c.feed.new.self _ 16384 (omega (arith, c.cut.ensures.size, c.local.ensures.short))
+    counts_to c.feed.new.self _ 16384 (omega (arith, c.split_local.ensures.size, c.local.ensures.short))
     (c.feed.ensures.counts 0 c.text_of-text.ensures.count)
 
 pub returns-clause-answers : goal.returns-clause-answers
@@ -64,7 +64,7 @@ returns-clause-answers g c =
       external = sym (ap (λ (v : CellView). v.place.external) c.cell.view_is) ∙ c.if-not-cell.false;
     } in
     let text = c.feed.new.self in
-    let front = c.cut.result.0.now in
+    let front = c.split_local.result.0.now in
     let takes : (bytes : List ℕ) → TakesText text (front ++ bytes) ↔ IsTextOfKind cell.kind (front ++ bytes) =
     λ bytes. let i = c.feed.ensures.feeds.same (front ++ bytes) in
     let j = subst (λ (kind : ColumnType). TakesText c.text_of-text.result (front ++ bytes)
@@ -74,9 +74,9 @@ returns-clause-answers g c =
     told1 (g.S.PageSource.content c.args.source.now)
     (λ file answers. cell_long file c.args.leaf cell sound goes c.args.marks.now c.check_parts.new.marks
     (g.S.PageSource.faults c.args.source.now) (g.S.PageSource.faults c.check_parts.new.source) text front
-    c.space_id.result c.cut.result.1 (c.space_id.ensures ∙ ap (λ (v : CellView). space_of v.page) c.cell.view_is)
-    (c.cut.ensures.reference ∙ ap reference_of c.local.ensures.bytes)
-    (c.cut.ensures.front ∙ ap front_of c.local.ensures.bytes) takes (loss_of c.check_parts.result)
+    c.space_id.result c.split_local.result.1 (c.space_id.ensures ∙ ap (λ (v : CellView). space_of v.page) c.cell.view_is)
+    (c.split_local.ensures.reference ∙ ap reference_of c.local.ensures.bytes)
+    (c.split_local.ensures.front ∙ ap front_of c.local.ensures.bytes) takes (loss_of c.check_parts.result)
     (answers front (c.feed.ensures.feeds.fed [] c.text_of-text.ensures.fresh)))
     c.check_parts.ensures.answers
 
@@ -89,7 +89,7 @@ returns-clause-reads g c =
       external = sym (ap (λ (v : CellView). v.place.external) c.cell.view_is) ∙ c.if-not-cell.false;
     } in
     let text = c.feed.new.self in
-    let front = c.cut.result.0.now in
+    let front = c.split_local.result.0.now in
     let takes : (bytes : List ℕ) → TakesText text (front ++ bytes) ↔ IsTextOfKind cell.kind (front ++ bytes) =
     λ bytes. let i = c.feed.ensures.feeds.same (front ++ bytes) in
     let j = subst (λ (kind : ColumnType). TakesText c.text_of-text.result (front ++ bytes)
@@ -101,13 +101,13 @@ returns-clause-reads g c =
     let f = g.S.PageSource.faults c.args.source.now in
     let h = g.S.PageSource.faults c.check_parts.new.source in
     let space_is = c.space_id.ensures ∙ ap (λ (v : CellView). space_of v.page) c.cell.view_is in
-    let reference_is = c.cut.ensures.reference ∙ ap reference_of c.local.ensures.bytes in
-    let front_is = c.cut.ensures.front ∙ ap front_of c.local.ensures.bytes in
+    let reference_is = c.split_local.ensures.reference ∙ ap reference_of c.local.ensures.bytes in
+    let front_is = c.split_local.ensures.front ∙ ap front_of c.local.ensures.bytes in
     if_ok c.check_parts.result _
     (λ count is. told1 (g.S.PageSource.content c.args.source.now)
     (λ file answers. long_reads file c.args.leaf cell sound goes before after f h text front
-    c.space_id.result c.cut.result.1 space_is reference_is front_is takes
+    c.space_id.result c.split_local.result.1 space_is reference_is front_is takes
     (subst (λ (r : Result ℕ Loss). UnderMissed before after f h (ChainAnswers file c.args.leaf cell sound goes before
-    after f h text front c.space_id.result c.cut.result.1 space_is reference_is front_is takes (loss_of r))) is
+    after f h text front c.space_id.result c.split_local.result.1 space_is reference_is front_is takes (loss_of r))) is
     (answers front (c.feed.ensures.feeds.fed [] c.text_of-text.ensures.fresh))))
     c.check_parts.ensures.answers)
