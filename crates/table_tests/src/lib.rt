@@ -1,20 +1,11 @@
-//! Tests of public calls over a whole table: chains of long values, trees, checks, dumps, comparisons and the
-//! look for one key.
+//! Tests of public calls on chains of long values, on trees and on lines, and of the adapters over real files.
 #![tactic(auto)]
 
 #[cfg(test)]
-mod cross_index_tests;
-#[cfg(test)]
-mod key_lookup_tests;
+mod adapter_tests;
 #[cfg(test)]
 mod offpage_chain_tests;
 #[cfg(test)]
-mod outside_tests;
-#[cfg(test)]
-mod sample_table_tests;
-#[cfg(test)]
 mod sql_dump_tests;
-#[cfg(test)]
-mod table_check_tests;
 #[cfg(test)]
 mod tree_walk_tests;

@@ -1,5 +1,4 @@
-//! Dumps of whole files, and the lines of crafted records.
+//! The lines of crafted records.
 
 mod faults;
-mod files;
 mod lines;
