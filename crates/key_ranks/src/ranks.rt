@@ -20,6 +20,9 @@ use std::cmp::Ordering;
 /// first value, after what all first values begin with, and 0 if it is null.
 const ROWS: usize = 16_777_216;
 
+/// How many rows are read ahead of their comparison, less one.
+const AHEAD: usize = 64;
+
 /// The row of a rank.
 fn row_of(rank: usize) -> usize
     ensures { result ≡ rank % 2 ^ 24 }
@@ -140,16 +143,6 @@ fn ranks_of<K: RowKeys>(
     Ok(Some(ranks))
 }
 
-/// The order of two ranks by their fronts, and then by the whole keys. Nothing is said of it, since `are_in_order`
-/// tests what comes of the sort by it.
-fn compare_ranks<K: RowKeys>(keys: &K, a: usize, b: usize) -> Ordering {
-    match (a / ROWS).cmp(&(b / ROWS)) {
-        Ordering::Less => Ordering::Less,
-        Ordering::Greater => Ordering::Greater,
-        Ordering::Equal => keys.compare(row_of(a), row_of(b)),
-    }
-}
-
 /// Whether the key of the row of a rank isn't below that of the rank before it.
 fn follows<K: RowKeys>(keys: &K, kind: &FieldType, begin: &[u8], before: usize, here: usize) -> bool
     requires kind { (d : FieldType) → 0 < length (K.table keys.now).kinds
@@ -167,14 +160,43 @@ fn follows<K: RowKeys>(keys: &K, kind: &FieldType, begin: &[u8], before: usize, 
     }
 }
 
-/// Whether the keys of the rows of these ranks don't fall.
-fn are_in_order<K: RowKeys>(keys: &K, kind: &FieldType, begin: &[u8], ranks: &[usize]) -> bool
+/// The first byte of the key of a rank's row, 0 if it has none. Nothing is said of it, since no answer rests on it.
+fn first_byte<K: RowKeys>(keys: &K, rank: usize) -> u8 {
+    match keys.first(row_of(rank)) {
+        Some(value) if !value.is_empty() => value[0],
+        _ => 0,
+    }
+}
+
+/// Reads a byte of the keys of the next ranks' rows, if the keys of two neighbours have to be compared. They lie
+/// anywhere in memory, so the processor waits for those of each row if they are compared at once; in a short loop that
+/// does nothing else it fetches those of many rows side by side. Nothing is said of what was read.
+fn read_ahead<K: RowKeys>(keys: &K, ranks: &[usize], ahead: &mut [u8]) {
+    for i in 1..ranks.len().min(ahead.len()) {
+        if ranks[i - 1] / ROWS == ranks[i] / ROWS {
+            ahead[i] = first_byte(keys, ranks[i - 1]) ^ first_byte(keys, ranks[i]);
+        }
+    }
+}
+
+/// Whether the keys of the rows of these ranks don't fall. So many rows are read ahead at a time as there are bytes
+/// for.
+fn are_in_order<K: RowKeys>(
+    keys: &K,
+    kind: &FieldType,
+    begin: &[u8],
+    ranks: &[usize],
+    ahead: &mut [u8],
+) -> bool
     requires kind { (d : FieldType) → 0 < length (K.table keys.now).kinds
         → kind.now ≡ slice_index_or (K.table keys.now).kinds 0 d }
     requires fronts { HaveFronts (K.table keys.now) (filler_of kind.now) begin.now ranks.now }
     ensures { IsTrue result → AreInOrder (K.table keys.now) ranks.now }
 {
     for i in 1..ranks.len() {
+        if i % AHEAD == 1 {
+            read_ahead(keys, &ranks[i - 1..], ahead);
+        }
         if !follows(keys, kind, begin, ranks[i - 1], ranks[i]) {
             return false;
         }
@@ -182,21 +204,55 @@ fn are_in_order<K: RowKeys>(keys: &K, kind: &FieldType, begin: &[u8], ranks: &[u
     true
 }
 
+/// Sorts the ranks at some places by the keys of their rows. Nothing is said of their order, since `are_in_order` tests
+/// what comes of it.
+fn sort_run<K: RowKeys>(keys: &K, ranks: &mut [usize], from: usize, until: usize)
+    requires from { from ≤ until }
+    requires until { until ≤ length ranks.old }
+    ensures { IsPermutation ranks.old ranks.new }
+{
+    ranks[from..until].sort_unstable_by(|a, b| keys.compare(row_of(*a), row_of(*b)));
+}
+
+/// Sorts the ranks of each front, which stand one after another. So many rows are read ahead at a time as there are
+/// bytes for.
+fn sort_runs<K: RowKeys>(keys: &K, ranks: &mut [usize], ahead: &mut [u8])
+    ensures { IsPermutation ranks.old ranks.new }
+{
+    let mut from = 0;
+    for i in 1..ranks.len() {
+        if i % AHEAD == 1 {
+            read_ahead(keys, &ranks[i - 1..], ahead);
+        }
+        if ranks[i - 1] / ROWS != ranks[i] / ROWS {
+            sort_run(keys, ranks, from, i);
+            from = i;
+        }
+    }
+    sort_run(keys, ranks, from, ranks.len());
+}
+
 /// Sorts the ranks, and answers whether the keys of their rows don't fall then. Rows with equal fronts stay in their
-/// own order if that is right; otherwise they are sorted by their keys.
-fn sort<K: RowKeys>(keys: &K, kind: &FieldType, begin: &[u8], ranks: &mut Vec<usize>) -> bool
+/// own order if that is right; otherwise those of each front are sorted by their keys.
+fn sort<K: RowKeys>(
+    keys: &K,
+    kind: &FieldType,
+    begin: &[u8],
+    ranks: &mut [usize],
+    ahead: &mut [u8],
+) -> bool
     requires kind { (d : FieldType) → 0 < length (K.table keys.now).kinds
         → kind.now ≡ slice_index_or (K.table keys.now).kinds 0 d }
-    requires fronts { HaveFronts (K.table keys.now) (filler_of kind.now) begin.now ranks.old.items }
-    ensures places { IsPermutation ranks.old.items ranks.new.items }
-    ensures order { IsTrue result → AreInOrder (K.table keys.now) ranks.new.items }
+    requires fronts { HaveFronts (K.table keys.now) (filler_of kind.now) begin.now ranks.old }
+    ensures places { IsPermutation ranks.old ranks.new }
+    ensures order { IsTrue result → AreInOrder (K.table keys.now) ranks.new }
 {
     ranks.sort_unstable();
-    if are_in_order(keys, kind, begin, ranks) {
+    if are_in_order(keys, kind, begin, ranks, ahead) {
         return true;
     }
-    ranks.sort_unstable_by(|a, b| compare_ranks(keys, *a, *b));
-    are_in_order(keys, kind, begin, ranks)
+    sort_runs(keys, ranks, ahead);
+    are_in_order(keys, kind, begin, ranks, ahead)
 }
 
 /// The rows of ranks.
@@ -227,7 +283,8 @@ pub(crate) fn order_by_ranks<K: RowKeys>(
     let Some(mut ranks) = ranks_of(alloc, keys, begin, filler(&kind), count)? else {
         return Ok(None);
     };
-    if !sort(keys, &kind, begin, &mut ranks) {
+    let mut ahead = Vec::from_elem(alloc, 0, AHEAD + 1)?;
+    if !sort(keys, &kind, begin, &mut ranks, &mut ahead) {
         return Ok(None);
     }
     strip(&mut ranks);

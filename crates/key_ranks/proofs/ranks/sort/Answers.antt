@@ -1,3 +1,4 @@
+use Rattle.std.proofs.Common.{refl}
 use Rattle.std.proofs.lemmas.List.Sorted.{IsPermutation-trans}
 use Rattle.key_ranks.specs.Ranks.{filler_of}
 use Rattle.key_ranks.proofs.RankSteps.{fronts_stay}
@@ -5,16 +6,13 @@ use Rattle.key_ranks.proofs.ranks.sort.Goals as goal
 
 pub are_in_order-requires-clause-fronts : goal.are_in_order-requires-clause-fronts
 are_in_order-requires-clause-fronts g c =
-    fronts_stay (g.K.RowKeys.table c.args.keys.now) (filler_of c.args.kind.now) c.args.begin.now _ _
-    c.deref.result.now c.sort_unstable.ensures.permutation c.deref.ensures.value c.requires.fronts
+    fronts_stay (g.K.RowKeys.table c.args.keys.now) (filler_of c.args.kind.now) c.args.begin.now _ _ _
+    c.sort_unstable.ensures.permutation refl c.requires.fronts
 
 pub are_in_order-requires-2-clause-fronts : goal.are_in_order-requires-2-clause-fronts
 are_in_order-requires-2-clause-fronts g c =
-    fronts_stay (g.K.RowKeys.table c.args.keys.now) (filler_of c.args.kind.now) c.args.begin.now _ _
-    c.deref-2.result.now
-    (IsPermutation-trans _ _ _ c.sort_unstable.ensures.permutation c.sort_unstable_by.ensures.permutation)
-    c.deref-2.ensures.value c.requires.fronts
+    fronts_stay (g.K.RowKeys.table c.args.keys.now) (filler_of c.args.kind.now) c.args.begin.now _ _ _
+    (IsPermutation-trans _ _ _ c.sort_unstable.ensures.permutation c.sort_runs.ensures) refl c.requires.fronts
 
 pub returns-clause-places : goal.returns-clause-places
-returns-clause-places g c =
-    IsPermutation-trans _ _ _ c.sort_unstable.ensures.permutation c.sort_unstable_by.ensures.permutation
+returns-clause-places g c = IsPermutation-trans _ _ _ c.sort_unstable.ensures.permutation c.sort_runs.ensures
