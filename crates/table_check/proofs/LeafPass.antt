@@ -1,5 +1,5 @@
 -- A cursor takes the leaves of a tree one after another.
-use Rattle.std.proofs.Common.{◌≡◌, ℕ, zero, suc, ◌+◌, ◌-◌, ◌<◌, ◌≤◌, Bool, true, false, List, [], ◌∷◌, ◌++◌, length}
+use Rattle.std.proofs.Common.{◌≡◌, ℕ, zero, suc, ◌-◌, Bool, true, false, List, [], ◌∷◌, ◌++◌, length}
 use Rattle.std.proofs.Common.{Result, Ok, Err, inl, inr, refl, sym, ap, ◌∙◌, subst, arith, length-append}
 use Rattle.std.proofs.lemmas.Bool.{cases_lt}
 use Rattle.page_source.specs.declared.checks.Halt.{Halt}
@@ -11,8 +11,9 @@ use Rattle.schema_text.specs.TableDef.{TableDef}
 use Rattle.tree_walk.specs.declared.leaves.leaf.Leaf.{Leaf}
 use Rattle.tree_walk.specs.Index.{Index, index_of, leaf_pages}
 use Rattle.tree_walk.specs.Leaf.{IsWalked, IsOnLeaf, HasTaken, CanTake, FindsLeaf}
-use Rattle.tree_walk.specs.Hops.{HeldPage, held_by, CameInTurn, last_held, HasComeBy, Hops, GoesByNextFields, IsDue}
+use Rattle.tree_walk.specs.Hops.{HeldPage, held_by, CameInTurn, HasComeBy, Hops, GoesByNextFields, IsDue}
 use Rattle.tree_walk.proofs.LeafFacts.{start_fetches}
+use Rattle.tree_walk.proofs.HopFacts.{last_more}
 use Rattle.table_check.specs.First.{ValueChecksOf}
 use Rattle.table_check.specs.Pass.{PassesLeaves}
 use Rattle.table_check.specs.Trees.{index_in, clustered_tree}
@@ -73,10 +74,6 @@ in_turn_more : (n : ℕ) (held : HeldPage) (came : List HeldPage) → CameInTurn
     → CameInTurn n (came ++ held ∷ [])
 in_turn_more n held [] turn is = (is, tt)
 in_turn_more n held (x ∷ xs) turn is = (turn.0, in_turn_more (next_page x.page) held xs turn.1 is)
-
-last_more : (before held : HeldPage) (came : List HeldPage) → last_held before (came ++ held ∷ []) ≡ held
-last_more before held [] = refl
-last_more before held (x ∷ xs) = last_more x held xs
 
 due_more : (n : ℕ) (held : HeldPage) (came : List HeldPage) → due_after n (came ++ held ∷ []) ≡ next_page held.page
 due_more n held [] = refl

@@ -1,5 +1,5 @@
 -- The rows of a table are checked one after another.
-use Rattle.std.proofs.Common.{◌≡◌, ℕ, ◌+◌, ◌≤◌, Bool, List, take, get_or, Option, Some, None, IfSome}
+use Rattle.std.proofs.Common.{◌≡◌, ℕ, ◌+◌, Bool, List, take, get_or, Option, Some, None, IfSome}
 use Rattle.std.proofs.Common.{Ok, Err, sym, ap, ◌∙◌, subst, arith}
 use Rattle.page_source.specs.declared.objects.PageSource.{Ghosts as FileOf}
 use Rattle.page_source.specs.declared.rule.Fault.{Fault}

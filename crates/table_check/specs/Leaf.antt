@@ -6,9 +6,8 @@ use Rattle.column_values.specs.declared.field.FieldType.{FieldType}
 use Rattle.compact_record.specs.declared.places.Place.{Place}
 use Rattle.offpage_chain.specs.ChainChecks.{PlaceChecks}
 use Rattle.offpage_chain.specs.Places.{PlaceIn}
-use Rattle.table_check.specs.declared.leaf.Leaf.{Leaf}
 use Rattle.table_check.specs.declared.leaf.RowLeaf.{RowLeaf}
-use Rattle.table_check.specs.Values.{bytes_at, ValueChecksBy, FieldChecksBy, RecordChecksBy, RecordChecks}
+use Rattle.table_check.specs.Values.{bytes_at, ValueChecksBy, FieldChecksBy, RecordChecksBy}
 use Rattle.table_check.specs.Values.{pages_of_value, pages_of_field, pages_of_record}
 
 -- what is asked of a page for a value on the leaf to go on there
@@ -37,11 +36,3 @@ RowChecksOn file leaf origin =
 
 abbrev pub pages_of_row_on : List ℕ → RowLeaf → ℕ → List ℕ
 pages_of_row_on file leaf origin = pages_of_record file leaf.page.now origin leaf.fields.now
-
--- the checks of the record at this origin of a leaf in an audited space
-abbrev pub RecordChecksOn : List ℕ → Leaf → ℕ → (ℕ → Bool) → Option Fault → Type 0
-RecordChecksOn file leaf origin =
-    RecordChecks file leaf.leaves.segment leaf.number leaf.page.now origin leaf.leaves.fields.now
-
-abbrev pub pages_of_record_on : List ℕ → Leaf → ℕ → List ℕ
-pages_of_record_on file leaf origin = pages_of_record file leaf.page.now origin leaf.leaves.fields.now

@@ -16,15 +16,6 @@ pub(crate) struct Leaves<'a> {
     pub(crate) fields: &'a FieldList,
 }
 
-/// A leaf of the clustered tree.
-#[derive(Clone, Copy)]
-pub(crate) struct Leaf<'a> {
-    pub(crate) leaves: Leaves<'a>,
-    /// The number of the leaf's page.
-    pub(crate) number: u32,
-    pub(crate) page: &'a Page,
-}
-
 /// A leaf of the clustered tree, in an audited space or in another.
 #[derive(Clone, Copy)]
 pub struct RowLeaf<'a> {

@@ -6,15 +6,13 @@ ghost use Rattle.column_values.specs.Types.{AreFields, IsFieldKind};
 ghost use Rattle.compact_record.specs.Keys.{LiesBelow, IsWholeReading};
 ghost use Rattle.space_audit.specs.Marks.{is_set};
 ghost use Rattle.offpage_chain.specs.Places.{CanCheck};
-ghost use Rattle.table_check.specs.Marking.{CanMark, ChecksPages};
-ghost use Rattle.table_check.specs.Leaf.{FieldChecksOn, RowChecksOn, RecordChecksOn};
-ghost use Rattle.table_check.specs.Leaf.{pages_of_field_on, pages_of_row_on, pages_of_record_on};
+ghost use Rattle.table_check.specs.Marking.{ChecksPages};
+ghost use Rattle.table_check.specs.Leaf.{FieldChecksOn, RowChecksOn, pages_of_field_on, pages_of_row_on};
 
-use crate::leaf::{Leaf, RowLeaf};
+use crate::leaf::RowLeaf;
 use crate::value::check_value;
 use column_values::FieldType;
 use compact_record::{Located, Place};
-use offpage_chain::ChainPages;
 use page_source::{Halt, Page, PageSource, Steps};
 use space_audit::Marks;
 use std::sync::ledger::Ledger;
@@ -84,34 +82,4 @@ pub fn check_row_values<S: PageSource, L: Ledger>(
         )?;
     }
     Ok(count)
-}
-
-/// Checks the values of a record of a leaf in an audited space, as `check_row_values` does.
-pub(crate) fn check_record<S: PageSource, L: Ledger>(
-    source: &mut S,
-    leaf: &Leaf,
-    located: &Located,
-    marks: &mut Marks,
-    page: &mut Page,
-    steps: &mut Steps<L>,
-) -> Result<u32, Halt>
-    requires fields { AreFields leaf.now.leaves.fields.now }
-    requires whole { IsWholeReading leaf.now.page.now leaf.now.leaves.fields.now located.now }
-    requires lies { All (LiesBelow 16384) located.now.places }
-    requires ready { CanMark S.PageSource source.old leaf.now.leaves.space.now marks.old }
-    ensures checks { ChecksPages S.PageSource source.old source.new marks.old marks.new steps.old steps.new result
-        (λ file. RecordChecksOn file leaf.now located.now.origin (is_set marks.old))
-        (λ file. pages_of_record_on file leaf.now located.now.origin) }
-    ensures asked { AsksNoMore S.PageSource source.old source.new steps.old steps.new }
-{
-    let row_leaf = RowLeaf {
-        pages: ChainPages::Audited {
-            space: leaf.leaves.space,
-            segment: leaf.leaves.segment,
-        },
-        fields: leaf.leaves.fields,
-        number: leaf.number,
-        page: leaf.page,
-    };
-    check_row_values(source, &row_leaf, located, marks, page, steps)
 }

@@ -8,6 +8,7 @@ ghost use Rattle.column_values.specs.Types.{AreFields};
 ghost use Rattle.compact_record.specs.Reading.{IsHeapOrigin};
 ghost use Rattle.schema_text.specs.IndexFields.{leaf_fields};
 ghost use Rattle.space_audit.specs.Marks.{is_set};
+ghost use Rattle.offpage_chain.specs.Places.{CanCheck};
 ghost use Rattle.tree_walk.specs.Records.{IsRecord};
 ghost use Rattle.table_check.specs.Trees.{clustered_tree, all_tree_pages};
 ghost use Rattle.table_check.specs.First.{ValueChecksOf};
@@ -15,14 +16,15 @@ ghost use Rattle.table_check.specs.Taken.{AreExactly, IsClustered, IsReached};
 ghost use Rattle.table_check.specs.Marking.{CanMark, ChecksPages};
 ghost use Rattle.table_check.specs.Live.{GivesAll};
 ghost use Rattle.table_check.specs.Values.{RowChecks, all_chain_pages};
-ghost use Rattle.table_check.specs.Leaf.{RecordChecksOn, pages_of_record_on};
+ghost use Rattle.table_check.specs.Leaf.{RowChecksOn, pages_of_row_on};
 
-use crate::leaf::{Leaf, Leaves};
+use crate::leaf::{Leaves, RowLeaf};
 use crate::no_look::need_no_look;
 use crate::pass::pass_leaves;
-use crate::record::check_record;
+use crate::record::check_row_values;
 use crate::rows::LiveRows;
 use compact_record::Located;
+use offpage_chain::ChainPages;
 use page_source::{Halt, PAGE_SIZE, Page, PageSource, Rule, Steps, Stop};
 use schema_text::Schema;
 use space_audit::{Marks, Space};
@@ -35,31 +37,30 @@ use tree_walk::{LeafCursor, TreeEnds};
 /// there are. A record that can't be read breaks rule 40; in a file that tells its bytes none is met.
 fn check_row<S: PageSource, L: Ledger>(
     source: &mut S,
-    leaf: &Leaf,
+    leaf: &RowLeaf,
     origin: usize,
     located: &mut Located,
     marks: &mut Marks,
     page: &mut Page,
     steps: &mut Steps<L>,
 ) -> Result<u32, Halt>
-    requires fields { AreFields leaf.now.leaves.fields.now }
+    requires fields { AreFields leaf.now.fields.now }
     requires origin { IsHeapOrigin origin }
-    requires room { length leaf.now.leaves.fields.now.fields ≤ located.old.members }
-    requires record { OfFile S.PageSource source.old (λ _.
-        IsRecord leaf.now.page.now leaf.now.leaves.fields.now origin) }
-    requires ready { CanMark S.PageSource source.old leaf.now.leaves.space.now marks.old }
+    requires room { length leaf.now.fields.now.fields ≤ located.old.members }
+    requires record { OfFile S.PageSource source.old (λ _. IsRecord leaf.now.page.now leaf.now.fields.now origin) }
+    requires ready { CanCheck S.PageSource source.old leaf.now.pages marks.old }
     ensures checks { ChecksPages S.PageSource source.old source.new marks.old marks.new steps.old steps.new result
-        (λ file. RecordChecksOn file leaf.now origin (is_set marks.old))
-        (λ file. pages_of_record_on file leaf.now origin) }
+        (λ file. RowChecksOn file leaf.now origin (is_set marks.old))
+        (λ file. pages_of_row_on file leaf.now origin) }
     ensures asked { AsksNoMore S.PageSource source.old source.new steps.old steps.new }
-    ensures unread { ¬ (IsRecord leaf.now.page.now leaf.now.leaves.fields.now origin)
+    ensures unread { ¬ (IsRecord leaf.now.page.now leaf.now.fields.now origin)
         → result ≡ Err (Halt.Broken (record { rule = Rule.RecordSpelling; page = leaf.now.number })) }
     ensures room { located.new.members ≡ located.old.members }
 {
-    if !located.again(leaf.page, origin, leaf.leaves.fields) || located.end() > PAGE_SIZE {
+    if !located.again(leaf.page, origin, leaf.fields) || located.end() > PAGE_SIZE {
         return Err(Halt::Broken(Rule::RecordSpelling.at(leaf.number)));
     }
-    check_record(source, leaf, located, marks, page, steps)
+    check_row_values(source, leaf, located, marks, page, steps)
 }
 
 /// Checks the values of all rows, by the rules 47, 48, 49 and 51. Marks the pages that they go on in, and answers how
@@ -91,8 +92,12 @@ pub(crate) fn check_rows<S: PageSource, L: Ledger>(
     let _size = leaves.space.size();
     let mut count = 0;
     while let Some(origin) = rows.next(source, steps)? {
-        let leaf = Leaf {
-            leaves: *leaves,
+        let leaf = RowLeaf {
+            pages: ChainPages::Audited {
+                space: leaves.space,
+                segment: leaves.segment,
+            },
+            fields: leaves.fields,
             number: rows.number(),
             page: rows.page(),
         };

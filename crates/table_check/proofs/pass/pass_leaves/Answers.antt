@@ -1,4 +1,4 @@
-use Rattle.std.proofs.Common.{◌≡◌, ◌∙◌, Bool, Ok, arith, refl, ap, suc}
+use Rattle.std.proofs.Common.{◌∙◌, Bool, Ok, arith, refl, ap, suc}
 use Rattle.std.proofs.lemmas.Result.{err_from_is_err_and}
 use Rattle.page_source.proofs.Told.{told0, told2}
 use Rattle.tree_walk.specs.Index.{index_of}

@@ -70,7 +70,7 @@ pub check_row-requires-clause-ready : goal.check_row-requires-clause-ready
 check_row-requires-clause-ready g c =
     let has = c.loop-origin.invariant.have.has in
     record {
-      audit = rw (c.in_ok-origin.ensures.over.same ∙ has.same) c.requires.ready.audit;
+      told = rw (c.in_ok-origin.ensures.over.same ∙ has.same) c.requires.ready.audit;
       members = has.members ∙ c.requires.ready.members;
     }
 
