@@ -7,10 +7,11 @@ use Rattle.fil_frame.specs.Frame.{kind_of}
 use Rattle.space_header.specs.Header.{free_limit, limit_of}
 use Rattle.extent_map.specs.Extents.{is_used, IsUsed}
 use Rattle.extent_map.specs.Laws.{UsedPagesAreOfExtents}
+use Rattle.extent_map.proofs.Used.{used_below}
 use Rattle.space_audit.specs.Audit.{IsSoundSpace}
 use Rattle.leaf_salvage.specs.Standing.{Stands}
 use Rattle.leaf_salvage.specs.Unused.{map_page, IsMap, IsMarkedFree, is_clear_on, IsUnused}
-use Rattle.salvage_laws.proofs.Used.{all_fetched, framed_stands, used_limit, unused_known}
+use Rattle.salvage_laws.proofs.Used.{all_fetched, framed_stands, unused_known}
 use Rattle.carve_laws.proofs.Moves.{IsSame}
 
 -- what one file knows to be free, the other one does
@@ -72,7 +73,7 @@ module _ (law : UsedPagesAreOfExtents) (file : List ℕ) (flags : ℕ) (space : 
   }
 
   some_limit : 0 < limit_of file
-  some_limit = used_limit file 0 (known_used 0 zero_known)
+  some_limit = used_below file 0 (known_used 0 zero_known)
 
   module _ (other : List ℕ) (same : (n : ℕ) → ¬ (IsUnused file all_fetched n) → IsSame file other n) where
     head_same : page_of other 0 ≡ page_of file 0

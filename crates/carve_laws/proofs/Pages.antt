@@ -25,7 +25,7 @@ use Rattle.salvage_model.specs.Outcome.{Job, SavedRow, Outcome, Unused, Unread, 
 use Rattle.salvage_model.specs.Outcome.{IsRead, Is, ComesOf, IsFull}
 use Rattle.salvage_model.specs.Laws.{HasOwnId, whole_job}
 use Rattle.salvage_laws.proofs.Used.{all_fetched, used_known}
-use Rattle.salvage_laws.proofs.Leaves.{used_by, field_blob}
+use Rattle.salvage_laws.proofs.Leaves.{field_blob}
 use Rattle.salvage_laws.proofs.Stand.{row_place}
 use Rattle.salvage_laws.proofs.Owners.{row_there, live_there}
 use Rattle.salvage_laws.proofs.Whole.{sound_cell}
@@ -34,6 +34,7 @@ use Rattle.carve_laws.specs.Laws.{carved_job}
 use Rattle.carve_laws.proofs.Moves.{IsSame}
 use Rattle.carve_laws.proofs.Rows.{IsHeldRow, rows_move}
 use Rattle.carve_laws.proofs.Known.{unused_there, known_there}
+use Rattle.space_audit.proofs.OwnerFacts.{used_by}
 
 module _ (laws : HasLaws) (file : List ℕ) (table : TableDef) (is : IsTable table) (valid : IsValid file table)
     (own : HasOwnId file table) (all : List (List Value)) (reads : ReadsRows file table all) (carved : List ℕ)

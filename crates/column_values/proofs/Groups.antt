@@ -12,6 +12,7 @@ use Rattle.std.proofs.lemmas.Nat.{div-add-mod', div-mul-add}
 use Rattle.std.proofs.Math.Nat.{pow-suc, mod-lt, mod-eq_of_lt, div-lt_iff_lt-mul, mul-add-mod_self_right}
 use Rattle.std.proofs.Math.Nat.{mul-le-mul_left, pow-le-pow_right}
 use Rattle.std.proofs.Math.Seq.{drop_at, drop-cons}
+use Rattle.std.proofs.lemmas.Option.{same_Some}
 use Rattle.byteorder.specs.Numbers.{length-bytes_high_first}
 use Rattle.page_source.specs.Pages.{num, be_bytes, AreBytes}
 use Rattle.page_source.proofs.Numbers.{num-is_big}
@@ -96,9 +97,6 @@ ungrouped-grouped (d ∷ groups) units n few low =
     rw (number, test, dropped) (rest ∙ ap Some (parted units n (10 ^ d) p some
     ∙ ap (λ (k : ℕ). units * k + n) (sym total)))
 
-some_is : (a b : ℕ) → Some a ≡ Some b → a ≡ b
-some_is a b e = cc e
-
 nothing_left : (bytes : List ℕ) → length bytes ≡ 0 → bytes ≡ []
 nothing_left [] e = refl
 nothing_left (b ∷ bytes) e = absurd (omega arith)
@@ -145,7 +143,7 @@ pub grouped-ungrouped : (groups : List ℕ) (units n : ℕ) (bytes : List ℕ) �
 grouped-ungrouped [] units n bytes are size is = (
   0,
   omega arith,
-  omega (arith, some_is units n is),
+  omega (arith, same_Some units n is),
   nothing_left bytes size,
 )
 grouped-ungrouped (d ∷ groups) units n bytes are size is =

@@ -18,7 +18,8 @@ cut_order : (i : ℕ) (a b : List ℕ) → i ≤ length a → i ≤ length b
     → bytes_cmp a b ≡ ordering_then (bytes_cmp (take i a) (take i b)) (bytes_cmp (drop i a) (drop i b))
 cut_order i a b first second =
     (λ k. bytes_cmp (sym (take-append-drop i a) k) (sym (take-append-drop i b) k))
-    ∙ cmp-append (take i a) (drop i a) (take i b) (drop i b) (length-take-le i a first ∙ sym (length-take-le i b second))
+    ∙ cmp-append (take i a) (drop i a) (take i b) (drop i b)
+    (length-take-le i a first ∙ sym (length-take-le i b second))
 
 word_is : (i w : ℕ) (a : List ℕ) → num (take w (drop i a)) 0 w ≡ num a i w
 word_is i w a = num-take w (drop i a) ∙ num-is_big (drop i a) 0 w ∙ sym (num-is_big a i w)

@@ -49,7 +49,8 @@ key_decides page other fields a b i f p q o answer whole few first second below 
     let one = ap (cell_at page) (pp p) ∙ sym (cell_in page fields a i p first below) in
     let two = ap (cell_at other) (qq q) ∙ sym (cell_in other fields b i q second below) in
     cells_decide (key_kinds fields) (key_at page fields a) (key_at other fields b) i Child f.kind o answer whole
-    (length-key page fields a first ∙ sym size) (length-key other fields b second ∙ sym size) (omega (arith, below, size))
+    (length-key page fields a first ∙ sym size) (length-key other fields b second ∙ sym size)
+    (omega (arith, below, size))
     (ap (λ (g : Field). g.kind) ff ∙ kind_of_field fields i few below)
     (is ∙ ap (λ (v : Option (List ℕ)). cell_cmp f.kind v (cell_at other q)) one
     ∙ ap (cell_cmp f.kind (get_or (key_at page fields a) i None)) two) says left

@@ -4,7 +4,8 @@ ghost use Rattle.std.specs.Prelude.{◌≡◌, ◌+◌, ◌*◌, ◌≤◌, ◌<
 ghost use Rattle.std.specs.Option.{option_copied};
 ghost use Rattle.column_values.specs.Types.{field_at};
 ghost use Rattle.compact_record.specs.Reading.{IsHeapOrigin, FieldIsSpelled, lengths_before, local_before};
-ghost use Rattle.compact_record.specs.Reading.{field_count, place_of, nullable_before, is_null, has_long_length, cell_at};
+ghost use Rattle.compact_record.specs.Reading.{field_count, place_of, nullable_before, is_null, has_long_length};
+ghost use Rattle.compact_record.specs.Reading.{cell_at};
 ghost use Rattle.compact_record.specs.declared.places.Place.{Place};
 
 use crate::field::{is_field_spelled, lengths_top, read_field, storage_at};

@@ -9,11 +9,12 @@ use Rattle.std.proofs.lemmas.List.Sums.{sum_by-append, sum_by-drop_more}
 use Rattle.page_source.specs.Verdict.{AllBelow, Each}
 use Rattle.schema_text.specs.TableDef.{TableDef}
 use Rattle.page_source.specs.declared.objects.PageSource.{Ghosts as FileOf}
-use Rattle.page_source.specs.Calls.{AsksNoMore, OfFile}
+use Rattle.page_source.specs.Calls.{OfFile}
 use Rattle.page_source.specs.Pages.{page_count}
 use Rattle.page_source.proofs.Told.{told1}
+use Rattle.page_source.proofs.Lists.{range_next}
 use Rattle.tree_walk.specs.declared.ends.TreeEnds.{TreeEnds}
-use Rattle.table_check.specs.First.{TakesSteps, AsksAtMost, dump_steps}
+use Rattle.table_check.specs.First.{TakesSteps, dump_steps}
 use Rattle.table_check.specs.Taken.{leaves_of}
 use Rattle.table_check.specs.Trees.{index_count}
 use Rattle.cross_index.specs.declared.crossed.CrossStop.{CrossStop}
@@ -23,15 +24,6 @@ use Rattle.cross_index.specs.Differ.{Difference, Missing, Extra, IndexDiffers, S
 use Rattle.cross_index.specs.Cross.{entries_of}
 use Rattle.cross_index.specs.calls.Compare.{Compares}
 use Rattle.cross_index.specs.calls.Indexes.{ComparesAll}
-use Rattle.cross_index.proofs.KeptSteps.{range_more}
-
--- the pages that a file was asked for, where the steps have a bound
-pub asks_at_most : {S : Type 0} {g : FileOf S} {old : S} {most : ℕ → ℕ} {steps spent : ℕ} (new : S)
-    → TakesSteps g old most steps spent → AsksNoMore g old new steps spent → AsksAtMost g old new most
-asks_at_most {g = g} {old = old} new takes asked = record {
-  told = told1 (g.content old) (λ file few. omega (arith, asked, few)) takes.told;
-  always = omega (arith, asked, takes.always);
-}
 
 -- the secondary indexes before index j have the keys of the rows, and so many entries
 pub record HaveMatched (file : List ℕ) (table : TableDef) (j entries : ℕ) : Type 0 where
@@ -47,7 +39,7 @@ entries_more file table j some =
     let last : 1 + (j - 1) ≡ j = omega arith in
     let one : sum_by count (j ∷ []) ≡ count j = omega arith in
     ap (λ (n : ℕ). sum_by count (range_with_len 1 n)) next
-    ∙ ap (sum_by count) (range_more 1 (j - 1) ∙ ap (λ (i : ℕ). range_with_len 1 (j - 1) ++ i ∷ []) last)
+    ∙ ap (sum_by count) (range_next 1 (j - 1) ∙ ap (λ (i : ℕ). range_with_len 1 (j - 1) ++ i ∷ []) last)
     ∙ sum_by-append count (range_with_len 1 (j - 1)) (j ∷ [])
     ∙ ap (λ (n : ℕ). sum_by count (range_with_len 1 (j - 1)) + n) one
 

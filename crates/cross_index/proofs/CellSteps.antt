@@ -1,14 +1,14 @@
 -- Values among bytes, and the order of keys cell by cell.
 use Rattle.std.proofs.Common.{◌≡◌, ℕ, zero, suc, ◌+◌, ◌<◌, ◌≤◌, true, false, List, [], ◌∷◌, ◌++◌, length, get_or, map}
-use Rattle.std.proofs.Common.{drop, take, slice_range, cond, ◌==◌}
+use Rattle.std.proofs.Common.{take, slice_range, cond, ◌==◌}
 use Rattle.std.proofs.lemmas.Bool.Decides.{nat_tests}
 use Rattle.std.proofs.Common.{All, None, Some, refl, sym, ap, ◌∙◌, subst, inl, inr, arith, min, ◌^◌, ◌-◌, ◌*◌}
 use Rattle.std.specs.declared.cmp.Ordering.{Ordering}
 use Rattle.std.specs.declared.cmp.Ordering.TheVariants.{Equal}
 use Rattle.std.specs.Ordering.{ordering_then}
-use Rattle.std.proofs.lemmas.List.{drop_at, drop-append-le, take_all, take-append-le, length-map}
+use Rattle.std.proofs.lemmas.List.{drop_at, take_all, length-map}
 use Rattle.std.proofs.lemmas.List.{length-take-le, get_or-map, get_or-take, get_or_past, map-append}
-use Rattle.std.proofs.Common.{length-append, length-drop}
+use Rattle.std.proofs.Common.{length-append}
 use Rattle.std.proofs.lemmas.List.Elements.{All-head, All-tail}
 use Rattle.std.proofs.lemmas.Bool.{cases_lt}
 use Rattle.column_values.specs.declared.field.FieldType.{FieldType}
@@ -29,6 +29,7 @@ use Rattle.std.proofs.lemmas.List.FromFn.{get_or-map-range_with_len}
 use Rattle.std.proofs.lemmas.List.Sorted.{All-permutation}
 use Rattle.cross_index.specs.calls.Kept.{LiesIn, kept_key, kept_keys}
 use Rattle.cross_index.specs.calls.Order.{Asking, AsksWhole, IsOrder, table_of}
+use Rattle.page_source.proofs.Lists.{slice_range_append}
 
 -- where a null value lies
 abbrev pub null_place : Place
@@ -77,12 +78,6 @@ pub no_value : (cells : Key) (width : ℕ) (slots : List ℕ) (row : ℕ) → (l
 no_value cells width slots row none =
     let e : length slots ≡ 0 = grind (arith, nat_tests, none) in
     sym (get_or_past (kept_key cells width slots row) 0 None (omega (arith, length-kept cells width slots row, e)))
-
-slice_range_append : (xs ys : List ℕ) (a b : ℕ) → a ≤ b → b ≤ length xs
-    → slice_range (xs ++ ys) a b ≡ slice_range xs a b
-slice_range_append xs ys a b rising inside =
-    ap (take (b - a)) (drop-append-le a xs ys (omega (arith, rising, inside)))
-    ∙ take-append-le (b - a) (drop a xs) ys (omega (arith, rising, inside, length-drop a xs))
 
 slice_range_behind : (xs ys : List ℕ) → slice_range (xs ++ ys) (length xs) (length xs + length ys) ≡ ys
 slice_range_behind xs ys =

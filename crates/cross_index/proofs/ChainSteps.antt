@@ -12,6 +12,7 @@ use Rattle.offpage_chain.specs.declared.reference.Reference.{Reference}
 use Rattle.offpage_chain.specs.Chain.{part_length, part_bytes, chain_pages, bytes_on}
 use Rattle.offpage_chain.specs.Reader.{ChainRest, GoesOnAlong, GivesNext}
 use Rattle.sql_dump.specs.Long.{CanFollowIn, chain_bytes}
+use Rattle.sql_dump.proofs.Chains.{next_of}
 use Rattle.cross_index.specs.Stops.{cross_stop_of, OnlyReads}
 
 -- the bytes of the first pages of a chain were added, each for one fetch
@@ -68,27 +69,6 @@ chain_ends file reference rest new old now most left page so gives =
         let all : chain_pages file reference ≡ so.front = split ∙ append-nil so.front in
         rw all (so.grown, so.used)
     by_rest (p ∷ back) split none = absurd (cc (none.0))
-
--- the next page of those that are left
-record IsNext (file : List ℕ) (pages : List ℕ) (new : ChainRest) (n : ℕ) (page : List ℕ) : Type 0 where
-  p : ℕ
-  back : List ℕ
-  split : pages ≡ p ∷ back
-  size : n ≡ part_length (page_of file p)
-  held : page ≡ page_of file p
-  goes_on : GoesOnAlong file new back
-
-next_of : (file pages : List ℕ) (new : ChainRest) (n : ℕ) (page : List ℕ) → GivesNext file pages new (Some n) page
-    → IsNext file pages new n page
-next_of file [] new n page gives = absurd (cc gives)
-next_of file (p ∷ back) new n page gives = record {
-  p = p;
-  back = back;
-  split = refl;
-  size = cc (gives.0);
-  held = gives.1;
-  goes_on = gives.2;
-}
 
 -- a part more
 pub chain_more : (file : List ℕ) (reference : Reference) (rest new : ChainRest) (old now next : List ℕ)

@@ -1,5 +1,5 @@
 -- The entries of an index beside the rows in the order of their keys, one by one.
-use Rattle.std.proofs.Common.{◌≡◌, ℕ, ◌+◌, ◌<◌, ◌≤◌, List, [], length, get_or, map, All, Contains, sym, ap}
+use Rattle.std.proofs.Common.{◌≡◌, ℕ, ◌+◌, ◌<◌, ◌≤◌, List, [], length, get_or, All, Contains, sym, ap}
 use Rattle.std.proofs.Common.{◌∙◌}
 use Rattle.std.proofs.Common.{subst, arith, Option, Some, None, Result, Ok, Err}
 use Rattle.std.specs.Ordering.{ordering_reverse}
@@ -7,10 +7,7 @@ use Rattle.std.specs.declared.cmp.Ordering.{Ordering}
 use Rattle.std.specs.declared.cmp.Ordering.TheVariants.{Less, Equal, Greater}
 use Rattle.std.proofs.lemmas.List.{get_or_default, get_or-map, length-map}
 use Rattle.std.proofs.lemmas.List.Elements.{All-contains}
-use Rattle.std.specs.List.{range_with_len}
-use Rattle.std.proofs.lemmas.Simd.{map-map}
 use Rattle.std.proofs.lemmas.List.FromFn.{get_or-map-range_with_len, length-map-range_with_len}
-use Rattle.std.proofs.lemmas.List.FromFn.{take-map-range_with_len}
 use Rattle.page_source.specs.declared.checks.Halt.{Halt}
 use Rattle.page_source.specs.declared.checks.Halt.TheVariants as halts
 use Rattle.page_source.proofs.Members.{filter_contains}
@@ -19,9 +16,10 @@ use Rattle.column_values.specs.Types.{Fields}
 use Rattle.column_values.specs.Order.{Key, key_cmp, IsBelow, AreEqualKeys}
 use Rattle.column_values.proofs.KeyOrder.{key_total, symmetric}
 use Rattle.compact_record.specs.declared.places.Place.{Place}
-use Rattle.compact_record.specs.Reading.{Reading, IsReading, field_count, cell_at, place_of, places_of, key_of}
+use Rattle.compact_record.specs.Reading.{Reading, IsReading, key_of}
 use Rattle.compact_record.specs.Reading.{key_kinds}
 use Rattle.compact_record.specs.Keys.{key_at, LiesBelow}
+use Rattle.compact_record.proofs.KeySteps.{count_of_places, key_is}
 use Rattle.schema_text.specs.TableDef.{TableDef}
 use Rattle.schema_text.specs.IndexFields.{leaf_fields}
 use Rattle.tree_walk.specs.declared.leaves.leaf.Leaf.{Leaf}
@@ -46,20 +44,6 @@ use Rattle.cross_index.proofs.Sides.{parts_least, matched_same, matched_back, ma
 use Rattle.cross_index.proofs.Merge.{in_order_size, in_order_at, place_within, order_rises, least_in_order}
 use Rattle.cross_index.proofs.Merge.{least_beside}
 use Rattle.cross_index.proofs.Merge.{same_in_order}
-
--- a record has a place for each field, and its key is that of the first ones
-pub count_of_places : (page : List ℕ) (origin : ℕ) (fields : Fields)
-    → length (places_of page origin fields) ≡ field_count fields
-unfolding places_of
-count_of_places page origin fields = length-map-range_with_len (place_of page origin fields) 0 (field_count fields)
-
-key_is : (page : List ℕ) (origin : ℕ) (fields : Fields) → fields.keys ≤ length fields.fields
-    → key_at page fields (places_of page origin fields) ≡ key_of page origin fields
-unfolding key_at places_of key_of
-key_is page origin fields few =
-    ap (λ (ps : List Place). map (cell_at page) ps)
-    (take-map-range_with_len (place_of page origin fields) 0 (field_count fields) fields.keys few)
-    ∙ map-map (cell_at page) (place_of page origin fields) (range_with_len 0 fields.keys)
 
 -- the key of a record that was read and ends on its page
 pub read_key : (page : List ℕ) (origin : ℕ) (fields : Fields) (reading : Reading)

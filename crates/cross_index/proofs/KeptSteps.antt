@@ -1,5 +1,5 @@
 -- The fields that some entry has, one index after another and one field after another.
-use Rattle.std.proofs.Common.{◌≡◌, ℕ, zero, suc, ◌+◌, ◌-◌, ◌≤◌, Bool, cond, List, [], ◌∷◌, ◌++◌}
+use Rattle.std.proofs.Common.{◌≡◌, ℕ, ◌+◌, ◌-◌, ◌≤◌, Bool, cond, List, [], ◌∷◌, ◌++◌}
 use Rattle.std.proofs.Common.{filter, flat_map, sym, ap, ◌∙◌, arith}
 use Rattle.std.specs.Prelude.{◌==◌}
 use Rattle.std.specs.List.{list_any, range_with_len}
@@ -8,16 +8,7 @@ use Rattle.std.proofs.lemmas.List.Concat.{flat_map-append}
 use Rattle.std.proofs.lemmas.List.Elements.{filter-append}
 use Rattle.schema_text.specs.TableDef.{TableDef}
 use Rattle.schema_text.specs.IndexFields.{entry_fields}
-
--- a range and one number more
-pub range_more : (a n : ℕ) → range_with_len a (n + 1) ≡ range_with_len a n ++ (a + n) ∷ []
-range_more a zero = ap (λ (k : ℕ). k ∷ []) (let e : a ≡ a + 0 = omega arith in e)
-range_more a (suc n) =
-    let next : suc n + 1 ≡ suc (n + 1) = omega arith in
-    let last : a + 1 + n ≡ a + suc n = omega arith in
-    ap (range_with_len a) next
-    ∙ ap (λ (rest : List ℕ). a ∷ rest)
-    (range_more (a + 1) n ∙ ap (λ (k : ℕ). range_with_len (a + 1) n ++ k ∷ []) last)
+use Rattle.page_source.proofs.Lists.{range_next}
 
 -- the fields of one index more
 pub all_more : (table : TableDef) (list next : List ℕ) (index : ℕ) → 1 ≤ index
@@ -29,7 +20,7 @@ all_more table list next index some so grown =
     let last : 1 + (index - 1) ≡ index = omega arith in
     grown ∙ ap (λ (xs : List ℕ). xs ++ entry_fields table index) so
     ∙ sym (ap (λ (n : ℕ). flat_map (entry_fields table) (range_with_len 1 n)) e
-    ∙ ap (flat_map (entry_fields table)) (range_more 1 (index - 1))
+    ∙ ap (flat_map (entry_fields table)) (range_next 1 (index - 1))
     ∙ flat_map-append (entry_fields table) (range_with_len 1 (index - 1)) ((1 + (index - 1)) ∷ [])
     ∙ ap (λ (n : ℕ). front ++ flat_map (entry_fields table) (n ∷ [])) last
     ∙ ap (λ (xs : List ℕ). front ++ xs) (append-nil (entry_fields table index)))
@@ -43,5 +34,5 @@ kept_more all list next n b among so grown =
     let last : 0 + n ≡ n = omega arith in
     grown ∙ ap (λ (xs : List ℕ). xs ++ cond b (n ∷ []) []) so
     ∙ ap (λ (t : Bool). filter p (range_with_len 0 n) ++ cond t (n ∷ []) []) (sym among)
-    ∙ sym (ap (filter p) (range_more 0 n ∙ ap (λ (m : ℕ). range_with_len 0 n ++ m ∷ []) last)
+    ∙ sym (ap (filter p) (range_next 0 n ∙ ap (λ (m : ℕ). range_with_len 0 n ++ m ∷ []) last)
     ∙ filter-append p (range_with_len 0 n) (n ∷ []))

@@ -6,6 +6,7 @@ use Rattle.std.proofs.lemmas.Nat.{pow_pos}
 use Rattle.std.proofs.lemmas.List.Sums.{sum_by-cons, sum_by-append}
 use Rattle.page_source.proofs.Members.{range_more}
 use Rattle.std.specs.List.{range_with_len, sum_by}
+use Rattle.std.proofs.lemmas.Bool.{not-false}
 use lib.Lanes.{mask_l}
 use Rattle.extent_map.specs.Extents.{is_bit_clear, used_mask}
 
@@ -88,10 +89,6 @@ bit_or_not : (b : Bool) → bit b + bit (not b) ≡ 1
 bit_or_not true = refl
 bit_or_not false = refl
 
-not_false : (b : Bool) → not b ≡ false → b ≡ true
-not_false true e = refl
-not_false false e = sym e
-
 -- the bits that aren't set
 mask_not : (p : ℕ → Bool) (n : ℕ) → mask p n + mask (λ j. not (p j)) n + 1 ≡ 2 ^ n
 unfolding mask
@@ -102,7 +99,7 @@ mask_not p (suc n) =
 -- all bits are set
 pub mask_full : (p : ℕ → Bool) (n : ℕ) → mask p n + 1 ≡ 2 ^ n → (j : ℕ) → j < n → p j ≡ true
 mask_full p n full j inside =
-    not_false (p j) (mask_below (λ j. not (p j)) n 0 (omega (arith, full, mask_not p n)) j (omega arith) inside)
+    not-false (p j) (mask_below (λ j. not (p j)) n 0 (omega (arith, full, mask_not p n)) j (omega arith) inside)
 
 -- the same number as a sum of powers
 weighed_bit : (b : Bool) (v w : ℕ) → v ≡ w → cond b v 0 ≡ w * bit b

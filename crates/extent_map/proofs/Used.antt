@@ -5,6 +5,7 @@ use Rattle.std.proofs.lemmas.List.Sums.{length-filter, count_by-le-length}
 use Rattle.std.proofs.lemmas.List.FromFn.{length-range_with_len, length-map-range_with_len, get_or-map-range_with_len}
 use lib.ListN.{get_or-eq_default}
 use Rattle.std.proofs.lemmas.Bool.Decides.{leb_tells}
+use Rattle.std.proofs.lemmas.Bool.{and_parts, ltb-true}
 use Rattle.page_source.specs.Lists.{flag_in}
 use Rattle.page_source.proofs.Members.{range_has, range_only, range_distinct, distinct_filter, contains_filter}
 use Rattle.page_source.proofs.Members.{filter_contains}
@@ -60,6 +61,11 @@ not_used_past file n h = elim (leb_tells (suc n) (limit_of file)) [
       (arith, q.1))
   | inr q ↦ rw q.0 refl
 ]
+
+-- a used page is below the free limit
+pub used_below : (file : List ℕ) (n : ℕ) → IsUsed file n → n < limit_of file
+unfolding is_used
+used_below file n used = ltb-true n (limit_of file) (and_parts _ _ used).0
 
 -- the flags of fragment pages are the test
 pub flag_is : (file : List ℕ) (n : ℕ) → flag_in (fragment_flags file) n ≡ is_fragment_page file n

@@ -136,7 +136,7 @@ same_extent a b id node state used =
     ap (λ i. made i a.node a.state a.used) id ∙ ap (λ n. made b.id n a.state a.used) node
     ∙ ap (λ s. made b.id b.node s a.used) state ∙ ap (made b.id b.node b.state) used
 
-node_size : (node : Node) → length (node_bytes node) ≡ 12
+pub node_size : (node : Node) → length (node_bytes node) ≡ 12
 unfolding node_bytes address_bytes
 node_size node = refl
 

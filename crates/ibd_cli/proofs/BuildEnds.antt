@@ -1,11 +1,8 @@
 -- How a build ends, by how far it came.
 use Rattle.std.proofs.Common.{◌≡◌, ℕ, List, Option, Some, None, Result, Ok, Err, IfSome, length}
 use Rattle.std.proofs.Common.{refl, sym, ap, ◌∙◌, subst, inl, inr}
-use Rattle.std.specs.FinMap.{get, get-empty}
-use Rattle.std.specs.Option.{is_some}
-use Rattle.std.specs.Ordering.{nat_cmp}
 use Rattle.page_source.specs.Faults.{Rose}
-use Rattle.page_source.specs.Objects.{PageMap, Store, IsFresh, GrowsBy, GrowsByPart}
+use Rattle.page_source.specs.Objects.{Store, IsFresh, GrowsBy, GrowsByPart}
 use Rattle.page_source.proofs.Told.{told1, told2}
 use Rattle.schema_text.specs.TableDef.{TableDef}
 use Rattle.schema_text.specs.Grammar.{IsTextOf}
@@ -18,6 +15,7 @@ use Rattle.space_builder.specs.layout.Layout.{layout_size}
 use Rattle.space_builder.specs.build.RootOrder.{RootOrderChecks}
 use Rattle.space_builder.specs.build.Build.{Builds, BuildsWithCause, ReadsText, LacksHead, IsUncalledOrSized}
 use Rattle.space_builder.specs.build.Outcome.{ComesTo, RootsHaveOneAnswer, BuildHasOneOutcome, LeavesStore}
+use Rattle.space_builder.proofs.Builds.{fresh_lacks}
 use Rattle.command_line.specs.declared.schema_file.SchemaStop.{SchemaStop}
 use Rattle.command_line.specs.declared.schema_file.SchemaStop.TheVariants.{Refused, Source, Memory}
 use Rattle.ibd_cli.specs.declared.status.Status.{Status}
@@ -45,11 +43,6 @@ pub record BuildsOnce : Type 0 where
   pub roots : RootsHaveOneAnswer
   pub outcome : BuildHasOneOutcome
   pub dumps : BuiltFilesDumpAsRead
-
--- a fresh store lacks page 0
-fresh_lacks : (store : Store) → IsFresh store → LacksHead store
-fresh_lacks store fresh =
-    told1 store.held (λ held is. ap is_some (ap (λ (map : PageMap). get map 0) is ∙ get-empty nat_cmp 0)) fresh.held
 
 never_built : (stop : SchemaStop) → HasBuilt (status_of_schema stop) → ⊥
 never_built (Refused line why) built = built

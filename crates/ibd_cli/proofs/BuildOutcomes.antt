@@ -1,5 +1,6 @@
 -- A schema text and a rows text have one outcome of a build.
 use Rattle.std.proofs.Common.{◌≡◌, ℕ, List, Some, None, Result, Ok, Err, refl, sym, ap, ◌∙◌, inl, inr}
+use Rattle.std.proofs.lemmas.Option.{same_Some}
 use Rattle.page_source.proofs.Unique.{some_is_not_none}
 use Rattle.schema_text.specs.TableDef.{TableDef}
 use Rattle.schema_text.specs.Grammar.{IsTextOf}
@@ -28,9 +29,6 @@ abbrev Defines : TableDef → List ℕ → Status → Type 0
 Defines table text given =
     (outcome : Result Rows BuildStop) × ComesTo table text outcome × (given ≡ status_of_outcome outcome)
 
-same_line : (a b : ℕ) → Some a ≡ Some b → a ≡ b
-same_line a b e = cc
-
 module _ (schema : List ℕ) (one : HasOneAnswer schema) (table : TableDef) (is : IsTextOf table schema) where
   -- a refusal of the schema of a table is that of a root
   pub refused_root : (line : ℕ) (why : SchemaWhy) → IsRefusedForBuild schema line why
@@ -53,7 +51,7 @@ module _ (schema : List ℕ) (one : HasOneAnswer schema) (table : TableDef) (is 
       → SchemaRefused first whys.Root ≡ SchemaRefused line why
   refused_as_root roots first bad line why refused =
       let root = refused_root line why refused in
-      let same : first ≡ line = same_line first line (roots table (Some first) (Some line) bad root.1) in
+      let same : first ≡ line = same_Some first line (roots table (Some first) (Some line) bad root.1) in
       ap (λ (n : ℕ). SchemaRefused n whys.Root) same ∙ ap (SchemaRefused line) (sym root.0)
 
   -- what the texts define comes of this table

@@ -13,6 +13,7 @@ use Rattle.index_page.specs.Header.{index_id_of}
 use Rattle.std.proofs.lemmas.Simd.{map-map}
 use Rattle.std.proofs.lemmas.Map.Views.{All-found, btree_map_get_iff}
 use Rattle.page_source.proofs.Members.{contains_none, contains_filter}
+use Rattle.page_source.proofs.Lists.{contains_map}
 use Rattle.page_scan.specs.Newest.{IsGreatest}
 use Rattle.image_listing.specs.declared.catalogue.Version.{Version}
 use Rattle.image_listing.specs.declared.lines.Tally.{Tally}
@@ -24,7 +25,7 @@ use Rattle.image_listing.specs.Tallies.{line_of, lines_of}
 use Rattle.image_listing.proofs.Orders.{line_total, line_exact}
 use Rattle.image_listing.proofs.LineText.{Counted}
 use Rattle.image_listing.proofs.Counting.{Kept}
-use Rattle.image_listing.proofs.Members.{contains_map, filter_map_of}
+use Rattle.image_listing.proofs.Members.{filter_map_of}
 use Rattle.image_listing.proofs.Sights.{kept_of, has_sights, pairs_from_sorted, then_less, number_less, number_same}
 
 -- the index that is kept tells as much as the page

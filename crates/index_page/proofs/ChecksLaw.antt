@@ -95,7 +95,7 @@ checks_of_page page fields leaf root leftmost chain is =
     )
 
 -- checks have one answer
-checks_unique : (page : List ℕ) (fields : Fields) (leaf root leftmost : Bool)
+pub checks_unique : (page : List ℕ) (fields : Fields) (leaf root leftmost : Bool)
     → IsUnique (PageChecks page fields leaf root leftmost)
 unfolding PageChecks
 checks_unique page fields leaf root leftmost =

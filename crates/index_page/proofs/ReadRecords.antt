@@ -1,19 +1,11 @@
 -- Records that are read one after another.
 use Rattle.std.proofs.Common.{◌≡◌, ℕ, ◌+◌, List, [], ◌∷◌, ◌++◌, subst}
-use Rattle.std.specs.List.{AllZip}
+use Rattle.std.proofs.lemmas.Slice.Zip.{all_zipped_more}
 use Rattle.column_values.specs.Types.{Fields}
 use Rattle.compact_record.specs.Reading.{Reading, IsReading}
 use Rattle.index_page.specs.Header.{record_at, records_from}
 use Rattle.index_page.specs.Readings.{AreRead}
 use Rattle.index_page.proofs.RecordWalk.{records_from_none, records_from_more}
-
--- one more of each
-zip_push : {A B : Type 0} (R : A → B → Type 0) (xs : List A) (ys : List B) (x : A) (y : B) → AllZip R xs ys → R x y
-    → AllZip R (xs ++ x ∷ []) (ys ++ y ∷ [])
-zip_push R [] [] x y all here = (here, tt)
-zip_push R [] (b ∷ ys) x y all here = absurd all
-zip_push R (a ∷ xs) [] x y all here = absurd all
-zip_push R (a ∷ xs) (b ∷ ys) x y all here = (all.0, zip_push R xs ys x y all.1 here)
 
 pub read_none : (page : List ℕ) (fields : Fields) (first : ℕ) (items : List Reading) → items ≡ []
     → AreRead page fields (records_from page first 0) items
@@ -26,5 +18,5 @@ pub read_more : (page : List ℕ) (fields : Fields) (first i origin : ℕ) (read
     → AreRead page fields (records_from page first (i + 1)) after
 read_more page fields first i origin reading before after place all here grown =
     let P : ℕ → Type 0 = λ o. IsReading page o fields reading in
-    rw (grown, records_from_more page first i) (zip_push (λ o r. IsReading page o fields r)
+    rw (grown, records_from_more page first i) (all_zipped_more (λ o r. IsReading page o fields r)
     (records_from page first i) before (record_at page first i) reading all (subst P place here))

@@ -1,5 +1,5 @@
 -- The segments that are kept, one after another.
-use Rattle.std.proofs.Common.{◌≡◌, ℕ, ◌+◌, ◌<◌, ◌↔◌, ◌||◌, ◌==◌, Bool, true, false, not, eq-eqb, List, [], ◌∷◌, ◌++◌}
+use Rattle.std.proofs.Common.{◌≡◌, ℕ, ◌+◌, ◌<◌, ◌↔◌, ◌||◌, ◌==◌, Bool, true, false, eq-eqb, List, [], ◌∷◌, ◌++◌}
 use Rattle.std.proofs.Common.{length, get_or, map, take, Some, None, Contains, slice_get, unwrap_or, refl, sym, ◌∙◌, ap}
 use Rattle.std.proofs.Common.{subst, inl, inr, arith}
 use lib.ListN.{get_or-map}
@@ -112,14 +112,6 @@ same_number m n same = elim (eqb_tells m n) [ inl q ↦ q.1 | inr q ↦ absurd (
 or_right : (a b : Bool) → b ≡ true → (a || b) ≡ true
 or_right true b is = refl
 or_right false b is = is
-
-pub not_true : (b : Bool) → not b ≡ true → b ≡ false
-not_true true is = sym is
-not_true false is = refl
-
-pub not_false : (b : Bool) → not b ≡ false → b ≡ true
-not_false true is = refl
-not_false false is = sym is
 
 pub has_more : (has now : ℕ → Bool) (ids : List ℕ) (id : ℕ) → ((x : ℕ) → now x ≡ (has x || (x == id)))
     → ((x : ℕ) → has x ≡ true ↔ Contains ids x) → (x : ℕ) → now x ≡ true ↔ Contains (ids ++ id ∷ []) x

@@ -215,10 +215,6 @@ rows_all index n P h k d m =
     rw (get_or-map (λ origin. record { page = n; origin = origin }) (records_of (page_in index n)) k 0 d (omega arith))
     (h k (omega arith))
 
-no_lowest : (b : Bool) → (b && false) ≡ true → ⊥
-no_lowest true e = false≢true e
-no_lowest false e = false≢true e
-
 -- the lists of one index have keys of the same kinds
 abbrev pub HasOneKind : Index → Type 0
 HasOneKind index = key_kinds index.node ≡ key_kinds index.leaf
@@ -289,7 +285,8 @@ module _ (law : KeysRiseThroughout) (index : Index) (one : HasOneKind index) whe
       let row : ℕ → Row = λ origin. record { page = b.page; origin = origin } in
       let same : length (rows_on index b.page) ≡ length (records_of page) = length-map (records_of page) row in
       rw (get_or-map row (records_of page) i 0 d (omega arith), get_or-map row (records_of page) j 0 d (omega arith))
-      (later law page index.leaf lowest rise i j less (omega arith) (λ z. no_lowest b.leftmost z.1))
+      (later law page index.leaf lowest rise i j less (omega arith)
+      (λ z. false≢true (and_parts b.leftmost false z.1).1))
 
   -- the rows of a leaf lie between its separators
   leaf_between : (root : Bool) (b : Bounded) → IsNode index 0 root b
@@ -301,9 +298,10 @@ module _ (law : KeysRiseThroughout) (index : Index) (one : HasOneKind index) whe
       let rise : KeysRise page index.leaf lowest (records_of page) = node.page.rise in
       rows_all index b.page (IsBetween index b.low b.high)
       (λ i m. record {
-        from = from_at law page index.leaf lowest rise 0 b.low node.keys.low (λ e. absurd (no_lowest b.leftmost e)) i m;
+        from = from_at law page index.leaf lowest rise 0 b.low node.keys.low
+            (λ e. absurd (false≢true (and_parts b.leftmost false e).1)) i m;
         under = under_at law page index.leaf lowest rise b.high node.keys.high i m
-            (λ z. no_lowest b.leftmost z.1);
+            (λ z. false≢true (and_parts b.leftmost false z.1).1);
       })
 
   -- the rows below each page lie between its separators

@@ -26,8 +26,9 @@ use Rattle.offpage_chain.specs.Chain.{chain_pages}
 use Rattle.offpage_chain.specs.ChainChecks.{AuditedPlace, UnauditedPlace, PartCheck, ChainChecksBy, ChainChecks}
 use Rattle.tree_walk.specs.Index.{Index, page_in, fields_on, root_level, index_id, pages_at}
 use Rattle.tree_walk.specs.Place.{NodeAt}
-use Rattle.tree_walk.specs.Descent.{spot_on, Bounded, IsNode, IsTree}
+use Rattle.tree_walk.specs.Descent.{spot_on, Bounded, IsNode}
 use Rattle.tree_walk.specs.Laws.{IsOwnPage}
+use Rattle.tree_walk.proofs.DescentLaw.{node_of}
 use Rattle.table_check.specs.Values.{bytes_at, IsTextBehind, ValueChecks, FieldChecks, RecordChecks, pages_of_part}
 use Rattle.table_check.specs.Values.{ValueChecksBy, FieldChecksBy, RecordChecksBy}
 use Rattle.table_check.specs.Valid.{HasWholeTree}
@@ -40,11 +41,6 @@ use Rattle.key_lookup.proofs.Ways.{tree_at, page_at}
 framed : (file : List ℕ) (flags segment kind n : ℕ) → IsSoundSpace file flags → IsPageOf file segment kind n
     → Framed file n
 framed file flags segment kind n sound is = sound.frames.framed n (used_is file segment n is.used)
-
-node_of : (index : Index) (level : ℕ) (root : Bool) (b : Bounded) → IsTree index level root b
-    → IsNode index level root b
-node_of index zero root b tree = tree
-node_of index (suc level) root b tree = tree.0
 
 -- a node passes the checks of its place
 node_checks : ChecksAreIndexPage → (index : Index) (level : ℕ) (root : Bool) (b : Bounded) → IsNode index level root b

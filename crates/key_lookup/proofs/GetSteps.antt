@@ -2,6 +2,7 @@
 use Rattle.std.proofs.Common.{◌≡◌, ℕ, ◌≤◌, false, List, length, get_or, Option, Some, None, Result, Ok, Err}
 use Rattle.std.proofs.Common.{refl, sym, ap, ◌∙◌, subst, arith}
 use Rattle.std.proofs.lemmas.List.{append-nil}
+use Rattle.std.proofs.lemmas.Option.{same_Some}
 use Rattle.page_source.specs.declared.objects.PageSource.{Ghosts as FileOf}
 use Rattle.page_source.specs.declared.checks.Stop.{Stop}
 use Rattle.page_source.specs.declared.checks.Stop.TheVariants as stops
@@ -58,9 +59,6 @@ pub sized : (file : List ℕ) (table : TableDef) (key : Key) → GetFirst file t
 unfolding GetFirst HeaderChecks
 sized file table key good = good.0.1.1.1.1.1.0.within
 
-some_is : {X : Type 0} (a b : X) → Some a ≡ Some b → a ≡ b
-some_is a b e = cc
-
 module _ (file : List ℕ) (table : TableDef) (key : Key) (is : IsTable table) (good : GetFirst file table key None)
     (page : List ℕ) (found : Found) (at : IsFoundRowAt (clustered_tree file table) key page found) where
   abbrev index : Index
@@ -115,7 +113,7 @@ module _ (file : List ℕ) (table : TableDef) (key : Key) (is : IsTable table) (
       → AreFound file table page found.origin found_line.row_values
   unfolding index_in
   values_are line l =
-      let same : l.row ≡ row = some_is l.row row (sym l.found ∙ at.row) in
+      let same : l.row ≡ row = same_Some l.row row (sym l.found ∙ at.row) in
       let are = subst (λ (r : Row). IsFoundRow file table r l.row_values) same l.are in
       record {
         count = are.count;

@@ -100,7 +100,7 @@ bounds_at index leftmost (p ∷ ps) high zero d within = refl
 bounds_at index leftmost (p ∷ ps) high (suc k) d within =
     bounds_at index false ps high k d (omega arith) ∙ (rw left_none refl)
 
-bounds_count : (index : Index) (leftmost : Bool) (ps : List Row) (high : Option Key)
+pub bounds_count : (index : Index) (leftmost : Bool) (ps : List Row) (high : Option Key)
     → length (bounds index leftmost ps high) ≡ length ps
 bounds_count index leftmost [] high = refl
 bounds_count index leftmost (p ∷ ps) high = ap suc (bounds_count index false ps high)

@@ -15,7 +15,8 @@ use Rattle.key_lookup.specs.declared.way.Due.{Due}
 use Rattle.key_lookup.specs.Path.{way, leaf_for}
 use Rattle.key_lookup.specs.GetFirst.{WayChecks, AllWayChecks}
 use Rattle.key_lookup.specs.Way.{IsDue, IsHeldNode, IsOnWay}
-use Rattle.key_lookup.proofs.WaySteps.{below_more, page_is}
+use Rattle.key_lookup.proofs.WaySteps.{page_is}
+use Rattle.table_check.proofs.RecordSteps.{below_more}
 
 -- a page above the leaves whose checks hold has a record
 some_above : (page : List ℕ) (fields : Fields) (level : ℕ) (root leftmost : Bool) → 0 < level

@@ -1,6 +1,7 @@
 -- The row that is found has one value in each column, and so one line.
-use Rattle.std.proofs.Common.{◌≡◌, ℕ, suc, ◌<◌, Bool, true, false, List, [], ◌∷◌, ◌++◌, length, get_or, Some}
-use Rattle.std.proofs.Common.{refl, sym, ap, ap₂, ◌∙◌, subst, arith}
+use Rattle.std.proofs.Common.{◌≡◌, ℕ, ◌<◌, Bool, true, false, List, [], ◌++◌, length, get_or}
+use Rattle.std.proofs.Common.{refl, sym, ap, ◌∙◌, subst, arith}
+use Rattle.std.proofs.lemmas.Option.{same_Some}
 use Rattle.column_values.specs.declared.kind.ColumnType.{ColumnType}
 use Rattle.column_values.specs.declared.value.Value.{Value}
 use Rattle.column_values.specs.declared.value.Value.TheVariants.{Null}
@@ -19,19 +20,7 @@ use Rattle.table_check.specs.Rows.{place_of_column}
 use Rattle.key_lookup.specs.Record.{HasFoundValue, IsFoundRow}
 use Rattle.key_lookup.specs.Get.{IsLineFound}
 use Rattle.key_lookup.specs.Laws.{FindsOneLine}
-
--- lists of values that are equal place by place are equal
-same_list : (xs ys : List Value) → length xs ≡ length ys
-    → ((c : ℕ) → c < length xs → get_or xs c Null ≡ get_or ys c Null) → xs ≡ ys
-same_list [] [] size same = refl
-same_list [] (y ∷ ys) size same = absurd (omega (arith, size))
-same_list (x ∷ xs) [] size same = absurd (omega (arith, size))
-same_list (x ∷ xs) (y ∷ ys) size same =
-    ap₂ (λ (z : Value) (zs : List Value). z ∷ zs) (same 0 (omega arith))
-    (same_list xs ys (omega (arith, size)) (λ c below. same (suc c) (omega (arith, below))))
-
-some_is : {X : Type 0} (a b : X) → Some a ≡ Some b → a ≡ b
-some_is a b e = cc
+use Rattle.sql_dump.proofs.OneDump.{same_list}
 
 module _ (spelled : HasOneValue) (file : List ℕ) where
   -- a place has one value at the most
@@ -61,6 +50,6 @@ module _ (spelled : HasOneValue) (file : List ℕ) where
 
 pub one_line : HasOneValue → FindsOneLine
 one_line spelled file table key a b is x y =
-    let row : x.row ≡ y.row = some_is x.row y.row (sym x.found ∙ y.found) in
+    let row : x.row ≡ y.row = same_Some x.row y.row (sym x.found ∙ y.found) in
     let are = subst (λ (r : Row). IsFoundRow file table r x.row_values) row x.are in
     x.is ∙ ap (line_of table) (same_row spelled file table y.row x.row_values y.row_values is are y.are) ∙ sym y.is

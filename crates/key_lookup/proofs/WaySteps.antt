@@ -1,17 +1,13 @@
 -- The checks of the page that is due, one after another.
-use Rattle.std.proofs.Common.{◌≡◌, ℕ, ◌+◌, ◌-◌, ◌==◌, ◌<◌, ◌≤◌, true, List, Option, Some, None, inl, inr, ap, ◌∙◌}
+use Rattle.std.proofs.Common.{◌≡◌, ℕ, ◌-◌, ◌==◌, ◌<◌, ◌≤◌, true, List, Option, Some, None, inl, inr, ap, ◌∙◌}
 use Rattle.std.proofs.Common.{subst}
 use Rattle.std.proofs.Common.{arith}
-use Rattle.std.proofs.lemmas.Bool.{cases_lt}
 use Rattle.page_source.specs.declared.rule.Fault.{Fault}
 use Rattle.page_source.specs.declared.checks.Halt.{Halt}
 use Rattle.page_source.specs.declared.checks.Halt.TheVariants.{Broken, Source}
 use Rattle.page_source.specs.Checks.{HaltsAt}
-use Rattle.page_source.specs.Verdict.{AllBelow}
 use Rattle.fil_frame.specs.Kinds.{index_kind}
-use Rattle.space_header.specs.declared.header.SpaceHeader.{SpaceHeader}
-use Rattle.space_header.specs.Header.{header_of, size_of}
-use Rattle.extent_map.specs.Head.{HasHeader}
+use Rattle.space_header.specs.Header.{size_of}
 use Rattle.column_values.specs.Types.{Fields}
 use Rattle.column_values.specs.Order.{Key}
 use Rattle.tree_walk.specs.declared.walk.Walk.{Walk}
@@ -24,11 +20,6 @@ use Rattle.key_lookup.specs.Path.{way}
 use Rattle.offpage_chain.specs.Fetched.{FramedChecks}
 use Rattle.key_lookup.specs.GetFirst.{way_fault, WayChecks, AllWayChecks}
 use Rattle.key_lookup.specs.Way.{spot_due, IsDue, PageInHand}
-
--- the size that a header states is that of its file
-pub size_is : (file : List ℕ) (header : SpaceHeader) → HasHeader file header → header.size ≡ size_of file
-unfolding header_of
-size_is file header has = ap (λ (h : SpaceHeader). h.size) has.same
 
 module _ (index : Index) (key : Key) (depth : ℕ) (walk : Walk) (due : Due) (is : IsDue index key depth walk due) where
   abbrev level : ℕ
@@ -157,9 +148,3 @@ module _ (index : Index) (key : Key) where
     (below, subst (λ (f : Fault). FramedChecks index.file f index_kind index.root None) e framed),
     root_in_hand page fields level id None p l i f x,
   )
-
-pub below_more : (check : ℕ → Option Fault → Type 0) (i : ℕ) → AllBelow check i → check i None → AllBelow check (i + 1)
-below_more check i before here j below = elim (cases_lt j i) [
-  | inl less ↦ before j less
-  | inr more ↦ let e : i ≡ j = omega arith in subst (λ (k : ℕ). check k None) e here
-]

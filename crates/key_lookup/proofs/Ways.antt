@@ -15,16 +15,18 @@ use Rattle.compact_record.specs.Reading.{key_kinds}
 use Rattle.index_page.specs.Header.{records_of}
 use Rattle.index_page.specs.Laws.{KeysRiseThroughout}
 use Rattle.page_source.proofs.Members.{contains_none, contains_here, contains_there, filter_contains}
+use Rattle.page_source.proofs.Lists.{flat_map_has}
 use Rattle.tree_walk.specs.Index.{Index, Row, page_in, rows_on, child_of, children, key_in, pages_at, root_level}
 use Rattle.tree_walk.specs.Descent.{children_at, rows_below, tree_rows, Bounded, key_after, bounds, kids}
 use Rattle.tree_walk.specs.Descent.{IsNode, IsTree, IsTreeByDescent}
 use Rattle.tree_walk.specs.Laws.{row_key}
 use Rattle.tree_walk.proofs.Descents.{children_down}
 use Rattle.key_lookup.specs.Path.{is_up_to, pages_up_to, page_for, next_down, way}
-use Rattle.key_lookup.proofs.Lists.{contains_flat_map, filter_none, last_or, last_cons}
+use Rattle.key_lookup.proofs.Lists.{filter_none, last_or, last_cons}
 use Rattle.key_lookup.proofs.Between.{IsFrom, IsUnder, IsBetween, Fits, kids_fit, AreBetween, Spans, kids_between}
 use Rattle.key_lookup.proofs.Between.{PairsBehind, HasOneKind}
 use Rattle.key_lookup.proofs.Between.{spans, between, rises}
+use Rattle.key_lookup.proofs.Kids.{bounds_count}
 
 -- one of the pages is chosen, if there is one
 pub page_for_holds : (P : Bounded → Type 0) (index : Index) (key : Key) (none : Bounded) (bs : List Bounded)
@@ -74,11 +76,6 @@ kids_are index leftmost (p ∷ ps) high =
     }) (bounds index false ps high) (contains_here (child_of index p) (children index ps))
     (λ k d m. contains_there (child_of index p) (children index ps) (get_or (bounds index false ps high) k d).page
     (kids_are index false ps high k d m))
-
-kids_count : (index : Index) (leftmost : Bool) (ps : List Row) (high : Option Key)
-    → length (bounds index leftmost ps high) ≡ length ps
-kids_count index leftmost [] high = refl
-kids_count index leftmost (p ∷ ps) high = ap suc (kids_count index false ps high)
 
 module _ (index : Index) (one : HasOneKind index) (key : Key) where
   turned : (k : Key) (o : Ordering) → key_cmp (key_kinds index.node) k key ≡ o
@@ -193,7 +190,7 @@ module _ (law : KeysRiseThroughout) (index : Index) (one : HasOneKind index) (tr
         let page = page_in index b.page in
         let same : length (rows_on index b.page) ≡ length (records_of page) =
         length-map (records_of page) (λ origin. record { page = b.page; origin = origin }) in
-        let count = kids_count index b.leftmost (rows_on index b.page) b.high in
+        let count = bounds_count index b.leftmost (rows_on index b.page) b.high in
         elim (cases_lt 0 (length (records_of page))) [
           | inl m ↦ omega arith
           | inr m ↦ absurd (true≢false
@@ -229,7 +226,7 @@ module _ (law : KeysRiseThroughout) (index : Index) (one : HasOneKind index) (tr
     page_at zero l e = contains_here index.root []
     page_at (suc d) l e =
         rw (children_down index (pages_at index d))
-        (contains_flat_map (children_at index) (pages_at index d) (way index key d).page (way index key (suc d)).page
+        (flat_map_has (children_at index) (pages_at index d) (way index key d).page (way index key (suc d)).page
         (page_at d (suc l) (omega arith)) (child_at d l (omega arith)))
 
     -- the rows of the leaf are rows of the tree
@@ -239,7 +236,7 @@ module _ (law : KeysRiseThroughout) (index : Index) (one : HasOneKind index) (tr
     rows_in row zero l e c = let same : root_level index ≡ l = omega arith in rw same c
     rows_in row (suc d) l e c =
         rows_in row d (suc l) (omega arith)
-        (contains_flat_map (rows_below index l) (children_at index (way index key d).page) (way index key (suc d)).page
+        (flat_map_has (rows_below index l) (children_at index (way index key d).page) (way index key (suc d)).page
         row (child_at d l (omega arith)) c)
 
     -- the rows of the tree with the key are among those of the leaf

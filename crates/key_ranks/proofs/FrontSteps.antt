@@ -1,5 +1,5 @@
 -- Keys order as their fronts do, if these differ.
-use Rattle.std.proofs.Common.{◌≡◌, ℕ, zero, suc, ◌+◌, ◌-◌, ◌/◌, ◌^◌, ◌<◌, max, List, [], ◌∷◌}
+use Rattle.std.proofs.Common.{◌≡◌, ℕ, zero, suc, ◌+◌, ◌-◌, ◌/◌, ◌^◌, ◌<◌, List, [], ◌∷◌}
 use Rattle.std.proofs.Common.{length, get_or, replicate, Option, Some, None, false, refl, sym, ap, ◌∙◌, subst}
 use Rattle.std.proofs.Common.{inl, inr, arith}
 use Rattle.std.specs.declared.cmp.Ordering.{Ordering}
@@ -8,13 +8,14 @@ use Rattle.std.specs.Ordering.{is_lt, nat_cmp, ordering_then, ordering_reverse}
 use Rattle.std.specs.Cmp.{nat_cmp_is}
 use Rattle.std.proofs.lemmas.Bool.{cases_lt}
 use Rattle.std.proofs.lemmas.List.{get_or_past, get_or_append_left, get_or-append_right}
-use Rattle.std.proofs.lemmas.List.{get_or-replicate, length-append, length-replicate}
+use Rattle.std.proofs.lemmas.List.{get_or-replicate, length-replicate}
 use Rattle.column_values.specs.declared.kind.ColumnType.TheVariants as types
 use Rattle.column_values.specs.declared.field.FieldType.{FieldType}
 use Rattle.column_values.specs.declared.field.FieldType.TheVariants as fields
 use Rattle.column_values.specs.declared.field.FieldType.TheVariants.{Child}
 use Rattle.column_values.specs.Order.{bytes_cmp, filled, text_cmp, field_cmp, cell_cmp, Key, key_cmp}
 use Rattle.column_values.proofs.KeyOrder.{cell_total}
+use Rattle.column_values.proofs.TextOrder.{length-filled}
 use Rattle.key_ranks.specs.Ranks.{filler_of, BeginsSo, HasFront, HaveFronts, key_of_rank}
 use Rattle.key_ranks.specs.Keys.{KeyTable}
 
@@ -72,10 +73,6 @@ filled_at a n i = elim (cases_lt i (length a)) [
       | inl less ↦ get_or-replicate {A = ℕ} k j 32 32 less
       | inr more ↦ get_or_past (replicate {A = ℕ} k 32) j 32 (omega (arith, more, length-replicate {A = ℕ} k 32))
     ]
-
-length-filled : (a : List ℕ) (n : ℕ) → length (filled a n) ≡ max (length a) n
-length-filled a n =
-    omega (arith, length-append a (replicate (n - length a) 32), length-replicate {A = ℕ} (n - length a) 32)
 
 text_less : (a b : List ℕ) (n : ℕ) → SameTo 32 a b n → get_or a n 32 < get_or b n 32 → text_cmp a b ≡ Less
 text_less a b n same less =

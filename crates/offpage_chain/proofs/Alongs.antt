@@ -1,5 +1,5 @@
 -- Along a chain, page by page.
-use Rattle.std.proofs.Common.{◌≡◌, ℕ, zero, suc, ◌+◌, ◌-◌, ◌<◌, ◌≤◌, Bool, true, false, cond, List, [], ◌∷◌, ◌++◌}
+use Rattle.std.proofs.Common.{◌≡◌, ℕ, zero, suc, ◌+◌, ◌-◌, ◌<◌, ◌≤◌, Bool, List, [], ◌∷◌, ◌++◌}
 use Rattle.std.proofs.Common.{length, take, get_or, flat_map, refl, sym, ap, ◌∙◌, subst, inl, inr, Option, Some, None}
 use Rattle.std.proofs.Common.{arith, length-append, append_assoc}
 use Rattle.std.proofs.Math.Seq.{take-append_seam, get_or-append_seam}
@@ -22,6 +22,7 @@ use Rattle.offpage_chain.specs.Chain.{part_length, next_part, part_bytes, pages_
 use Rattle.offpage_chain.specs.ChainChecks.{PlaceChecks, IsChainPart, PageCheck, PartCheck}
 use Rattle.offpage_chain.specs.Places.{PlaceIn}
 use Rattle.offpage_chain.specs.CheckSteps.{pages_in, first_due, DueCheck}
+use Rattle.offpage_chain.proofs.Links.{total_none}
 
 -- the checks of the pages of a chain
 pub record Walk : Type 0 where
@@ -55,14 +56,7 @@ pub record IsAlong (w : Walk) (marks : List Bool) (old text : Reader) (due : Due
   pub counted : count ≡ length before
   pub fed : IsFed old text (bytes_on w.file before)
 
-pub marked_none : (marks : List Bool) → Marked (is_set marks) marks []
-marked_none marks n = elim (is_set marks n) as (λ b. b ≡ cond b true false) [ true ↦ refl | false ↦ refl ]
-
-no_total : (file : List ℕ) → total_on file [] ≡ 0
-unfolding total_on
-no_total file = refl
-
-total_more : (file before : List ℕ) (n : ℕ)
+pub total_more : (file before : List ℕ) (n : ℕ)
     → total_on file (before ++ n ∷ []) ≡ total_on file before + part_length (page_of file n)
 unfolding total_on
 total_more file before n =
@@ -70,11 +64,11 @@ total_more file before n =
     let last = sum_by-cons (λ m. part_length (page_of file m)) n [] in
     omega (arith, sums, last)
 
-no_bytes : (file : List ℕ) → bytes_on file [] ≡ []
+pub no_bytes : (file : List ℕ) → bytes_on file [] ≡ []
 unfolding bytes_on
 no_bytes file = refl
 
-bytes_more : (file before : List ℕ) (n : ℕ)
+pub bytes_more : (file before : List ℕ) (n : ℕ)
     → bytes_on file (before ++ n ∷ []) ≡ bytes_on file before ++ part_bytes (page_of file n)
 unfolding bytes_on
 bytes_more file before n =
@@ -83,14 +77,14 @@ bytes_more file before n =
     (append-nil (part_bytes (page_of file n)))
 
 -- the pages from one on, where some bytes are left
-from_here : (file : List ℕ) (fuel n left : ℕ) → 0 < left → left ≤ fuel
+pub from_here : (file : List ℕ) (fuel n left : ℕ) → 0 < left → left ≤ fuel
     → (less : ℕ) × (fuel ≡ suc less) × (pages_from file fuel n left ≡ n ∷ pages_from file less (next_part
     (page_of file n)) (left - part_length (page_of file n)))
 from_here file zero n left some enough = absurd (omega (arith, some, enough))
 from_here file (suc less) n left some enough =
     (less, refl, rw (ne_eqb left 0 (λ e. omega (arith, e, some))) refl)
 
-from_none : (file : List ℕ) (fuel n : ℕ) → pages_from file fuel n 0 ≡ []
+pub from_none : (file : List ℕ) (fuel n : ℕ) → pages_from file fuel n 0 ≡ []
 from_none file zero n = refl
 from_none file (suc fuel) n = refl
 
@@ -103,7 +97,7 @@ along_start w marks text feeds marked =
       fuel = w.chain.reference.now.length;
       enough = omega arith;
       split = refl;
-      total = omega (arith, no_total w.file);
+      total = omega (arith, total_none w.file);
       holder_is = refl;
       held = λ j d below. absurd (omega (arith, below));
       marked = marked;

@@ -1,12 +1,12 @@
-mod References
+pub mod References
 mod Rests
-mod Alongs
+pub mod Alongs
 pub mod Feeds
-mod Stages
-mod Places
+pub mod Stages
+pub mod Places
 pub mod Links
 pub mod Whole
-mod Writes
+pub mod Writes
 mod PartPages
 mod ValueChains
 mod HeldParts

@@ -7,7 +7,7 @@ use Rattle.space_header.specs.Header.{size_of, header_of}
 use Rattle.extent_map.specs.Head.{HasHeader}
 use Rattle.offpage_chain.specs.ChainChecks.{IsNewPlace}
 
-size_is : (file : List ℕ) (header : SpaceHeader) → HasHeader file header → header.size ≡ size_of file
+pub size_is : (file : List ℕ) (header : SpaceHeader) → HasHeader file header → header.size ≡ size_of file
 unfolding header_of
 size_is file header has = ap (λ (h : SpaceHeader). h.size) has.same
 

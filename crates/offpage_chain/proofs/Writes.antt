@@ -1,12 +1,13 @@
 -- The parts of a value are put one after another, each on its page.
 use Rattle.std.proofs.Common.{◌≡◌, ℕ, ◌+◌, ◌*◌, ◌-◌, ◌<◌, ◌≤◌, ◌++◌, List, length, drop}
-use Rattle.std.proofs.Common.{Option, Some, None, IfSome, unwrap_or, Result, Ok, Err, IsErr, Contains, cond}
+use Rattle.std.proofs.Common.{Option, Some, None, IfSome, Result, Ok, Err, IsErr, Contains, cond}
 use Rattle.std.proofs.Common.{slice_index}
 use Rattle.std.proofs.Common.{refl, sym, ap, ◌∙◌, subst, arith, inl, inr}
-use Rattle.std.specs.FinMap.{get, insert, empty}
+use Rattle.std.specs.FinMap.{get, insert}
 use Rattle.std.proofs.lemmas.Bool.{false≢true, ne_eqb, eq-eqb, cases_lt}
 use Rattle.std.proofs.lemmas.List.{length-take}
 use Rattle.std.proofs.lemmas.List.Elements.{Contains-get_or}
+use Rattle.std.proofs.lemmas.Option.{same_Some}
 use Rattle.page_source.specs.Pages.{be_bytes, with_bytes}
 use Rattle.page_source.specs.declared.objects.PageStore.{Ghosts as StoreOf}
 use Rattle.page_source.specs.Faults.{Rose}
@@ -38,9 +39,6 @@ abbrev IsNone : Option PageMap → Type 0
 IsNone None = Unit {0}
 IsNone (Some x) = ⊥
 
-same_map : (a b : PageMap) → Some a ≡ Some b → a ≡ b
-same_map a b e = ap (λ (o : Option PageMap). unwrap_or o empty) e
-
 -- nothing was put yet
 pub others_none : (numbers : List ℕ) (old : Option PageMap) → HoldsAllBut numbers old old
 others_none numbers None = refl
@@ -56,7 +54,7 @@ others_lost numbers (Some old) (Some now) new n among kept lost = (
   lost.0,
   lost.1,
   λ m other. lost.2 m (λ e. other (subst (λ (x : ℕ). Contains numbers x) (sym e) among))
-      ∙ ap (λ (map : PageMap). get map m) (same_map now kept.0 kept.1) ∙ kept.2 m other,
+      ∙ ap (λ (map : PageMap). get map m) (same_Some now kept.0 kept.1) ∙ kept.2 m other,
 )
 
 -- a page that was put leaves the others

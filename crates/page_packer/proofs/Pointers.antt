@@ -31,7 +31,7 @@ fit_front [] (p ∷ ps) (suc k) fit = absurd fit
 fit_front (f ∷ fs) [] (suc k) fit = absurd fit
 fit_front (f ∷ fs) (p ∷ ps) (suc k) fit = (fit.0, fit_front fs ps k fit.1)
 
-child_part : (n : ℕ) → FitsField child_field (Bytes (be_bytes 4 n) false)
+pub child_part : (n : ℕ) → FitsField child_field (Bytes (be_bytes 4 n) false)
 child_part n = (λ fixed. refl, λ varies. absurd (false≢true varies))
 
 is_pointer : (lower upper : Fields) (first : Entry) (n : ℕ) → PointTo lower upper → n < 2 ^ 32 → FitFields lower first

@@ -6,6 +6,7 @@ pub mod Unique
 pub mod Chains
 pub mod Slots
 pub mod Members
+pub mod Lists
 pub mod Marks
 pub mod Times
 pub mod Told

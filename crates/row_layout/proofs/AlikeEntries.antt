@@ -1,9 +1,10 @@
 -- Numbers of pages change no lengths.
-use Rattle.std.proofs.Common.{true, false, ◌==◌, cond, List, [], ◌∷◌, length, refl}
+use Rattle.std.proofs.Common.{true, false, ◌==◌, cond, [], length, refl}
 use Rattle.std.specs.List.{AllZip}
 use Rattle.compact_record.specs.declared.parts.Part.{Part}
 use Rattle.compact_record.specs.declared.parts.Part.TheVariants.{Null, Bytes}
-use Rattle.tree_layout.specs.Entries.{Entry, IsAlike, AreAlike}
+use Rattle.tree_layout.specs.Entries.{IsAlike, AreAlike}
+use Rattle.tree_layout.proofs.Alike.{alike_all}
 use Rattle.row_layout.specs.StoredRow.{stored_at, part_of_field, parts_of_row}
 use Rattle.row_layout.specs.HoldsValues.{stored_in, clustered_entry, clustered_entries}
 use Rattle.row_layout.specs.SecondaryEntries.{secondary_entries}
@@ -14,14 +15,6 @@ use Rattle.row_layout.proofs.Short.{part_alike, zip_ranges}
 alike_part : (part : Part) → IsAlike part part
 alike_part Null = tt
 alike_part (Bytes bytes external) = (refl, refl)
-
-alike_entry : (entry : Entry) → AreAlike entry entry
-alike_entry [] = tt
-alike_entry (part ∷ parts) = (alike_part part, alike_entry parts)
-
-alike_all : (entries : List Entry) → AllZip AreAlike entries entries
-alike_all [] = tt
-alike_all (entry ∷ entries) = (alike_entry entry, alike_all entries)
 
 pub alike_law : EntriesAreAlike
 unfolding clustered_entries parts_of_row

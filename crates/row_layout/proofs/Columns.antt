@@ -1,6 +1,6 @@
 -- Where a column stands in the key, or among the others.
 use Rattle.std.proofs.Common.{◌≡◌, ℕ, ◌+◌, ◌<◌, ◌==◌, ◌||◌, Bool, true, false, not, Contains}
-use Rattle.std.proofs.Common.{List, [], ◌∷◌, length, get_or, All, refl, sym, ap, ◌∙◌, subst, arith, inl, inr}
+use Rattle.std.proofs.Common.{List, [], ◌∷◌, length, get_or, refl, sym, ap, ◌∙◌, subst, arith, inl, inr}
 use Rattle.std.specs.List.{list_any, range_with_len, position_or_len}
 use Rattle.std.proofs.lemmas.Bool.{eqb-true, eq-eqb, false≢true, cases_lt}
 use Rattle.std.proofs.lemmas.Bool.Decides.{eqb_tells}
@@ -8,7 +8,6 @@ use Rattle.std.proofs.lemmas.List.Sums.{fails_before_first, passes_at_first}
 use Rattle.std.proofs.lemmas.List.Elements.{at_from_Contains}
 use Rattle.page_source.proofs.Members.{contains_here, contains_there, contains_filter, contains_range}
 use Rattle.schema_text.specs.TableDef.{TableDef}
-use Rattle.schema_text.specs.Grammar.{IsTable}
 use Rattle.schema_text.specs.IndexFields.{clustered_positions, other_positions, clustered_key, field_of_column}
 
 abbrev pub place_among : List ℕ → ℕ → ℕ
@@ -56,7 +55,3 @@ pub field_behind : (table : TableDef) (c : ℕ) → has_column (clustered_positi
     → field_of_column table c ≡ length (clustered_key table) + 2 + place_among (other_positions table) c
 unfolding field_of_column
 field_behind table c is = rw is refl
-
--- the columns of the key are columns of the table
-pub key_known : (table : TableDef) → IsTable table → All (λ i. i < length table.columns) (clustered_positions table)
-key_known table is = (is.keys 0 _ (omega (arith, is.clustered))).known

@@ -27,6 +27,7 @@ use Rattle.schema_text.specs.IndexFields.{leaf_fields, key_fields, rest_fields, 
 use Rattle.schema_text.specs.IndexFields.{row_reference}
 use Rattle.schema_text.specs.IndexFields.{clustered_positions, positions_without, columns_at, kept_at, kept_field}
 use Rattle.schema_text.specs.IndexFields.{row_id_field, clustered_key}
+use Rattle.schema_text.proofs.ColumnFields.{key_known}
 use Rattle.row_text.specs.Line.{IsTableRow}
 use Rattle.compact_record.specs.Writing.{part_cell}
 use Rattle.tree_layout.specs.Entries.{Entry, key_of_entry}
@@ -34,7 +35,7 @@ use Rattle.row_layout.specs.StoredRow.{stored_column, row_id, part_of_field}
 use Rattle.row_layout.specs.SecondaryEntries.{stored_reference, stored_entry, secondary_entry, row_entries}
 use Rattle.row_layout.specs.RowKeys.{key_of_row}
 use Rattle.row_layout.specs.EntryLaws.{EntriesDiffer}
-use Rattle.row_layout.proofs.Columns.{key_known, has_column, any_contains}
+use Rattle.row_layout.proofs.Columns.{has_column, any_contains}
 use Rattle.row_layout.proofs.Stored.{StoresField}
 use Rattle.row_layout.proofs.Keys.{cell_of, kinds_are, rises}
 use Rattle.row_layout.proofs.Secondary.{lacking_known, key_of_index, length-entry, stores_entry}

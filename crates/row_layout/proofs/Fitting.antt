@@ -64,7 +64,7 @@ greatest_from (x ∷ xs) a = elim (greatest_from xs (max a x)) [
 ]
 
 -- what is written at a place
-length-with_off : (i : ℕ) (row : List Stored) → length (with_off i row) ≡ length row
+pub length-with_off : (i : ℕ) (row : List Stored) → length (with_off i row) ≡ length row
 length-with_off i [] = refl
 length-with_off zero (field ∷ row) = refl
 length-with_off (suc i) (field ∷ row) = ap suc (length-with_off i row)

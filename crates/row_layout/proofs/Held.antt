@@ -19,7 +19,7 @@ use Rattle.offpage_chain.specs.declared.reference.Reference.{Reference}
 use Rattle.offpage_chain.specs.Reference.{reference_in, reference_of, reference_bytes, FitsReference}
 use Rattle.offpage_chain.specs.Chain.{IsChain}
 use Rattle.offpage_chain.specs.Laws.{HasOneChain}
-use Rattle.row_layout.proofs.References.{reference_read}
+use Rattle.offpage_chain.proofs.References.{reference_read}
 use Rattle.schema_text.specs.declared.table.Format.{Format}
 use Rattle.schema_text.specs.declared.table.Format.TheVariants.{Compact, Dynamic}
 use Rattle.table_check.specs.Values.{bytes_at, front_of, FitsKind, pages_of_value}

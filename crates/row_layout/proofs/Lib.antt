@@ -1,7 +1,6 @@
 pub mod Ranges
 pub mod Chains
 pub mod Lengths
-pub mod References
 pub mod Held
 pub mod Columns
 pub mod Stored

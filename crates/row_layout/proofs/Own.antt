@@ -12,7 +12,7 @@ use Rattle.page_source.proofs.Members.{contains_cases, contains_none, contains_f
 use Rattle.page_source.proofs.Members.{contains_range}
 use Rattle.page_source.proofs.Members.{range_contains}
 use Rattle.page_source.proofs.Times.{times_append, times_cons, contains_times, times_some, times_flat_map, sum_by_same}
-use Rattle.page_source.proofs.Times.{one_if}
+use Rattle.page_source.proofs.Times.{one_if, times_none}
 use Rattle.column_values.specs.declared.value.Value.{Value}
 use Rattle.column_values.specs.Laws.{SpellingSpells}
 use Rattle.space_audit.specs.declared.owner.Owner.{Owner}
@@ -57,13 +57,6 @@ module _ (lists : ℕ → List ℕ) (n limit : ℕ) (once : (i : ℕ) → i < li
             let rest = none_behind from (from + 1) count (omega arith) (omega arith) comes in omega arith
         | inr none ↦ let rest = once_in_all (from + 1) count (omega arith) in omega arith
       ]
-
--- what never comes
-pub never_comes : (xs : List ℕ) (n : ℕ) → ¬ (Contains xs n) → times_in xs n ≡ 0
-never_comes xs n never = elim (cases_lt 0 (times_in xs n)) [
-  | inl comes ↦ absurd (never (contains_times xs n comes))
-  | inr none ↦ omega arith
-]
 
 module _ (format : Format) where
   -- a page of a field, and of a row
@@ -158,7 +151,7 @@ module _ (format : Format) where
         (once_in_all single n count
         (λ k within. few (eqb (number r i k) n) (times_in (single k) n) (cell k))
         (λ k m before within comes.
-        never_comes (single m) n
+        times_none (single m) n
         (λ has.
         let there = only (number r i m) n has in
         let here = only (number r i k) n (contains_times (single k) n comes) in
@@ -182,7 +175,7 @@ module _ (format : Format) where
         once_in_all (λ i. field_page_numbers format (number r i) (stored_at fields i)) n (length fields)
         (λ i field. once_in_field r i row field)
         (λ i j before within comes.
-        never_comes (field_page_numbers format (number r j) (stored_at fields j)) n
+        times_none (field_page_numbers format (number r j) (stored_at fields j)) n
         (λ has.
         let there = field_page (number r j) (stored_at fields j) n has in
         let here = field_page (number r i) (stored_at fields i) n
@@ -197,7 +190,7 @@ module _ (format : Format) where
         once_in_all (λ r. row_page_numbers format (number r) (stored_in stored r)) n (length stored)
         (λ r row. once_in_row r row)
         (λ r s before within comes.
-        never_comes (row_page_numbers format (number s) (stored_in stored s)) n
+        times_none (row_page_numbers format (number s) (stored_in stored s)) n
         (λ has.
         let there = row_page (number s) (stored_in stored s) n has in
         let here = row_page (number r) (stored_in stored r) n
@@ -230,7 +223,7 @@ values_from one spells file table rows stored number h trees each apart = record
       let tree = trees n in
       subst (λ xs. times_in (descents ++ xs) n ≤ 1) (sym same)
       (elim (cases_lt 0 (times_in pages n)) [
-        | inl comes ↦ let none = never_comes descents n (apart n (contains_times pages n comes)) in omega arith
+        | inl comes ↦ let none = times_none descents n (apart n (contains_times pages n comes)) in omega arith
         | inr none ↦ omega arith
       ]);
 }

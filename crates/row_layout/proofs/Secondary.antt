@@ -27,6 +27,7 @@ use Rattle.schema_text.specs.IndexFields.{row_reference, clustered_positions, po
 use Rattle.schema_text.specs.IndexFields.{kept_field, row_id_field}
 use Rattle.schema_text.specs.Laws.{ListsAreOfOneIndex}
 use Rattle.schema_text.proofs.FieldLemmas.{leaf_good}
+use Rattle.schema_text.proofs.ColumnFields.{key_known}
 use Rattle.row_text.specs.Line.{IsTableRow}
 use Rattle.compact_record.specs.declared.parts.Part.{Part}
 use Rattle.compact_record.specs.declared.parts.Part.TheVariants as parts
@@ -39,7 +40,6 @@ use Rattle.row_layout.specs.EntryLaws.{IsShort, EntriesAreShort}
 use Rattle.tree_layout.proofs.Zips.{zip-append, zip_from, zip_length, zip_at}
 use Rattle.row_layout.proofs.Held.{StoresValue}
 use Rattle.row_layout.proofs.Lengths.{spell_fits}
-use Rattle.row_layout.proofs.Columns.{key_known}
 use Rattle.row_layout.proofs.Stored.{StoresField, stores_columns, stores_column, near_columns}
 use Rattle.row_layout.proofs.Fits.{part_fits}
 use Rattle.row_layout.proofs.Short.{short_alone}

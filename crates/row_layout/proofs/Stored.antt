@@ -24,9 +24,9 @@ use Rattle.schema_text.specs.IndexFields.{row_id_field, kept_at, field_of_column
 use Rattle.row_text.specs.Line.{FitsColumn, IsTableRow}
 use Rattle.schema_text.proofs.ColumnFields.{key_count}
 use Rattle.page_source.proofs.Members.{all_members, filter_contains, range_contains}
-use Rattle.schema_text.proofs.ColumnFields.{key_size}
+use Rattle.schema_text.proofs.ColumnFields.{key_size, key_known}
 use Rattle.row_layout.proofs.Columns.{placed, any_contains, has_column, is_other, field_in_key, field_behind}
-use Rattle.row_layout.proofs.Columns.{place_among, key_known}
+use Rattle.row_layout.proofs.Columns.{place_among}
 use Rattle.row_layout.specs.StoredRow.{Stored, stored_at, stored_value, stored_column, stored_key, stored_row, kept}
 use Rattle.row_layout.specs.StoredRow.{row_id}
 use Rattle.tree_layout.proofs.Zips.{zip-append, zip_at}

@@ -1,19 +1,20 @@
 -- Along a chain, page by page.
-use Rattle.std.proofs.Common.{◌≡◌, ℕ, zero, suc, ◌+◌, ◌-◌, ◌<◌, ◌≤◌, Bool, true, false, cond, List, [], ◌∷◌, ◌++◌}
-use Rattle.std.proofs.Common.{length, take, get_or, flat_map, refl, sym, ap, ◌∙◌, subst, inl, inr, Option, Some, None}
+use Rattle.std.proofs.Common.{◌≡◌, ℕ, suc, ◌+◌, ◌-◌, ◌<◌, ◌≤◌, Bool, List, [], ◌∷◌, ◌++◌}
+use Rattle.std.proofs.Common.{length, take, get_or, refl, sym, ap, ◌∙◌, subst, inl, inr, Option, Some, None}
 use Rattle.std.proofs.Common.{arith, length-append, append_assoc}
 use Rattle.std.proofs.Math.Seq.{take-append_seam, get_or-append_seam}
-use Rattle.std.proofs.lemmas.Bool.{ne_eqb, cases_lt}
+use Rattle.std.proofs.lemmas.Bool.{cases_lt}
 use Rattle.std.proofs.lemmas.List.{append-nil}
-use Rattle.std.proofs.lemmas.List.Sums.{sum_by-append, sum_by-cons}
-use Rattle.std.proofs.lemmas.List.Concat.{flat_map-append}
 use Rattle.page_source.specs.Pages.{page_of}
 use Rattle.page_source.specs.Lists.{before_place}
 use Rattle.page_source.specs.Verdict.{AllBefore, EachOf}
 use Rattle.column_values.specs.Utf8Reader.{Reader, IsFed}
 use Rattle.space_audit.specs.Marks.{is_set, seen, Marked}
+use Rattle.space_audit.proofs.Marking.{marked_none}
 use Rattle.offpage_chain.specs.Chain.{part_length, next_part, part_bytes, pages_from, chain_pages, bytes_on, total_on}
 use Rattle.offpage_chain.specs.ChainChecks.{IsChainPart}
+use Rattle.offpage_chain.proofs.Links.{total_none}
+use Rattle.offpage_chain.proofs.Alongs.{total_more, no_bytes, bytes_more, from_here, from_none}
 use Rattle.salvage_model.specs.ColumnChecks.{Lost, PartChecks, PartCheck}
 use Rattle.row_salvage.specs.declared.chain_check.Chain.{Chain}
 use Rattle.row_salvage.specs.declared.chain_check.Due.{Due}
@@ -65,45 +66,6 @@ pub record IsReached (w : Walk) (marks : List Bool) (old text : Reader) (due : D
   pub along : IsAlong w marks old text due count
   pub held : UnderMissed w.start marks f g (Held w along.before)
 
-pub marked_none : (marks : List Bool) → Marked (is_set marks) marks []
-marked_none marks n = elim (is_set marks n) as (λ b. b ≡ cond b true false) [ true ↦ refl | false ↦ refl ]
-
-no_total : (file : List ℕ) → total_on file [] ≡ 0
-unfolding total_on
-no_total file = refl
-
-total_more : (file before : List ℕ) (n : ℕ)
-    → total_on file (before ++ n ∷ []) ≡ total_on file before + part_length (page_of file n)
-unfolding total_on
-total_more file before n =
-    let sums = sum_by-append (λ m. part_length (page_of file m)) before (n ∷ []) in
-    let last = sum_by-cons (λ m. part_length (page_of file m)) n [] in
-    omega (arith, sums, last)
-
-no_bytes : (file : List ℕ) → bytes_on file [] ≡ []
-unfolding bytes_on
-no_bytes file = refl
-
-bytes_more : (file before : List ℕ) (n : ℕ)
-    → bytes_on file (before ++ n ∷ []) ≡ bytes_on file before ++ part_bytes (page_of file n)
-unfolding bytes_on
-bytes_more file before n =
-    flat_map-append (λ m. part_bytes (page_of file m)) before (n ∷ [])
-    ∙ ap (λ (t : List ℕ). flat_map (λ m. part_bytes (page_of file m)) before ++ t)
-    (append-nil (part_bytes (page_of file n)))
-
--- the pages from one on, if some bytes are left
-from_here : (file : List ℕ) (fuel n left : ℕ) → 0 < left → left ≤ fuel
-    → (less : ℕ) × (fuel ≡ suc less) × (pages_from file fuel n left ≡ n ∷ pages_from file less (next_part
-    (page_of file n)) (left - part_length (page_of file n)))
-from_here file zero n left some enough = absurd (omega (arith, some, enough))
-from_here file (suc less) n left some enough =
-    (less, refl, rw (ne_eqb left 0 (λ e. omega (arith, e, some))) refl)
-
-from_none : (file : List ℕ) (fuel n : ℕ) → pages_from file fuel n 0 ≡ []
-from_none file zero n = refl
-from_none file (suc fuel) n = refl
-
 along_start : (w : Walk) (text : Reader) → IsFed text text [] → IsAlong w w.start text text (first_due w.chain) 0
 unfolding chain_pages
 along_start w text feeds = record {
@@ -111,7 +73,7 @@ along_start w text feeds = record {
   fuel = w.chain.reference.length;
   enough = omega arith;
   split = refl;
-  total = omega (arith, no_total w.file);
+  total = omega (arith, total_none w.file);
   holder_is = refl;
   marked = marked_none w.start;
   counted = refl;

@@ -1,11 +1,12 @@
 -- What the checks of a chain answer.
-use Rattle.std.proofs.Common.{◌≡◌, ◌↔◌, ℕ, ◌<◌, ◌≤◌, Bool, IsTrue, List, [], ◌++◌, Option, Some, None}
+use Rattle.std.proofs.Common.{◌≡◌, ℕ, ◌<◌, ◌≤◌, Bool, List, [], ◌++◌, Option, Some, None}
 use Rattle.std.proofs.Common.{refl, arith}
 use Rattle.page_source.specs.declared.rule.Fault.{Fault}
 use Rattle.page_source.specs.declared.rule.Rule.TheVariants.{TextSpelling}
 use Rattle.page_source.specs.Verdict.{EachOf}
-use Rattle.column_values.specs.Utf8Reader.{Reader, IsFed, WasFed, TakesText}
+use Rattle.column_values.specs.Utf8Reader.{Reader}
 use Rattle.space_audit.specs.Marks.{is_set, Marked}
+use Rattle.space_audit.proofs.Marking.{marked_none}
 use Rattle.offpage_chain.specs.Chain.{bytes_on}
 use Rattle.salvage_model.specs.declared.loss.Loss.{Loss}
 use Rattle.salvage_model.specs.declared.loss.Loss.TheVariants.{Broken}
@@ -15,7 +16,7 @@ use Rattle.row_salvage.specs.Missed.{UnderMissed}
 use Rattle.row_salvage.specs.Calls.{AnswersParts, looked_now}
 use Rattle.row_salvage.proofs.Missed.{grew_marked, under_none, under_then, under_more}
 use Rattle.row_salvage.proofs.AlongChain.{Walk, all_pages, Checks, DueChecks, Held, IsReached, IsPassed}
-use Rattle.row_salvage.proofs.AlongChain.{marked_none, reached_breaks, grew_looked}
+use Rattle.row_salvage.proofs.AlongChain.{reached_breaks, grew_looked}
 use Rattle.row_salvage.proofs.ChainVerdict.{parts_break, parts_untold, parts_hold}
 
 pub not_none : (loss : Loss) (P : Type 0) → Some loss ≡ None → P
@@ -102,12 +103,3 @@ module _ (w : Walk) (IsText : List ℕ → Type 0) where
           marked = passed.marked;
         })
         passed.held
-
--- what the text says of the bytes that it was fed
-pub text_says : (old new : Reader) (fed bytes : List ℕ) (result : Bool) → IsFed old new bytes → WasFed old fed
-    → ((text : List ℕ) → WasFed new text → IsTrue result ↔ TakesText new text)
-    → IsTrue result ↔ TakesText old (fed ++ bytes)
-text_says old new fed bytes result f was says =
-    let i = says (fed ++ bytes) (f.fed fed was) in
-    let j = f.same (fed ++ bytes) in
-    ((λ t. j.0 (i.0 t)), (λ t. i.1 (j.1 t)))

@@ -13,6 +13,7 @@ use Rattle.column_values.specs.Characters.{IsTextOfKind}
 use Rattle.column_values.specs.Utf8Reader.{Reader, Any, Limited, Good, Bad, CountsUpTo, TakesText}
 use Rattle.fil_frame.specs.Frame.{space_of}
 use Rattle.space_audit.specs.Marks.{is_set}
+use Rattle.space_audit.proofs.Marking.{marked_none}
 use Rattle.offpage_chain.specs.declared.reference.Reference.{Reference}
 use Rattle.offpage_chain.specs.Reference.{reference_of}
 use Rattle.offpage_chain.specs.Chain.{chain_pages, bytes_on}
@@ -29,7 +30,6 @@ use Rattle.salvage_model.specs.Judged.{lost_by}
 use Rattle.row_salvage.specs.Missed.{UnderMissed}
 use Rattle.row_salvage.specs.Calls.{AnswersParts, AnswersCell}
 use Rattle.row_salvage.proofs.Missed.{under_none, under_more, under_fact}
-use Rattle.row_salvage.proofs.AlongChain.{marked_none}
 use Rattle.row_salvage.proofs.ChainAnswers.{not_none}
 use Rattle.row_salvage.proofs.ChainVerdict.{faulty}
 

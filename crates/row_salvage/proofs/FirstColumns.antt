@@ -9,6 +9,7 @@ use Rattle.std.proofs.lemmas.List.{append-nil, map-append, take_all, get_or_appe
 use Rattle.std.proofs.lemmas.List.Concat.{flat_map-append}
 use Rattle.column_values.specs.declared.value.Value.{Value}
 use Rattle.space_audit.specs.Marks.{is_set, seen, Marked}
+use Rattle.space_audit.proofs.Marking.{marked_none}
 use Rattle.sql_dump.specs.Cells.{CellView, RowOnLeaf, RowView, ReadsValue, cell_of_column, pages_of_cell}
 use Rattle.salvage_model.specs.declared.loss.Loss.{Loss}
 use Rattle.salvage_model.specs.Follow.{Follow}
@@ -18,7 +19,6 @@ use Rattle.row_salvage.specs.Missed.{UnderMissed}
 use Rattle.row_salvage.specs.Calls.{AnswersCell, AnswersRow}
 use Rattle.row_salvage.proofs.Missed.{Grew, grew_marked, marked_then, under_none, under_more, under_then, under_fact}
 use Rattle.row_salvage.proofs.Followed.{follow_none, follow_more}
-use Rattle.row_salvage.proofs.AlongChain.{marked_none}
 use Rattle.row_salvage.proofs.PartialLine.{pages_kept, first_pages, first_none, first_more, first_all, kept_lost}
 use Rattle.row_salvage.proofs.PartialLine.{kept_whole}
 

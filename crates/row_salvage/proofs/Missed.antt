@@ -1,5 +1,5 @@
 -- Facts of the pages that were missed while marks were set.
-use Rattle.std.proofs.Common.{◌≡◌, ◌==◌, ℕ, ◌<◌, ◌≤◌, Bool, true, false, cond, List, [], ◌∷◌, ◌++◌, All}
+use Rattle.std.proofs.Common.{◌≡◌, ℕ, ◌<◌, ◌≤◌, Bool, true, false, cond, List, [], ◌∷◌, ◌++◌, All}
 use Rattle.std.proofs.Common.{subst, length, set, refl, sym, ap, ◌∙◌, inl, inr, length-append, get_or-set_same}
 use Rattle.std.proofs.lemmas.Bool.{false≢true}
 use Rattle.std.proofs.lemmas.Bool.Decides.{eqb_tells}
@@ -9,6 +9,7 @@ use Rattle.space_audit.specs.Marks.{is_in, is_set, Marked}
 use Rattle.salvage_model.specs.Causes.{RoseBy}
 use Rattle.salvage_model.proofs.Causes.{rose_by_none, rose_by_one, rose_by_then}
 use Rattle.row_salvage.specs.Missed.{IsNewly, UnderMissed}
+use Rattle.tree_walk.proofs.Levels.{is_in-append}
 
 -- what was marked still is
 abbrev pub Grew : List Bool → List Bool → Type 0
@@ -23,12 +24,6 @@ grew_not before after n grew not = by_before (is_set before n) (λ is. grew n is
   by_before : (b : Bool) → (b ≡ true → is_set after n ≡ true) → b ≡ false
   by_before true more = absurd (false≢true (sym not ∙ more refl))
   by_before false more = refl
-
-pub is_in_append : (xs ys : List ℕ) (n : ℕ) → is_in (xs ++ ys) n ≡ cond (is_in xs n) true (is_in ys n)
-is_in_append [] ys n = refl
-is_in_append (x ∷ xs) ys n =
-    elim (x == n) as (λ b. cond b true (is_in (xs ++ ys) n) ≡ cond (cond b true (is_in xs n)) true (is_in ys n))
-    [ true ↦ refl | false ↦ is_in_append xs ys n ]
 
 -- a number of which something fails isn't in a list of which it holds
 not_in_all : (P : ℕ → Type 0) (list : List ℕ) (n : ℕ) → All P list → ¬ (P n) → is_in list n ≡ false
@@ -110,13 +105,13 @@ under_then before middle after f g h First Second grew later first second =
             let none : is_in second.list n ≡ false =
             not_in_all (IsNewly middle after) second.list n second.newly
             (λ other. false≢true (sym other.unmarked ∙ new.marked)) in
-            agrees n (early n new) ∙ is_in_append first.list second.list n
+            agrees n (early n new) ∙ is_in-append first.list second.list n
             ∙ ap (λ (b : Bool). cond (is_in first.list n) true b) none ∙ or_false (is_in first.list n)),
         second.holds missed (λ n new.
             let none : is_in first.list n ≡ false =
             not_in_all (IsNewly before middle) first.list n first.newly
             (λ other. false≢true (sym new.unmarked ∙ other.marked)) in
-            agrees n (late n new) ∙ is_in_append first.list second.list n
+            agrees n (late n new) ∙ is_in-append first.list second.list n
             ∙ ap (λ (b : Bool). cond b true (is_in second.list n)) none),
       );
     }
@@ -145,7 +140,7 @@ pub marked_then : (taken : ℕ → Bool) (middle after : List Bool) (first secon
     → Marked (is_set middle) after second → Marked taken after (first ++ second)
 marked_then taken middle after first second one two n =
     two n ∙ ap (λ (b : Bool). cond b true (is_in second n)) (one n)
-    ∙ by_taken (taken n) ∙ ap (λ (b : Bool). cond (taken n) true b) (sym (is_in_append first second n))
+    ∙ by_taken (taken n) ∙ ap (λ (b : Bool). cond (taken n) true b) (sym (is_in-append first second n))
   where
     by_taken : (b : Bool)
         → cond (cond b true (is_in first n)) true (is_in second n)

@@ -1,11 +1,10 @@
 -- The line of a row of which something is lost, value by value.
-use Rattle.std.proofs.Common.{◌≡◌, ℕ, zero, suc, ◌+◌, ◌-◌, ◌<◌, ◌≤◌, ◌==◌, Bool, true, false, ◌&&◌, if◌then◌else◌}
+use Rattle.std.proofs.Common.{◌≡◌, ℕ, zero, suc, ◌+◌, ◌-◌, ◌<◌, ◌≤◌, Bool, true, false, ◌&&◌, if◌then◌else◌}
 use Rattle.std.proofs.Common.{List, [], ◌∷◌, ◌++◌, length, take, map, flat_map, get_or, codes, refl, sym, ap, ◌∙◌}
 use Rattle.std.proofs.Common.{subst}
 use Rattle.std.proofs.Common.{arith, append_assoc, length-append, Option, Some, None, is_some, Err}
 use Rattle.std.specs.Prelude.{is_none}
 use Rattle.std.specs.List.{join_with_byte, zip, range_with_len, list_all}
-use Rattle.std.proofs.lemmas.Bool.Decides.{nat_tests}
 use Rattle.std.proofs.lemmas.List.{append-nil, take_more, take_all, map-append, length-map, length-take-le}
 use Rattle.page_source.specs.Objects.{GrowsBy, GrowsByPart}
 use Rattle.page_source.proofs.Texts.{grows_on, grows_part}
@@ -19,38 +18,10 @@ use Rattle.sql_dump.specs.declared.stop.WriteStop.{WriteStop}
 use Rattle.sql_dump.specs.Stops.{Writes}
 use Rattle.sql_dump.specs.Cells.{CellView, RowView, ReadsValue, cell_of_column, pages_of_cell}
 use Rattle.sql_dump.proofs.Written.{part_more, ends_in_piece}
-use Rattle.sql_dump.proofs.RowLines.{range_more, range_split_at}
+use Rattle.sql_dump.proofs.RowLines.{range_more, range_split_at, join_more, zip_more, zip_size, regroup_behind}
 use Rattle.salvage_model.specs.declared.loss.Loss.{Loss}
 use Rattle.salvage_model.specs.SavedRow.{SavesValue, SavesRow, is_whole_row, pages_unless, saved_pages}
 use Rattle.salvage_model.specs.SavedLine.{saved_text, saved_values, comment_open, saved_line}
-
-before_suc : (n : ℕ) → before_value (suc n) ≡ comma ∷ []
-before_suc n = let test : (suc n == 0) ≡ false = grind (arith, nat_tests) in rw test refl
-
--- one piece more
-join_more : (pieces : List (List ℕ)) (piece : List ℕ)
-    → join_with_byte comma (pieces ++ piece ∷ []) ≡ join_with_byte comma pieces ++ (before_value (length pieces) ++
-    piece)
-join_more [] piece = refl
-join_more (x ∷ []) piece = refl
-join_more (x ∷ y ∷ pieces) piece =
-    let all = join_with_byte comma (x ∷ y ∷ pieces) in
-    ap (λ (text : List ℕ). x ++ (comma ∷ text)) (join_more (y ∷ pieces) piece) ∙ sym (append_assoc x _ _)
-    ∙ ap (λ (before : List ℕ). all ++ (before ++ piece))
-    (before_suc (length pieces) ∙ sym (before_suc (suc (length pieces))))
-
-zip_more : {A B : Type 0} (xs : List A) (ys : List B) (x : A) (y : B) → length xs ≡ length ys
-    → zip (xs ++ x ∷ []) (ys ++ y ∷ []) ≡ zip xs ys ++ (x, y) ∷ []
-zip_more [] [] x y same = refl
-zip_more [] (b ∷ ys) x y same = absurd (omega arith)
-zip_more (a ∷ xs) [] x y same = absurd (omega arith)
-zip_more {A = A} {B = B} (a ∷ xs) (b ∷ ys) x y same =
-    ap (λ (ps : List (A × B)). (a, b) ∷ ps) (zip_more xs ys x y (omega arith))
-
-zip_size : {A B : Type 0} (xs : List A) (ys : List B) → length xs ≡ length ys → length (zip xs ys) ≡ length xs
-zip_size [] ys same = refl
-zip_size (a ∷ xs) [] same = absurd (omega arith)
-zip_size (a ∷ xs) (b ∷ ys) same = ap suc (zip_size xs ys (omega arith))
 
 -- one value more
 saved_more : (columns : List Column) (row : List (Option Value)) (column : Column) (value : Option Value)
@@ -108,9 +79,6 @@ partial_goes_on table row c =
     ap (λ (t : List ℕ). partial_open table ++ t) (range_more (saved_piece table row) c)
     ∙ sym (append_assoc (partial_open table) _ _)
 
-regroup_after : (o a b l d : List ℕ) → (o ++ (a ++ (b ++ l))) ++ d ≡ ((o ++ a) ++ b) ++ (l ++ d)
-regroup_after o a b l d = simp append_assoc
-
 -- of a row of which something is lost
 pub record IsPartial (table : TableDef) (row : List (Option Value)) : Type 0 where
   pub count : length row ≡ length table.columns
@@ -147,7 +115,7 @@ rest_after table row c is within =
       rest = last ++ line_close;
       same = partial_is table row is
           ∙ ap (λ (t : List ℕ). (partial_open table ++ t) ++ line_close) (range_split_at f c n within)
-          ∙ regroup_after (partial_open table) (flat_map f (range_with_len 0 c)) (f c) last line_close;
+          ∙ regroup_behind (partial_open table) (flat_map f (range_with_len 0 c)) (f c) last line_close;
     }
 
 rest_at_start : (table : TableDef) (row : List (Option Value)) → IsPartial table row

@@ -1,9 +1,8 @@
 -- The line of a row of which nothing is lost.
-use Rattle.std.proofs.Common.{◌≡◌, ℕ, zero, suc, true, List, [], ◌∷◌, length, flat_map, get_or}
-use Rattle.std.proofs.Common.{Option, Some, None, Result, Ok, Err, OnOk, refl, sym, ap, ◌∙◌, arith}
+use Rattle.std.proofs.Common.{◌≡◌, ℕ, true, List, [], length, flat_map, get_or}
+use Rattle.std.proofs.Common.{Option, None, Result, Ok, Err, OnOk, refl, sym, ap, ◌∙◌, arith}
 use Rattle.std.specs.List.{range_with_len}
 use Rattle.std.proofs.Math.Path.{fun_ext}
-use Rattle.std.proofs.lemmas.Bool.{false≢true}
 use Rattle.column_values.specs.declared.value.Value.{Value}
 use Rattle.page_source.specs.Objects.{GrowsBy}
 use Rattle.row_text.specs.Line.{line_of}
@@ -17,12 +16,7 @@ use Rattle.salvage_model.specs.declared.loss.Loss.{Loss}
 use Rattle.salvage_model.specs.RowLaws.{WholeLinesAreLines, WholeRowsAreRead, IsReadWhole}
 use Rattle.salvage_model.specs.SavedLine.{saved_line}
 use Rattle.salvage_model.specs.SavedRow.{CanSave, is_whole_row, pages_unless, saved_pages}
-
-no_loss : (losses : List (Option Loss)) (c : ℕ) → is_whole_row losses ≡ true → get_or losses c None ≡ None
-no_loss [] c whole = refl
-no_loss (None ∷ rest) zero whole = refl
-no_loss (None ∷ rest) (suc c) whole = no_loss rest c whole
-no_loss (Some loss ∷ rest) c whole = absurd (false≢true whole)
+use Rattle.salvage_model.proofs.WholeRows.{no_loss}
 
 pub whole_pages : (file : List ℕ) (row : RowView) (losses : List (Option Loss)) → is_whole_row losses ≡ true
     → length (pages_of_all file row) ≡ length (saved_pages file row losses)

@@ -1,8 +1,8 @@
 -- Lists by place.
-use Rattle.std.proofs.Common.{◌≡◌, ℕ, zero, suc, ◌+◌, ◌-◌, ◌<◌, ◌≤◌, List, ◌∷◌, ◌++◌, length, map, take, drop}
-use Rattle.std.proofs.Common.{slice_range, refl, sym, ap, ◌∙◌, arith, add-zero, length-drop}
+use Rattle.std.proofs.Common.{◌≡◌, ℕ, zero, suc, ◌+◌, ◌-◌, ◌<◌, ◌≤◌, List, ◌∷◌, map, take, drop}
+use Rattle.std.proofs.Common.{slice_range, refl, sym, ap, ◌∙◌, arith, add-zero}
 use Rattle.std.specs.List.{range_with_len}
-use Rattle.std.proofs.lemmas.List.{drop-append-le, take-append-le, take-take, drop-take}
+use Rattle.std.proofs.lemmas.List.{take-take, drop-take}
 
 -- over two ranges, the same place by place
 pub map_ranges : {X : Type 0} (f g : ℕ → X) (from to count : ℕ)
@@ -20,12 +20,6 @@ map_ranges {X} f g from to (suc count) same =
     ap f low ∙ same (i + 1) (omega arith) ∙ ap g high) in
     ap (λ (x : X). x ∷ map f (range_with_len (from + 1) count)) here
     ∙ ap (λ (xs : List X). g to ∷ xs) rest
-
--- a part of a list that grows
-pub slice_left : (xs ys : List ℕ) (a b : ℕ) → a ≤ b → b ≤ length xs → slice_range (xs ++ ys) a b ≡ slice_range xs a b
-slice_left xs ys a b rising inside =
-    ap (take (b - a)) (drop-append-le a xs ys (omega (arith, rising, inside)))
-    ∙ take-append-le (b - a) (drop a xs) ys (omega (arith, rising, inside, length-drop a xs))
 
 -- a part of the first ones
 pub slice_taken : (xs : List ℕ) (n a b : ℕ) → a ≤ b → b ≤ n → slice_range (take n xs) a b ≡ slice_range xs a b

@@ -18,8 +18,9 @@ use Rattle.row_store.specs.declared.stored.Lists.{Lists}
 use Rattle.row_store.specs.calls.Stored.{AreSpots, spot_at, spot_start, field_in, row_of}
 use Rattle.row_store.specs.calls.Arena.{Arena, Span, AddsFields, AreRowsIn, LiesIn, spot_of, spots_in}
 use Rattle.row_store.specs.calls.Arena.{bytes_in, span_at, rows_in, span_of, arena_of}
-use Rattle.row_store.proofs.Ranges.{map_ranges, slice_left, slice_taken}
+use Rattle.row_store.proofs.Ranges.{map_ranges, slice_taken}
 use Rattle.row_store.proofs.Spots.{length-row, within_spots, field_seen}
+use Rattle.page_source.proofs.Lists.{slice_range_append}
 
 abbrev no_spot : FieldSpot
 no_spot = record { null = true; off = false; end = 0 }
@@ -127,7 +128,8 @@ row_left spots bytes more are =
           off = (spot_at spots i).off;
           bytes = b;
         } in s)
-        (slice_left bytes more (spot_start spots i) (spot_at spots i).end (are.rising i within) (are.inside i within))
+        (slice_range_append bytes more (spot_start spots i) (spot_at spots i).end (are.rising i within)
+        (are.inside i within))
 
 -- and by those before the end of its last field
 row_taken : (spots : List FieldSpot) (bytes : List ℕ) → AreSpots spots bytes

@@ -5,9 +5,9 @@ use Rattle.std.proofs.Common.{arith, not}
 use Rattle.std.specs.List.{list_any, range_with_len}
 use Rattle.std.proofs.lemmas.Bool.{ne_eqb}
 use Rattle.std.proofs.lemmas.List.{length-append, length-map, length-take-le, take_at, get_or-map, get_or-take}
-use Rattle.std.proofs.lemmas.List.{ext_get_or, map-id, append-nil}
+use Rattle.std.proofs.lemmas.List.{ext_get_or, append-nil}
 use Rattle.std.proofs.lemmas.List.Elements.{All-filter, All-from_get_or, filter-append}
-use Rattle.std.proofs.lemmas.List.FromFn.{length-range_with_len, get_or-range_with_len, map-range_with_len_more}
+use Rattle.std.proofs.lemmas.List.FromFn.{length-range_with_len, get_or-range_with_len}
 use Rattle.column_values.specs.declared.value.Value.{Value}
 use Rattle.compact_record.specs.Writing.{part_cell}
 use Rattle.schema_text.specs.declared.table.Format.{Format}
@@ -22,11 +22,9 @@ use Rattle.row_layout.specs.Fitting.{AreFieldsOf}
 use Rattle.row_layout.specs.RowKeys.{column_key}
 use Rattle.row_store.specs.StoredRows.{value_of}
 use Rattle.row_store.specs.calls.NextRow.{first_cells}
-use Rattle.schema_text.proofs.ColumnFields.{length_known}
+use Rattle.schema_text.proofs.ColumnFields.{length_known, key_known}
 use Rattle.row_store.proofs.Spots.{no_field}
-
-pub key_known : (table : TableDef) → IsTable table → All (λ i. i < length table.columns) (clustered_positions table)
-key_known table is = (is.keys 0 _ (omega (arith, is.clustered))).known
+use Rattle.page_source.proofs.Members.{range_more}
 
 pub others_known : (table : TableDef) → All (λ i. i < length table.columns) (other_positions table)
 others_known table =
@@ -137,11 +135,6 @@ cells_same table old now n are within =
     ∙ sym (get_or-map value_of (take n old) k no_field None (omega arith)))
 
 -- one position more, which is among the others or not
-range_more : (n : ℕ) → range_with_len 0 (n + 1) ≡ range_with_len 0 n ++ n ∷ []
-range_more n =
-    sym (map-id (range_with_len 0 (n + 1))) ∙ map-range_with_len_more (λ (k : ℕ). k) 0 n n (omega arith)
-    ∙ ap (λ (xs : List ℕ). xs ++ n ∷ []) (map-id (range_with_len 0 n))
-
 without_next : (key : List ℕ) (n : ℕ) (b : Bool) → list_any (λ j. eqb j n) key ≡ b
     → positions_without (range_with_len 0 (n + 1)) key
     ≡ positions_without (range_with_len 0 n) key ++ cond (not b) (n ∷ []) []

@@ -1,13 +1,13 @@
 -- How long a stored row is in its record.
 use Rattle.std.proofs.Common.{◌≡◌, ℕ, zero, suc, ◌+◌, ◌-◌, ◌/◌, ◌%◌, ◌<◌, ◌≤◌, min, Bool, true, false, cond, not, ◌&&◌}
 use Rattle.std.proofs.Common.{◌||◌}
-use Rattle.std.proofs.Common.{leb, ◌^◌, ltb, List, [], ◌∷◌, ◌++◌, length, take, map, get_or, zip, flat_map, refl, sym}
+use Rattle.std.proofs.Common.{leb, ◌^◌, ltb, List, [], ◌∷◌, length, take, map, get_or, zip, flat_map, refl, sym}
 use Rattle.std.proofs.Common.{ap, ◌∙◌}
 use Rattle.std.proofs.Common.{arith, inl, inr}
 use Rattle.std.specs.List.{range_with_len, sum_by}
 use Rattle.std.proofs.lemmas.Bool.{cases_lt, le-leb, lt-leb}
-use Rattle.std.proofs.lemmas.List.{length-append, length-take, length-map, get_or-map, ext_get_or, map-id}
-use Rattle.std.proofs.lemmas.List.FromFn.{length-map-range_with_len, get_or-map-range_with_len, map-range_with_len_more}
+use Rattle.std.proofs.lemmas.List.{length-append, length-take, length-map, get_or-map, ext_get_or}
+use Rattle.std.proofs.lemmas.List.FromFn.{length-map-range_with_len, get_or-map-range_with_len}
 use Rattle.std.proofs.lemmas.List.Sums.{sum_by-cons, sum_by_push}
 use Rattle.column_values.specs.declared.field.Field.{Field}
 use Rattle.column_values.specs.Types.{Fields, field_at, child_field, is_variable, is_big}
@@ -19,13 +19,14 @@ use Rattle.compact_record.specs.declared.parts.Part.TheVariants as parts
 use Rattle.compact_record.specs.Reading.{null_bytes}
 use Rattle.compact_record.specs.Writing.{local_bytes, length_of_part, all_null_bytes, all_lengths, null_byte}
 use Rattle.compact_record.specs.Writing.{bytes_below, value_bytes, origin_in, size_of_record}
-use Rattle.offpage_chain.specs.declared.reference.Reference.{Reference}
 use Rattle.offpage_chain.specs.Reference.{reference_bytes}
 use Rattle.row_layout.specs.StoredRow.{Stored, stored_at, kept_prefix, reference_to, off_local, part_of_field}
 use Rattle.row_layout.specs.StoredRow.{parts_of_row}
 use Rattle.row_layout.specs.StoredRow.{size_of_row, is_too_long}
+use Rattle.row_layout.proofs.Held.{length-reference}
 use Rattle.row_store.specs.calls.RowFields.{local_length, length_length, field_size, field_sizes}
 use Rattle.row_store.proofs.Spots.{no_field}
+use Rattle.page_source.proofs.Members.{range_more}
 
 -- the parts of a row, one by one
 abbrev part_in : Format → Stored → Part
@@ -44,10 +45,6 @@ parts_are format row =
     ∙ sym (get_or-map (part_in format) row i no_field parts.Null (omega arith)))
 
 -- how many bytes a field has
-length-reference : (r : Reference) → length (reference_bytes r) ≡ 20
-unfolding reference_bytes
-length-reference r = refl
-
 local_is : (format : Format) (field : Stored) → length (local_bytes (part_in format field)) ≡ local_length format field
 local_is format field = by_marks field.null field.off
   where
@@ -179,8 +176,3 @@ sizes_more format fields row i =
     let f : ℕ → ℕ = λ i. field_size format (field_at fields i) (stored_at row i) in
     ap (sum_by (λ i. field_size format (field_at fields i) (stored_at row i))) (range_more i)
     ∙ sum_by_push (λ i. field_size format (field_at fields i) (stored_at row i)) (range_with_len 0 i) i
-  where
-    range_more : (i : ℕ) → range_with_len 0 (i + 1) ≡ range_with_len 0 i ++ i ∷ []
-    range_more i =
-        sym (map-id (range_with_len 0 (i + 1))) ∙ map-range_with_len_more (λ (k : ℕ). k) 0 i i (omega arith)
-        ∙ ap (λ (xs : List ℕ). xs ++ i ∷ []) (map-id (range_with_len 0 i))

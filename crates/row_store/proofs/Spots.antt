@@ -10,10 +10,11 @@ use Rattle.std.proofs.lemmas.List.FromFn.{length-map-range_with_len, get_or-map-
 use Rattle.std.proofs.lemmas.List.FromFn.{fill_by_all}
 use Rattle.std.specs.List.{range_with_len}
 use Rattle.row_layout.specs.StoredRow.{Stored, stored_at, with_off}
+use Rattle.row_layout.proofs.Fitting.{length-with_off}
 use Rattle.row_store.specs.declared.marks.FieldSpot.{FieldSpot}
 use Rattle.row_store.specs.calls.Stored.{spot_at, spot_start, field_from, field_in, row_of}
 use Rattle.row_store.specs.calls.RowFields.{AreFilled}
-use Rattle.row_store.proofs.Ranges.{slice_left}
+use Rattle.page_source.proofs.Lists.{slice_range_append}
 
 abbrev pub no_spot : FieldSpot
 no_spot = record { null = true; off = false; end = 0 }
@@ -97,7 +98,7 @@ module _ (spots : List FieldSpot) (bytes more : List ℕ) (null : Bool) (end : �
       ap (λ (s : FieldSpot). field_from (bytes ++ more) (spot_start grown i) s) (spot_before i below)
       ∙ ap (λ n. field_from (bytes ++ more) n (spot_at spots i)) (start_same i (omega arith))
       ∙ ap (λ (b : List ℕ). record { null = (spot_at spots i).null; off = (spot_at spots i).off; bytes = b })
-      (slice_left bytes more (spot_start spots i) (spot_at spots i).end (filled.are.rising i below)
+      (slice_range_append bytes more (spot_start spots i) (spot_at spots i).end (filled.are.rising i below)
       (filled.are.inside i below))
 
   field_last : (i : ℕ) → length spots ≡ i
@@ -125,11 +126,6 @@ module _ (spots : List FieldSpot) (bytes more : List ℕ) (null : Bool) (end : �
       ∙ ap (λ (s : Stored). map (field_in spots bytes) (range_with_len 0 n) ++ s ∷ []) (field_last n refl)
 
 -- a field goes off the page
-pub length-off : (i : ℕ) (row : List Stored) → length (with_off i row) ≡ length row
-length-off i [] = refl
-length-off zero (field ∷ row) = refl
-length-off (suc i) (field ∷ row) = ap suc (length-off i row)
-
 off_same : (row : List Stored) (i : ℕ) (d : Stored) → i < length row
     → get_or (with_off i row) i d ≡ record { null = (get_or row i d).null; off = true; bytes = (get_or row i d).bytes }
 off_same [] i d within = absurd (omega arith)
@@ -198,6 +194,6 @@ module _ (spots : List FieldSpot) (bytes : List ℕ) (i : ℕ) (here : FieldSpot
       let size = sent_size in
       let long = length-row sent bytes in
       let short = length-row spots bytes in
-      let off = length-off i (row_of spots bytes) in
+      let off = length-with_off i (row_of spots bytes) in
       ext_get_or no_field (row_of sent bytes) (with_off i (row_of spots bytes)) (omega arith)
       (λ k below. field_at_spot sent bytes k no_field (omega arith) ∙ field_sent k (omega arith))

@@ -31,7 +31,7 @@ mod NumberTexts
 mod WholeLine
 mod Hex
 mod Numbers
-mod Lines
+pub mod Lines
 mod LongValues
 mod Vectors
 mod AsciiTexts

@@ -16,7 +16,7 @@ use Rattle.row_text.specs.Laws.{line_up_to, text_at}
 abbrev joined : List (List ℕ) → List ℕ
 joined texts = join_with_byte comma texts
 
-behind_value : (k : ℕ) → before_value (suc k) ≡ comma ∷ []
+pub behind_value : (k : ℕ) → before_value (suc k) ≡ comma ∷ []
 behind_value k = cond-false (eqb (suc k) 0) [] (comma ∷ []) (ne_eqb (suc k) 0 (λ e. omega (arith, e)))
 
 -- one text more behind the others

@@ -1,9 +1,8 @@
 -- One value more of a row or of a key.
 use Rattle.std.proofs.Common.{◌≡◌, ℕ, zero, suc, ◌+◌, ◌<◌, ◌≤◌, List, [], ◌∷◌, ◌++◌, length, take, drop, get_or, Some}
-use Rattle.std.proofs.Common.{refl, sym, ap, ◌∙◌, subst, arith, append_assoc, eqb}
+use Rattle.std.proofs.Common.{refl, sym, ap, ◌∙◌, subst, arith, append_assoc}
 use Rattle.std.specs.Prelude.{slice_get}
 use Rattle.std.specs.List.{AllZip}
-use Rattle.std.proofs.lemmas.Bool.{cond-false, ne_eqb}
 use Rattle.std.proofs.lemmas.List.{append-nil, append_cancel_left, take_more, drop-drop, length_push, take_all}
 use Rattle.std.proofs.lemmas.List.{length-drop}
 use Rattle.std.proofs.lemmas.Option.{slice_get_within, get_or_from_slice_get}
@@ -19,9 +18,7 @@ use Rattle.row_text.specs.calls.Values.{EndsValue, BeginsColumn}
 use Rattle.row_text.specs.calls.Rows.{HasRead, IsNoText}
 use Rattle.row_text.proofs.Columns.{one_column}
 use Rattle.row_text.proofs.OneLine.{led_values, joined_led, ends_led}
-
-behind_value : (k : ℕ) → before_value (suc k) ≡ comma ∷ []
-behind_value k = cond-false (eqb (suc k) 0) [] (comma ∷ []) (ne_eqb (suc k) 0 (λ e. omega (arith, e)))
+use Rattle.row_text.proofs.Lines.{behind_value}
 
 -- as many values as columns
 pub row_size : (columns : List Column) (row : List Value) → AllZip FitsColumn columns row → length columns ≡ length row

@@ -1,5 +1,5 @@
 -- Lists that are gathered from pieces in another order.
-use Rattle.std.proofs.Common.{◌≡◌, ℕ, suc, Bool, true, false, not, cond, eqb, List, [], ◌∷◌}
+use Rattle.std.proofs.Common.{◌≡◌, ℕ, Bool, true, false, not, cond, eqb, List, [], ◌∷◌}
 use Rattle.std.proofs.Common.{◌++◌, length, map, get_or, filter, flat_map, sum_by, All, Contains, inl, inr, refl}
 use Rattle.std.proofs.Common.{sym, ap, ◌∙◌}
 use Rattle.std.proofs.Common.{subst, arith, append_assoc}
@@ -172,13 +172,6 @@ pub zip_of_map : {A B : Type 0} (R : A → B → Type 0) (f : B → A) (xs : Lis
 zip_of_map R f [] all = tt
 zip_of_map R f (x ∷ xs) all =
     (All-head (λ y. R (f y) y) x xs all, zip_of_map R f xs (All-tail (λ y. R (f y) y) x xs all))
-
-pub zip_length : {A B : Type 0} (R : A → B → Type 0) (xs : List A) (ys : List B) → AllZip R xs ys
-    → length xs ≡ length ys
-zip_length R [] [] zip = refl
-zip_length R [] (y ∷ ys) zip = absurd zip
-zip_length R (x ∷ xs) [] zip = absurd zip
-zip_length R (x ∷ xs) (y ∷ ys) zip = ap suc (zip_length R xs ys zip.1)
 
 -- two lists beside one
 pub same_beside : {A B C L : Type 0} (Q : A → B → Type 0) (R : A → C → Type 0) (f : B → L) (g : C → L)

@@ -19,16 +19,16 @@ use Rattle.fil_frame.specs.Frame.{kind_of}
 use Rattle.space_header.specs.Header.{size_of, limit_of}
 use Rattle.extent_map.specs.Extents.{extent_state, is_used, IsUsed, used_in, is_system_page}
 use Rattle.extent_map.specs.Laws.{UsedPagesAreOfExtents}
+use Rattle.extent_map.proofs.Used.{used_below}
 use Rattle.inode_segments.specs.Inodes.{inode_pages}
 use Rattle.space_audit.specs.declared.owner.Owner.{Owner}
 use Rattle.space_audit.specs.declared.owner.Owner.TheVariants.{System, InodePage, Used, Spare, FragmentFree, FreeExtent}
 use Rattle.space_audit.specs.declared.owner.Owner.TheVariants.{Beyond}
-use Rattle.space_audit.specs.Owners.{owner_of, owner_in_segment, owner_in_fragment, segment_with_slot}
-use Rattle.space_audit.specs.Owners.{IsUsedBy}
+use Rattle.space_audit.specs.Owners.{owner_of}
 use Rattle.space_audit.specs.Audit.{IsKindFor, IsSoundSpace, system_kind}
 use Rattle.space_audit.specs.Marks.{is_in}
 use Rattle.space_audit.proofs.Fragments.{used_extent}
-use Rattle.space_audit.proofs.OwnerFacts.{own_branch}
+use Rattle.space_audit.proofs.OwnerFacts.{used_by}
 use Rattle.offpage_chain.specs.Reference.{reference_of}
 use Rattle.offpage_chain.specs.Chain.{IsBlobPage}
 use Rattle.offpage_chain.specs.Laws.{HasOneChain}
@@ -49,34 +49,11 @@ use Rattle.table_check.specs.Valid.{IsSoundField, IsSoundRow, IsValid}
 use Rattle.leaf_salvage.specs.Leaf.{IsLeafOf, IsWholeLeaf}
 use Rattle.leaf_salvage.specs.Laws.{IndexLeavesAreWhole}
 use Rattle.salvage_model.specs.Laws.{HasOwnId}
-use Rattle.salvage_laws.proofs.Used.{framed_stands, used_limit}
+use Rattle.salvage_laws.proofs.Used.{framed_stands}
 use Rattle.salvage_laws.proofs.Levels.{IsAt, IsOwn, nodes_at, own_at, own_is, leaf_is}
 
 pub is_in_contains : (xs : List ℕ) (n : ℕ) → is_in xs n ≡ true → Contains xs n
 is_in_contains xs n e = let some = occurs_some n xs e in contains_times xs n (omega (arith, some))
-
--- of an owner that is a segment by the tests that lead to it
-spare_used : (used : Bool) (p q s : ℕ) → cond used (Used p) (Spare q) ≡ Used s → used ≡ true
-spare_used true p q s h = refl
-spare_used false p q s h = cc
-
-slot_used : (used system inode : Bool) (p s : ℕ)
-    → cond used (cond system System (cond inode InodePage (Used p))) FragmentFree ≡ Used s → used ≡ true
-slot_used true system inode p s h = refl
-slot_used false system inode p s h = cc
-
--- a page that a segment uses is a used one
-pub used_by : (file : List ℕ) (n s : ℕ) → IsUsedBy file s n → IsUsed file n
-unfolding owner_of
-used_by file n s o =
-    let r = own_branch (nat_lt n (limit_of file)) (extent_state file (n / 64) == 1) (extent_state file (n / 64) == 4)
-    (owner_in_segment file n) (owner_in_fragment file n) s o in
-    elim r.2 [
-      | inl own ↦ spare_used (is_used file n) _ _ s own.1
-      | inr slot ↦
-          slot_used (is_used file n) (is_system_page n) (list_any (λ m. m == n) (inode_pages file))
-          (segment_with_slot file n) s slot.1
-    ]
 
 -- the owners of used pages
 abbrev CanOwn : Owner → Type 0
@@ -204,7 +181,7 @@ module _ (law : UsedPagesAreOfExtents) (one : HasOneChain) (leaves : IndexLeaves
   used_owner : (n : ℕ) → IsUsed file n → CanOwn (owner_of file n)
   unfolding owner_of
   used_owner n u =
-      let inside = used_extent file n space.extents.head.limit.whole (used_limit file n u) in
+      let inside = used_extent file n space.extents.head.limit.whole (used_below file n u) in
       let among : Contains (used_in file (n / 64)) n = ((law file (n / 64)).members n).1 (refl, u) in
       let in_use : (extent_state file (n / 64) == 1) ≡ false = elim (eqb_tells (extent_state file (n / 64)) 1) [
         | inl q ↦
@@ -214,7 +191,7 @@ module _ (law : UsedPagesAreOfExtents) (one : HasOneChain) (leaves : IndexLeaves
       ] in
       can_own (nat_lt n (limit_of file)) (extent_state file (n / 64) == 1) (extent_state file (n / 64) == 4)
       (is_used file n) (is_system_page n) (list_any (λ m. m == n) (inode_pages file)) _ _ _
-      (lt-ltb n (limit_of file) (used_limit file n u)) in_use u
+      (lt-ltb n (limit_of file) (used_below file n u)) in_use u
 
   -- a used page of an index is one of a tree or of a value
   index_reached : (n : ℕ) → IsUsed file n → n < size_of file → kind_of (page_of file n) ≡ index_kind

@@ -13,6 +13,7 @@ use Rattle.tree_walk.specs.Place.{is_leaf_level}
 use Rattle.tree_walk.specs.Descent.{below, Bounded, bounds, IsNode, IsTree, bounded_root}
 use Rattle.tree_walk.specs.Laws.{IsWhole}
 use Rattle.tree_walk.proofs.Descents.{below_is}
+use Rattle.tree_walk.proofs.DescentLaw.{node_of}
 
 -- a page of this level: an index page
 pub record IsAt (index : Index) (level n : ℕ) : Type 0 where
@@ -27,11 +28,6 @@ pub record IsOwn (index : Index) (n : ℕ) : Type 0 where
   pub segment : ℕ
   pub page : IsPageOf index.file segment index_kind n
   pub id : index_id_of (page_in index n) ≡ index_id index
-
-node_of : (index : Index) (level : ℕ) (root : Bool) (b : Bounded) → IsTree index level root b
-    → IsNode index level root b
-node_of index zero root b tree = tree
-node_of index (suc level) root b tree = tree.0
 
 at_node : (index : Index) (level : ℕ) (root : Bool) (b : Bounded) → IsNode index level root b
     → IsAt index level b.page

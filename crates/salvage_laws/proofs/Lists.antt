@@ -1,18 +1,10 @@
 -- Facts on lists.
-use Rattle.std.proofs.Common.{◌≡◌, ℕ, zero, suc, ◌<◌, List, [], ◌∷◌, length, map, take, Contains, Some}
-use Rattle.std.proofs.Common.{inl, inr, ap, subst, arith}
-use Rattle.std.specs.List.{slice_get, range_with_len}
-use Rattle.std.proofs.lemmas.List.FromFn.{get_or-range_with_len, length-range_with_len}
+use Rattle.std.proofs.Common.{◌≡◌, ℕ, zero, suc, ◌<◌, List, [], ◌∷◌, length, take, Contains, Some}
+use Rattle.std.proofs.Common.{inl, inr, subst, arith}
+use Rattle.std.specs.List.{slice_get}
 use Rattle.page_source.specs.Lists.{AreDistinct}
 use Rattle.page_source.proofs.Members.{contains_none, contains_here, contains_there, contains_cases}
 use Rattle.page_source.proofs.Members.{distinct_none, distinct_head, distinct_tail, distinct_cons}
-
-pub contains_map : {X Y : Type 0} (f : X → Y) (xs : List X) (x : X) → Contains xs x → Contains (map f xs) (f x)
-contains_map f [] x h = absurd (contains_none x h)
-contains_map {Y = Y} f (y ∷ ys) x h = elim (contains_cases y ys x h) [
-  | inl e ↦ subst (λ (z : Y). Contains (f y ∷ map f ys) z) (ap f e) (contains_here (f y) (map f ys))
-  | inr k ↦ contains_there (f y) (map f ys) (f x) (contains_map f ys x k)
-]
 
 pub contains_take : {X : Type 0} (n : ℕ) (xs : List X) (x : X) → Contains (take n xs) x → Contains xs x
 contains_take zero xs x h = absurd (contains_none x h)
@@ -28,13 +20,6 @@ distinct_take (suc n) [] h = distinct_none
 distinct_take (suc n) (y ∷ ys) h =
     distinct_cons y (take n ys) (λ c. distinct_head y ys h (contains_take n ys y c))
     (distinct_take n ys (distinct_tail y ys h))
-
-pub distinct_range_from : (a n : ℕ) → AreDistinct (range_with_len a n)
-distinct_range_from a n i j d before below same =
-    let size = length-range_with_len a n in
-    let first = get_or-range_with_len a n i d (omega (arith, before, below, size)) in
-    let second = get_or-range_with_len a n j d (omega (arith, below, size)) in
-    omega (arith, same, first, second, before)
 
 pub place_below : {X : Type 0} (xs : List X) (n : ℕ) (x : X) → slice_get xs n ≡ Some x → n < length xs
 place_below [] n x e = cc

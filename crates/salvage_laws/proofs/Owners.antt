@@ -8,6 +8,7 @@ use Rattle.std.proofs.lemmas.List.FromFn.{get_or-range_with_len, length-range_wi
 use Rattle.page_source.specs.Pages.{page_of}
 use Rattle.page_source.proofs.Members.{contains_filter, filter_contains, contains_range, range_contains}
 use Rattle.page_source.proofs.Members.{flat_map_contains}
+use Rattle.page_source.proofs.Lists.{contains_map, flat_map_has}
 use Rattle.column_values.specs.declared.field.FieldType.{FieldType}
 use Rattle.column_values.specs.declared.field.FieldType.TheVariants.{Column}
 use Rattle.column_values.specs.Types.{Fields, field_at}
@@ -30,8 +31,7 @@ use Rattle.sql_dump.specs.Cells.{row_on, cell_of_column, pages_of_cell}
 use Rattle.sql_dump.proofs.RowPages.{place_is}
 use Rattle.salvage_model.specs.declared.kind.RecordKind.TheVariants.{Live}
 use Rattle.salvage_model.specs.Records.{origin_of, is_place_of, places_of}
-use Rattle.salvage_laws.proofs.Lists.{contains_map}
-use Rattle.salvage_laws.proofs.Pieces.{one_piece, once_piece, once_back, flat_map_has}
+use Rattle.salvage_laws.proofs.Pieces.{one_piece, once_piece, once_back}
 
 -- the pages of a field, and those of a column
 abbrev pub field_pages : List ℕ → List ℕ → ℕ → Fields → ℕ → List ℕ

@@ -1,30 +1,15 @@
 -- Lists that are put together of pieces, in which no number comes twice.
-use Rattle.std.proofs.Common.{◌≡◌, ℕ, zero, suc, ◌+◌, ◌<◌, ◌≤◌, Bool, true, false, cond, List, [], ◌∷◌, ◌++◌, length}
-use Rattle.std.proofs.Common.{take, get_or, flat_map, sum_by, Contains, inl, inr, refl, sym, ap, ◌∙◌, subst, arith}
+use Rattle.std.proofs.Common.{◌≡◌, ℕ, zero, suc, ◌+◌, ◌<◌, Bool, true, false, cond, List, [], ◌++◌, length}
+use Rattle.std.proofs.Common.{take, get_or, flat_map, Contains, inl, inr, refl, sym, ap, ◌∙◌, arith}
 use Rattle.std.proofs.lemmas.Bool.{cases_order}
 use Rattle.std.proofs.lemmas.List.{get_or-take, length-take}
-use Rattle.std.proofs.lemmas.List.Sums.{sum_by-cons, get_or-le-sum_by}
-use Rattle.std.proofs.lemmas.List.Elements.{Contains-append_left, Contains-append_right}
-use Rattle.page_source.specs.Lists.{AreDistinct, times_in}
-use Rattle.page_source.proofs.Members.{contains_none, contains_cases, distinct_none, distinct_cons}
+use Rattle.std.proofs.lemmas.List.Sums.{get_or-le-sum_by}
+use Rattle.page_source.specs.Lists.{times_in}
 use Rattle.page_source.proofs.Times.{times_append, times_flat_map, times_some}
+use Rattle.page_source.proofs.Lists.{two_places}
 use Rattle.space_audit.specs.Marks.{is_in, seen}
 use Rattle.tree_walk.specs.Laws.{ComeOnce}
 use Rattle.salvage_laws.proofs.Leaves.{is_in_contains}
-
--- two members of a sum
-two_places : {X : Type 0} (f : X → ℕ) (xs : List X) (k s : ℕ) (d : X) → k < s → s < length xs
-    → f (get_or xs k d) + f (get_or xs s d) ≤ sum_by f xs
-two_places f [] k s d h l = absurd (omega arith)
-two_places f (x ∷ xs) k zero d h l = absurd (omega arith)
-two_places f (x ∷ xs) zero (suc s) d h l =
-    let r = get_or-le-sum_by f xs s d (omega arith) in
-    let e = sum_by-cons f x xs in
-    omega arith
-two_places f (x ∷ xs) (suc k) (suc s) d h l =
-    let r = two_places f xs k s d (omega arith) (omega arith) in
-    let e = sum_by-cons f x xs in
-    omega arith
 
 not_both : {X : Type 0} (f : X → List ℕ) (xs : List X) → ComeOnce (flat_map f xs) → (i j : ℕ) (d : X) → i < j
     → j < length xs → (n : ℕ) → Contains (f (get_or xs i d)) n → Contains (f (get_or xs j d)) n → ⊥
@@ -56,22 +41,6 @@ once_piece {X = X} f xs once i d below n =
 
 pub once_back : (xs ys : List ℕ) → ComeOnce (xs ++ ys) → ComeOnce ys
 once_back xs ys once n = let both = times_append xs ys n in let most = once n in omega (arith, both, most)
-
-pub are_distinct : (xs : List ℕ) → ComeOnce xs → AreDistinct xs
-are_distinct [] once = distinct_none
-are_distinct (x ∷ xs) once =
-    distinct_cons x xs
-    (λ c. not_both (λ (list : List ℕ). list) ((x ∷ []) ∷ xs ∷ []) (joined once) 0 1 [] (omega arith) (omega arith) x
-    (0, omega arith, refl) c)
-    (are_distinct xs (once_back (x ∷ []) xs once))
-  where
-    joined : ComeOnce (x ∷ xs) → ComeOnce (flat_map (λ (list : List ℕ). list) ((x ∷ []) ∷ xs ∷ []))
-    joined once n =
-        let all = times_append (x ∷ []) (xs ++ []) n in
-        let rest = times_append xs [] n in
-        let front = times_append (x ∷ []) xs n in
-        let most = once n in
-        omega (arith, all, rest, front, most)
 
 -- a number that wasn't taken and isn't in the list
 pub unseen : (taken : ℕ → Bool) (list : List ℕ) (n : ℕ) → taken n ≡ false → ¬ (Contains list n)
@@ -111,12 +80,3 @@ before_taken xs k x c =
       below = omega (arith, size, c.1);
       is = sym (get_or-take k xs c.0 x less) ∙ c.2;
     }
-
--- members of pieces, of any kind
-pub flat_map_has : {X Y : Type 0} (f : X → List Y) (xs : List X) (x : X) (y : Y) → Contains xs x → Contains (f x) y
-    → Contains (flat_map f xs) y
-flat_map_has f [] x y c m = absurd (contains_none x c)
-flat_map_has {X = X} {Y = Y} f (z ∷ zs) x y c m = elim (contains_cases z zs x c) [
-  | inl e ↦ Contains-append_left (f z) (flat_map f zs) y (subst (λ (w : X). Contains (f w) y) (sym e) m)
-  | inr k ↦ Contains-append_right (f z) (flat_map f zs) y (flat_map_has f zs x y k m)
-]

@@ -38,9 +38,11 @@ use Rattle.tree_walk.proofs.LeafFacts.{leaf_facts}
 use Rattle.table_check.specs.Trees.{index_in, clustered_tree}
 use Rattle.table_check.specs.Values.{live_rows}
 use Rattle.table_check.specs.Valid.{IsValid}
+use Rattle.table_check.proofs.ValuesLaw.{are_distinct}
 use Rattle.sql_dump.specs.Cells.{RowView, ReadsRow, row_on, cell_of_column}
 use Rattle.sql_dump.specs.Lines.{ReadsRecord}
 use Rattle.sql_dump.proofs.Dumps.{SoundTable}
+use Rattle.sql_dump.proofs.TableLines.{zip_length}
 use Rattle.leaf_salvage.specs.declared.verdict.Verdict.TheVariants as verdicts
 use Rattle.leaf_salvage.specs.Standing.{Stands}
 use Rattle.leaf_salvage.specs.Unused.{IsUnused}
@@ -68,9 +70,9 @@ use Rattle.salvage_laws.proofs.Used.{all_fetched, framed_stands, unused_known, u
 use Rattle.salvage_laws.proofs.Leaves.{is_in_contains, leaf_stands}
 use Rattle.salvage_laws.proofs.Outcomes.{same_list, one_value}
 use Rattle.salvage_laws.proofs.Owners.{live_origin}
-use Rattle.salvage_laws.proofs.Pieces.{are_distinct, once_back}
+use Rattle.salvage_laws.proofs.Pieces.{once_back}
 use Rattle.salvage_laws.proofs.Gather.{gathered, without_empty, by_places, filter_pieces, filter_map_of, map_map}
-use Rattle.salvage_laws.proofs.Gather.{zip_pieces, zip_of_map, zip_length, same_beside, all_pieces, sum_ones, sum_zeros}
+use Rattle.salvage_laws.proofs.Gather.{zip_pieces, zip_of_map, same_beside, all_pieces, sum_ones, sum_zeros}
 use Rattle.salvage_laws.proofs.Nothing.{HasLaws, IsWholeSaved, IsWholePage, pages_whole, leaf_of}
 
 -- the records of a page by their places

@@ -6,7 +6,8 @@ use Rattle.std.proofs.lemmas.List.{length-map, get_or-map}
 use Rattle.std.proofs.lemmas.Option.{get_or_from_slice_get}
 use Rattle.page_source.specs.Pages.{page_of}
 use Rattle.page_source.specs.Lists.{AreDistinct}
-use Rattle.page_source.proofs.Members.{distinct_filter}
+use Rattle.page_source.proofs.Members.{distinct_filter, range_distinct}
+use Rattle.page_source.proofs.Lists.{contains_map}
 use Rattle.space_audit.specs.Marks.{is_in, seen}
 use Rattle.salvage_model.specs.Judged.{losses_in}
 use Rattle.salvage_model.specs.SavedRow.{is_whole_row}
@@ -17,7 +18,7 @@ use Rattle.salvage_model.specs.Outcome.{Job, SavedRow, Outcome, Unused, Leaf, ro
 use Rattle.salvage_model.specs.Outcome.{looked_of_pages, IsSavedRow, AreSavedRows, ComesOf}
 use Rattle.salvage_model.specs.Saved.{AreFirst}
 use Rattle.salvage_model.specs.Laws.{IsWholeLine, RowsStand}
-use Rattle.salvage_laws.proofs.Lists.{contains_map, contains_take, distinct_take, distinct_range_from, place_below}
+use Rattle.salvage_laws.proofs.Lists.{contains_take, distinct_take, place_below}
 
 -- what comes of page n
 pub comes : (job : Job) (outcomes : List Outcome) (n : ℕ) (outcome : Outcome) → AreFirst job outcomes
@@ -44,7 +45,7 @@ module _ (job : Job) (n : ℕ) (taken : ℕ → Bool) (rows : List SavedRow) (ar
   unfolding places_of
   distinct_places =
       distinct_filter (is_place_of job.kind page) _
-      (distinct_range_from (first_place job.kind page) (list_length job.kind page))
+      (range_distinct (first_place job.kind page) (list_length job.kind page))
 
   pub places_differ : AllPairs (λ (a b : SavedRow). a.place ≢ b.place) rows
   places_differ i j d before below same =

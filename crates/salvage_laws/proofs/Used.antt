@@ -1,6 +1,6 @@
 -- In a sound space a page is known to be free exactly where it isn't used.
 use Rattle.std.proofs.Common.{◌≡◌, ℕ, ◌*◌, ◌/◌, ◌<◌, ◌≤◌, ◌&&◌, nat_lt, Bool, true, false, cond, List}
-use Rattle.std.proofs.Common.{inl, inr, refl, sym, ap, ◌∙◌, subst, arith, lt-ltb, ltb-true}
+use Rattle.std.proofs.Common.{inl, inr, refl, sym, ap, ◌∙◌, subst, arith, lt-ltb}
 use Rattle.std.proofs.lemmas.Bool.{true≢false, cases_lt, ne_eqb}
 use Rattle.std.proofs.lemmas.List.Elements.{All-contains}
 use Rattle.page_source.specs.Pages.{page_of}
@@ -9,8 +9,9 @@ use Rattle.fil_frame.specs.Frame.{IsFramed}
 use Rattle.space_header.specs.Header.{size_of, limit_of}
 use Rattle.extent_map.specs.Extents.{is_used, IsUsed, used_in}
 use Rattle.extent_map.specs.Laws.{UsedPagesAreOfExtents}
+use Rattle.extent_map.proofs.Used.{used_below}
 use Rattle.space_audit.specs.Audit.{HasExtents}
-use Rattle.space_audit.proofs.Fragments.{and_left, and_right, used_extent}
+use Rattle.space_audit.proofs.Fragments.{and_right, used_extent}
 use Rattle.leaf_salvage.specs.Standing.{Stands}
 use Rattle.leaf_salvage.specs.Unused.{map_page, map_kind, IsMap, is_clear_on, IsUnused}
 
@@ -26,10 +27,6 @@ used_clear : (file : List ℕ) (n : ℕ) → IsUsed file n → is_clear_on (page
 unfolding is_used
 used_clear file n u = and_right (nat_lt n (limit_of file)) _ u
 
-pub used_limit : (file : List ℕ) (n : ℕ) → IsUsed file n → n < limit_of file
-unfolding is_used
-used_limit file n u = ltb-true n (limit_of file) (and_left (nat_lt n (limit_of file)) _ u)
-
 unused_clear : (file : List ℕ) (n : ℕ) → is_used file n ≡ false → n < limit_of file
     → is_clear_on (page_of file (map_page n)) n ≡ false
 unfolding is_used
@@ -41,7 +38,7 @@ module _ (law : UsedPagesAreOfExtents) (file : List ℕ) (flags : ℕ) (extents 
   -- a used page is below the size
   pub used_size : (n : ℕ) → IsUsed file n → n < size_of file
   used_size n u =
-      let inside = used_extent file n extents.head.limit.whole (used_limit file n u) in
+      let inside = used_extent file n extents.head.limit.whole (used_below file n u) in
       All-contains (λ (m : ℕ). m < size_of file) (used_in file (n / 64)) n (extents.extents (n / 64) inside).within
       (((law file (n / 64)).members n).1 (refl, u))
 
@@ -80,7 +77,7 @@ module _ (law : UsedPagesAreOfExtents) (file : List ℕ) (flags : ℕ) (extents 
   -- a used page isn't known to be free
   pub used_known : (n : ℕ) → IsUsed file n → ¬ (IsUnused file all_fetched n)
   used_known n u (inl marked) = true≢false (sym (used_clear file n u) ∙ marked.free)
-  used_known n u (inr past) = omega (arith, used_limit file n u, past.past)
+  used_known n u (inr past) = omega (arith, used_below file n u, past.past)
 
   -- and every other page is
   pub unused_known : (n : ℕ) → is_used file n ≡ false → IsUnused file all_fetched n

@@ -17,6 +17,7 @@ use Rattle.compact_record.specs.Reading.{place_of}
 use Rattle.fil_frame.specs.Frame.{IsFramed, space_of}
 use Rattle.space_audit.specs.Audit.{IsSoundSpace}
 use Rattle.space_audit.specs.Marks.{seen}
+use Rattle.space_audit.proofs.OwnerFacts.{used_by}
 use Rattle.offpage_chain.specs.Reference.{reference_of}
 use Rattle.offpage_chain.specs.Chain.{chain_pages, total_on}
 use Rattle.offpage_chain.specs.ChainChecks.{IsChainPlace, IsChainPart, ChainChecksBy}
@@ -32,6 +33,7 @@ use Rattle.tree_walk.specs.Laws.{ComeOnce}
 use Rattle.table_check.specs.Trees.{index_in, clustered_tree}
 use Rattle.table_check.specs.Values.{front_of, pages_of_value, live_rows}
 use Rattle.table_check.specs.Valid.{IsValid, IsSoundLongValue, IsSoundValue, IsSoundField, IsSoundRow}
+use Rattle.table_check.proofs.ValuesLaw.{are_distinct}
 use Rattle.sql_dump.specs.Cells.{CellView, ReadsRow, local_bytes, row_on, cell_of_column, pages_of_cell}
 use Rattle.sql_dump.specs.Lines.{ReadsRecord, ReadsRows}
 use Rattle.sql_dump.proofs.Cells.{sound_value}
@@ -40,8 +42,6 @@ use Rattle.salvage_model.specs.declared.loss.Loss.{Loss}
 use Rattle.salvage_model.specs.ColumnChecks.{Lost, PartChecks, PartsChecksBy, PartsChecks, CellChecks}
 use Rattle.salvage_model.specs.Judged.{lost_by}
 use Rattle.salvage_laws.proofs.Used.{all_fetched}
-use Rattle.salvage_laws.proofs.Leaves.{used_by}
-use Rattle.salvage_laws.proofs.Pieces.{are_distinct}
 use Rattle.salvage_laws.proofs.Owners.{cell_pages, cell_once}
 
 -- what stands beside the member at a place

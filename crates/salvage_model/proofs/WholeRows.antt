@@ -51,7 +51,7 @@ some_again (Some v ∷ rest) each =
     ap (λ (values : List (Option Value)). Some v ∷ values)
     (some_again rest (λ c below. each (suc c) (omega (arith, below))))
 
-no_loss : (losses : List (Option Loss)) (c : ℕ) → is_whole_row losses ≡ true → get_or losses c None ≡ None
+pub no_loss : (losses : List (Option Loss)) (c : ℕ) → is_whole_row losses ≡ true → get_or losses c None ≡ None
 no_loss [] c whole = refl
 no_loss (None ∷ rest) zero whole = refl
 no_loss (None ∷ rest) (suc c) whole = no_loss rest c whole

@@ -10,7 +10,7 @@ use Rattle.std.proofs.lemmas.List.FromFn.{length-map-range_with_len, get_or-map-
 use Rattle.std.proofs.lemmas.List.Sums.{sum_by-le}
 use Rattle.page_source.specs.Objects.{PageMap, Store, file_of}
 use Rattle.page_source.specs.Sources.{SparseFile}
-use Rattle.page_source.proofs.Unique.{IsUnique, Check-unique, Then-unique, Each-unique, some_is_not_none}
+use Rattle.page_source.proofs.Unique.{Check-unique, Each-unique, some_is_not_none}
 use Rattle.schema_text.specs.Grammar.{line_feed}
 use Rattle.schema_text.specs.Cuts.{Lacks}
 use Rattle.schema_text.specs.TableDef.{TableDef}
@@ -28,6 +28,7 @@ use Rattle.space_builder.specs.build.Build.{Builds, HoldsLayout, OfRows}
 use Rattle.space_builder.specs.build.Laws.{GoodTextsBuildValid}
 use Rattle.row_store.specs.BadLine.{BadRow, RowChecks, RowsChecks, AreRowsOf}
 use Rattle.space_builder.specs.build.RootOrder.{RootOrderChecks}
+use Rattle.space_builder.proofs.Outcomes.{row_once}
 use Rattle.sample_table.specs.Sample.{sample_table, sample_rows}
 use Rattle.sample_table.specs.Answers.{IsSampleFile, bytes_of}
 use Rattle.sample_table.proofs.Table.{is_table, roots_in_order}
@@ -87,18 +88,12 @@ no_bad_root line bad =
     some_is_not_none line
     (Each-unique _ _ (λ k. Check-unique _ _) (Some line) None bad (λ j inside. roots_in_order j inside))
 
-row_unique : (table : TableDef) (text : List ℕ) (k : ℕ) → IsUnique (RowChecks table text k)
-unfolding RowChecks
-row_unique table text k =
-    Then-unique _ _ (Check-unique _ _) (Then-unique _ _ (Check-unique _ _) (Then-unique _ _ (Check-unique _ _)
-    (Then-unique _ _ (Check-unique _ _) (Check-unique _ _))))
-
 pub no_bad_line : HasOneRow → (n : ℕ) → n ≤ 200000 → (bad : BadRow)
     → RowsChecks sample_table (text_of sample_table (sample_rows n)) (Some bad) → ⊥
 no_bad_line one n few bad broken =
     some_is_not_none bad
     (Each-unique _ (RowChecks sample_table (text_of sample_table (sample_rows n)))
-    (row_unique sample_table (text_of sample_table (sample_rows n))) (Some bad) None broken (good_text one n few).good)
+    (row_once sample_table (text_of sample_table (sample_rows n))) (Some bad) None broken (good_text one n few).good)
 
 -- what is so of the rows of this text is so of these
 pub of_made : HasOneRow → (n : ℕ) → n ≤ 200000 → (Fact : Rows → Type 0)

@@ -198,7 +198,7 @@ unfolding field_of_column among place_of_column
 field_in_key table c is = rw is refl
 
 -- the key's columns are known
-key_known : (table : TableDef) → IsTable table → All (λ i. i < length table.columns) (clustered_positions table)
+pub key_known : (table : TableDef) → IsTable table → All (λ i. i < length table.columns) (clustered_positions table)
 key_known table is = (is.keys 0 _ (omega (arith, is.clustered))).known
 
 pub key_size : (table : TableDef) → IsTable table

@@ -11,6 +11,7 @@ use Rattle.std.proofs.lemmas.List.Elements.{All-nil, All-cons, All-head, All-tai
 use Rattle.std.proofs.lemmas.List.Elements.{filter-append, filter_map-append}
 use Rattle.std.proofs.lemmas.Option.{slice_get-get_or}
 use Rattle.std.proofs.lemmas.Bool.Decides.{nat_tests}
+use Rattle.std.proofs.lemmas.List.{length-map}
 use Rattle.column_values.specs.declared.field.Field.{Field}
 use Rattle.column_values.specs.declared.field.FieldType.TheVariants.{Child}
 use Rattle.column_values.specs.Types.{IsColumnType, AreListed, AreFields, CanFollow, IsFieldKind, is_big}
@@ -98,15 +99,6 @@ may_follow fields nullable keys i f d are within at =
           (ap (λ (g : Field). is_big g.kind) here ∙ may.0, omega (arith, may.1, short));
     }
 
--- a range with one more place
-pub range_more : (a n : ℕ) → range_with_len a (n + 1) ≡ range_with_len a n ++ (a + n) ∷ []
-range_more a zero = ap (λ (k : ℕ). k ∷ []) (let e : a ≡ a + 0 = omega arith in e)
-range_more a (suc n) =
-    let next : suc n + 1 ≡ suc (n + 1) = omega arith in
-    let last : a + 1 + n ≡ a + suc n = omega arith in
-    ap (range_with_len a) next
-    ∙ ap (λ rest. a ∷ rest) (range_more (a + 1) n ∙ ap (λ (k : ℕ). range_with_len (a + 1) n ++ k ∷ []) last)
-
 -- no position is among none
 pub without_none : (xs : List ℕ) → positions_without xs [] ≡ xs
 without_none [] = refl
@@ -117,10 +109,6 @@ a_column : (columns : List Column) (p : ℕ) → p < length columns → (c : Col
 a_column [] p h = absurd (omega arith)
 a_column (c ∷ columns) zero h = (c, refl)
 a_column (c ∷ columns) (suc p) h = a_column columns p (omega arith)
-
-length_map : {X Y : Type 0} (f : X → Y) (xs : List X) → length (map f xs) ≡ length xs
-length_map f [] = refl
-length_map f (x ∷ xs) = ap (λ (n : ℕ). suc n) (length_map f xs)
 
 pub length_made : (f : Column → Field) (columns : List Column) (positions : List ℕ)
     → All (λ i. i < length columns) positions → length (made_at f columns positions) ≡ length positions
@@ -153,7 +141,7 @@ pub few_made : (f : Column → Field) (columns : List Column) (positions others 
 few_made f columns positions others =
     omega (
       arith,
-      length_map f (columns_at columns (positions_without positions others)),
+      length-map (columns_at columns (positions_without positions others)) f,
       few_columns columns
           (positions_without positions others),
       few_filtered (λ i. not (list_any (λ j. j == i) others)) positions,

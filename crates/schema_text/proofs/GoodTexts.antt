@@ -23,7 +23,7 @@ use Rattle.schema_text.proofs.PartLemmas.{part_begun, part_with_column, part_wit
 use Rattle.schema_text.proofs.PartLemmas.{words_with_first, words_with_more, length-schema_words}
 use Rattle.schema_text.proofs.ReadBack.{no_column}
 use Rattle.schema_text.proofs.ReadLemmas.{first_good}
-use Rattle.schema_text.proofs.ReadingLemmas.{next_good}
+use Rattle.schema_text.proofs.ReadingLemmas.{next_good, first_checked}
 use Rattle.schema_text.proofs.WordsBack.{text_back}
 
 -- the checks of a line speak of the lines up to it alone
@@ -64,11 +64,6 @@ good_more t u line good part words passes =
           ]);
     }
 
-first_passes : (lines : List Line) (j : ℕ) → j < 1 → FirstChecks (get_or lines 0 []) None → LineChecks lines j None
-unfolding LineChecks
-first_passes lines zero below h = h
-first_passes lines (suc j) below h = absurd (omega (arith, below))
-
 -- the table with its first columns, and with its first indexes
 abbrev with_columns : TableDef → ℕ → TableDef
 with_columns t k = record { table = t.table; format = t.format; columns = take k t.columns; indexes = [] }
@@ -84,7 +79,7 @@ begun_good t is =
     record {
       part = part_begun t.table t.format is.name;
       checked = λ j below.
-          first_passes (schema_words begun) j (omega (arith, below, ap length words))
+          first_checked (schema_words begun) j (omega (arith, below, ap length words))
           (subst (λ (lines : List Line). FirstChecks (get_or lines 0 []) None) (sym words)
           (first_good (table_words begun) (refl, refl, is_format _ t.format refl) is.name));
     }

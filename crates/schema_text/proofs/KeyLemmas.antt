@@ -1,11 +1,12 @@
 -- The columns of a key, one after the other.
 use Rattle.std.proofs.Common.{◌≡◌, ℕ, ◌+◌, ◌-◌, ◌<◌, ◌≤◌, Bool, true, false, List, [], ◌∷◌, ◌++◌, length, take, drop}
 use Rattle.std.proofs.Common.{get_or, All, Option, Some, None, refl, sym, ap, ◌∙◌, subst, sum_by, arith}
-use Rattle.std.specs.List.{cons_option, AllZip}
+use Rattle.std.specs.List.{cons_option}
 use Rattle.std.proofs.lemmas.List.{get_or-drop, get_or_at, length-drop, take_more, drop_more, take-append-drop}
 use Rattle.std.proofs.lemmas.List.{take_all, length-append}
 use Rattle.std.proofs.lemmas.List.Elements.{All-nil, All-push, filter_map-append}
 use Rattle.std.proofs.lemmas.List.Sums.{sum_by-append}
+use Rattle.std.proofs.lemmas.Slice.Zip.{all_zipped_more}
 use Rattle.column_values.specs.Types.{greatest_length}
 use Rattle.schema_text.specs.declared.table.Format.{Format}
 use Rattle.schema_text.specs.declared.table.Column.{Column}
@@ -136,18 +137,11 @@ pub key_known : (P : List ℕ → Type 0) (line : Line) (from i : ℕ) (w : List
 key_known P line from i w low high e all =
     subst P (sym e) (subst P (place_of line from i low) (all (i - from) [] (omega (arith, length-drop from line))))
 
-zip_push : {A B : Type 0} (R : A → B → Type 0) (xs : List A) (ys : List B) (x : A) (y : B) → AllZip R xs ys → R x y
-    → AllZip R (xs ++ x ∷ []) (ys ++ y ∷ [])
-zip_push R [] [] x y h r = (r, tt)
-zip_push R [] (b ∷ ys) x y h r = absurd h
-zip_push R (a ∷ xs) [] x y h r = absurd h
-zip_push R (a ∷ xs) (b ∷ ys) x y h r = (h.0, zip_push R xs ys x y h.1 r)
-
 pub places_more : (columns : List Column) (line : Line) (from i : ℕ) (places : List ℕ) (w : List ℕ) (place : ℕ)
     → from ≤ i → i < length line → w ≡ get_or line i [] → ArePlacesOf columns (keys_between line from i) places
     → IsPlaceOf columns w place → ArePlacesOf columns (keys_between line from (i + 1)) (places ++ place ∷ [])
 places_more columns line from i places w place low high e h p =
-    rw (keys_more line from i low high) (zip_push (IsPlaceOf columns) (keys_between line from i) places
+    rw (keys_more line from i low high) (all_zipped_more (IsPlaceOf columns) (keys_between line from i) places
     (get_or line i []) place h (subst (λ v. IsPlaceOf columns v place) e p))
 
 -- the key of the next index

@@ -1,15 +1,16 @@
 -- The names of columns, and the places where they stand.
 use Rattle.std.proofs.Common.{◌≡◌, ◌≢◌, ℕ, ◌<◌, Bool, true, false, cond, List, [], ◌∷◌}
-use Rattle.std.proofs.Common.{length, get_or, Option, Some, None, sym, subst}
+use Rattle.std.proofs.Common.{length, get_or, Option, Some, None, sym}
 use Rattle.std.proofs.Common.{All, Decides}
 use Rattle.std.proofs.lemmas.Bool.{false≢true}
 use Rattle.std.proofs.lemmas.List.Elements.{All-nil, All-cons}
-use Rattle.std.specs.Prelude.{position, bytes_eq, Any}
+use Rattle.std.specs.Prelude.{position, bytes_eq}
 use Rattle.schema_text.specs.Refusals.{column_named}
 use Rattle.schema_text.specs.Cuts.{IsAmong}
 use Rattle.schema_text.proofs.Positions.{none_passes}
 use Rattle.std.proofs.lemmas.Slice.Eq.{bytes_eq-Decides}
 use Rattle.schema_text.specs.declared.table.Column.{Column}
+use Rattle.schema_text.proofs.ColumnCheckLemmas.{any_not_all}
 
 abbrev pub has_name : List ℕ → Column → Bool
 has_name name c = bytes_eq c.name name
@@ -21,9 +22,6 @@ unnamed columns name none k d within e =
     let fails = none_passes (has_name name) columns (sym none) k d within in
     let passes = (bytes_eq-Decides (get_or columns k d).name name).1 e in
     cc
-
-any_not_all : {X : Type 0} (P : X → Type 0) (xs : List X) → Any P xs → All (λ x. P x → ⊥) xs → ⊥
-any_not_all P xs h all = all h.0 h.1 h.2 (subst P (sym h.3) h.4)
 
 -- a column that is there is found
 pub not_missed : (columns : List Column) (name : List ℕ) → IsAmong columns name

@@ -2,7 +2,7 @@
 use Rattle.std.proofs.Common.{◌≡◌, ◌≢◌, ℕ, zero, suc, ◌+◌, ◌≤◌, false, List, [], ◌∷◌, ◌++◌, length, map, take, drop}
 use Rattle.std.proofs.Common.{All, refl, sym, ap, ◌∙◌, subst, arith}
 use Rattle.std.specs.Prelude.{slice_get, AllPairs, IfSome}
-use Rattle.std.proofs.lemmas.List.{append_assoc, append-nil, length-append}
+use Rattle.std.proofs.lemmas.List.{append_assoc, append-nil, length-append, length-map}
 use Rattle.std.proofs.lemmas.List.Elements.{All-nil, All-push}
 use Rattle.std.proofs.lemmas.List.Quantifiers.{all_pairs_push}
 use Rattle.column_values.specs.Types.{IsColumnType}
@@ -194,21 +194,17 @@ pub words_with_more : (t : TableDef) (x : IndexDef) → 1 ≤ length t.indexes
 unfolding schema_words
 words_with_more t x some = more_words (heads t) (clustered_words t) (index_words t) t.indexes x some
 
-length_map : {X Y : Type 0} (f : X → Y) (xs : List X) → length (map f xs) ≡ length xs
-length_map f [] = refl
-length_map f (x ∷ xs) = ap (λ (n : ℕ). suc n) (length_map f xs)
-
 length_words : (hs : List Line) (f g : IndexDef → Line) (xs : List IndexDef)
     → length (hs ++ map f (take 1 xs) ++ map g (drop 1 xs)) ≡ length hs + length xs
 length_words hs f g [] = ap length (no_words hs f g [] refl) ∙ omega arith
 length_words hs f g (x ∷ xs) = length-append (hs ++ f x ∷ []) (map g xs)
-    ∙ omega (arith, length-append hs (f x ∷ []), length_map g xs)
+    ∙ omega (arith, length-append hs (f x ∷ []), length-map xs g)
 
 -- a line for the table, for each column and for each index
 pub length-schema_words : (t : TableDef) → length (schema_words t) ≡ length t.columns + length t.indexes + 1
 unfolding schema_words
 length-schema_words t = length_words (heads t) (clustered_words t) (index_words t) t.indexes
-    ∙ omega (arith, length_map column_words t.columns)
+    ∙ omega (arith, length-map t.columns column_words)
 
 pub words_no_index : (t : TableDef) → length t.indexes ≡ 0 → schema_words t ≡ table_words t ∷ map column_words t.columns
 unfolding schema_words

@@ -29,7 +29,7 @@ pub record IsReading (text rest : List ℕ) (t : TableDef) : Type 0 where
   pub checked : AllBelow (LineChecks (lines_of text)) (length (schema_words t))
 
 -- the first line
-first_checked : (lines : List Line) (j : ℕ) → j < 1 → FirstChecks (get_or lines 0 []) None → LineChecks lines j None
+pub first_checked : (lines : List Line) (j : ℕ) → j < 1 → FirstChecks (get_or lines 0 []) None → LineChecks lines j None
 unfolding LineChecks
 first_checked lines zero below h = h
 first_checked lines (suc j) below h = absurd (omega arith)

@@ -28,6 +28,7 @@ use Rattle.schema_text.proofs.Decisions.{name_decided, part_decided, table_form,
 use Rattle.schema_text.proofs.Decisions.{index_form}
 use Rattle.schema_text.proofs.Decisions.{new_column, declared_decided, root_word, counts_decided, new_names, new_root}
 use Rattle.schema_text.proofs.Decisions.{key_decided}
+use Rattle.schema_text.proofs.ReadLemmas.{three_words_are}
 
 -- a check before others
 before : (why : SchemaWhy) (holds : Type 0) (rest : Option SchemaWhy → Type 0) → IsDecided holds → HasAnswer rest
@@ -113,15 +114,11 @@ at_answered number checks answer = by_answer answer.0 answer.1
 abbrev TableOf : List Line → Type 0
 TableOf lines = (t : TableDef) × AreLinesOf t lines
 
-three_words : (line : Line) → length line ≡ 3 → line ≡ word line 0 ∷ word line 1 ∷ word line 2 ∷ []
-three_words (a ∷ b ∷ c ∷ []) h = refl
-three_words _ h = absurd (omega arith)
-
 begun : (line : Line) (format : Format) → FirstChecks line None → word line 2 ≡ format_word format
     → TableOf (line ∷ [])
 unfolding FirstChecks
 begun line format h e =
-    let words = three_words line h.0.0
+    let words = three_words_are line h.0.0
     ∙ ap₂ (λ (a b : List ℕ). a ∷ word line 1 ∷ b ∷ []) h.0.1 e in (
       record { table = word line 1; format = format; columns = []; indexes = [] },
       record {

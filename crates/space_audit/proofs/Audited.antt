@@ -15,7 +15,7 @@ use Rattle.space_audit.specs.Owners.{owner_of, IsUsedBy, owner_in_segment, owner
 use Rattle.space_audit.specs.Audit.{AuditChecks, OwnerChecks}
 use Rattle.space_audit.specs.Space.{SpaceView, IsAuditOf, HasAuditedSize, IsPageOf}
 
-head_size : (file : List ℕ) (space : SpaceView) → IsAuditOf file space → IsSize (size_of file) (page_count file)
+pub head_size : (file : List ℕ) (space : SpaceView) → IsAuditOf file space → IsSize (size_of file) (page_count file)
 unfolding OwnerChecks HeaderChecks
 head_size file space a = a.sound.0.0.1.1.1.1.1.0
 

@@ -20,6 +20,7 @@ use Rattle.extent_map.specs.Extents.{extent_count, is_used, IsUsed, used_in, is_
 use Rattle.extent_map.specs.Extents.{is_fragment_page, is_system_page}
 use Rattle.extent_map.specs.Descriptors.{IsExtent}
 use Rattle.extent_map.specs.Laws.{UsedPagesAreOfExtents}
+use Rattle.extent_map.proofs.Used.{used_below}
 use Rattle.inode_segments.specs.declared.inode.Inode.{Inode}
 use Rattle.inode_segments.specs.Inodes.{inode_of, inode_pages, full_pages, free_pages, segments}
 use Rattle.inode_segments.specs.InodeChecks.{AreInodes}
@@ -29,7 +30,7 @@ use Rattle.space_audit.specs.Holders.{Claim, inode_holder, no_holder, many_holde
 use Rattle.space_audit.specs.Holders.{claims_from, claims_in, inode_claims, first_holder, IsOnce, IsHeld}
 use Rattle.space_audit.proofs.ListSteps.{get_other, inode_there}
 use Rattle.space_audit.proofs.OwnerFacts.{get_at}
-use Rattle.space_audit.proofs.Fragments.{and_left, and_right, both_true, used_below, used_extent}
+use Rattle.space_audit.proofs.Fragments.{and_left, and_right, both_true, used_extent}
 use Rattle.space_audit.proofs.Claims.{used_in_has}
 use Rattle.space_audit.proofs.Held.{claimed_pages, Holders, held_one, held_none}
 use Rattle.space_audit.proofs.HeldOwners.{pages_claimed, mapped, whose, once_is_claimed}

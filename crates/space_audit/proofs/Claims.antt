@@ -17,12 +17,13 @@ use Rattle.extent_map.specs.Extents.{extent_of, extent_count, extent_state, IsUs
 use Rattle.extent_map.specs.Extents.{is_fragment_extent, is_fragment_page, is_system_page}
 use Rattle.extent_map.specs.Descriptors.{IsExtent}
 use Rattle.extent_map.specs.Laws.{UsedPagesAreOfExtents}
+use Rattle.extent_map.proofs.Used.{used_below}
 use Rattle.inode_segments.specs.Inodes.{inode_of, inode_pages, full_pages, free_pages, segments, segment_id, slot_pages}
 use Rattle.inode_segments.specs.InodeChecks.{IsInodePage}
 use Rattle.space_audit.specs.Lists.{is_extent_of, segment_extents, HasHome}
 use Rattle.space_audit.specs.Owners.{system_pages, claim_of, claims, IsPartition}
 use Rattle.space_audit.specs.Audit.{IsFragmentUse, IsSlot, IsUsedFragment, fragment_claims}
-use Rattle.space_audit.proofs.Fragments.{used_below, used_extent, fragment_used, fragment_extent, fragment_not_own}
+use Rattle.space_audit.proofs.Fragments.{used_extent, fragment_used, fragment_extent, fragment_not_own}
 use Rattle.space_audit.proofs.Fragments.{state_fragment}
 
 -- a used page is among those of its extent, and not in another

@@ -14,6 +14,7 @@ use Rattle.space_header.specs.declared.address.Address.{Address}
 use Rattle.space_header.specs.Header.{limit_of}
 use Rattle.extent_map.specs.declared.extent.Extent.{Extent}
 use Rattle.extent_map.specs.Extents.{extent_of, extent_count, extent_state, used_count, is_used, is_system_page}
+use Rattle.extent_map.proofs.Readers.{extents_count}
 use Rattle.space_audit.proofs.Fragments.{state_fragment}
 use Rattle.inode_segments.specs.Inodes.{inode_pages, segments, slot_pages}
 use Rattle.inode_segments.specs.Kept.{InodesView}
@@ -31,7 +32,7 @@ use Rattle.space_audit.proofs.HomeNumbers.{home_at, number_own, part_small}
 use Rattle.space_audit.proofs.ListSteps.{get_other}
 use Rattle.space_audit.proofs.Held.{claimed_pages, held_one}
 use Rattle.space_audit.proofs.HeldOwners.{fragment_times, whose}
-use Rattle.space_audit.proofs.ReadExtents.{extent_is, extents_length}
+use Rattle.space_audit.proofs.ReadExtents.{extent_is}
 use Rattle.space_audit.proofs.Sound.{claims_sound}
 
 position_few : (file : List ℕ) (id : ℕ) → segment_with_id file id ≤ length (segments file)
@@ -122,7 +123,7 @@ found_beyond file extents inodes homes n h l =
     sym (file_beyond file n (omega (
       arith,
       l,
-      extents_length file extents h.read.extents_are,
+      extents_count file extents h.read.extents_are,
       h.read.extents_are.whole,
     )))
 

@@ -1,6 +1,6 @@
 -- What a used page is, and a page of a fragment extent.
-use Rattle.std.proofs.Common.{◌≡◌, ℕ, ◌/◌, ◌%◌, ◌<◌, ◌≤◌, Bool, true, false, not, ◌&&◌, ◌||◌, nat_lt, ◌==◌, List, refl}
-use Rattle.std.proofs.Common.{subst, ap, inl, inr, arith, ltb-true}
+use Rattle.std.proofs.Common.{◌≡◌, ℕ, ◌/◌, ◌%◌, ◌<◌, ◌≤◌, Bool, true, false, not, ◌&&◌, ◌||◌, ◌==◌, List, refl}
+use Rattle.std.proofs.Common.{subst, ap, inl, inr, arith}
 use Rattle.std.proofs.lemmas.Bool.{false≢true}
 use Rattle.std.proofs.lemmas.Bool.Decides.{eqb_tells}
 use Rattle.space_header.specs.Header.{limit_of}
@@ -19,11 +19,7 @@ pub both_true : (a b : Bool) → a ≡ true → b ≡ true → (a && b) ≡ true
 both_true true b h k = k
 both_true false b h k = absurd (false≢true h)
 
--- a used page is below the free limit, in an extent below the count
-pub used_below : (file : List ℕ) (n : ℕ) → IsUsed file n → n < limit_of file
-unfolding is_used
-used_below file n h = ltb-true n (limit_of file) (and_left (nat_lt n (limit_of file)) _ h)
-
+-- a page below the free limit is in an extent below the count
 pub used_extent : (file : List ℕ) (n : ℕ) → limit_of file % 64 ≡ 0 → n < limit_of file → n / 64 < extent_count file
 used_extent file n w h = omega arith
 

@@ -1,4 +1,4 @@
--- One number more is marked.
+-- Which numbers are marked: at the start, and after one more.
 use Rattle.std.proofs.Common.{◌≡◌, ◌==◌, ℕ, ◌+◌, ◌<◌, Bool, true, false, cond, List, [], ◌∷◌, ◌++◌, length, get_or, set}
 use Rattle.std.proofs.Common.{refl, sym, inl, inr, get_or-set_same, get_or-set_other}
 use Rattle.std.proofs.lemmas.Bool.{cases_eq, eq-eqb, ne_eqb}
@@ -42,3 +42,6 @@ marked_still marks y n h m = elim (cases_eq n y) [
 pub unmarked_fewer : (marks : List Bool) (n : ℕ) → n < length marks → is_set marks n ≡ false
     → unmarked (set marks n true) + 1 ≡ unmarked marks
 unmarked_fewer marks n h new = fewer marks n h new
+
+pub marked_none : (marks : List Bool) → Marked (is_set marks) marks []
+marked_none marks n = elim (is_set marks n) as (λ b. b ≡ cond b true false) [ true ↦ refl | false ↦ refl ]

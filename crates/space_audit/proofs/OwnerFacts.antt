@@ -1,5 +1,5 @@
 -- A segment uses exactly the used pages that it claims.
-use Rattle.std.proofs.Common.{◌≡◌, ◌⊎◌, ℕ, zero, suc, ◌+◌, ◌/◌, ◌<◌, ◌≤◌, Bool, true, false, cond, ◌||◌, nat_lt, ◌==◌}
+use Rattle.std.proofs.Common.{◌≡◌, ◌⊎◌, ℕ, zero, suc, ◌+◌, ◌/◌, ◌<◌, Bool, true, false, cond, ◌||◌, nat_lt, ◌==◌}
 use Rattle.std.proofs.Common.{List, [], ◌∷◌, ◌++◌, length, get_or, slice_get, map, flat_map, sum_by, Contains, Some}
 use Rattle.std.proofs.Common.{refl, sym, ◌∙◌, ap, subst, inl, inr, arith, lt-ltb}
 use Rattle.std.specs.List.{range_with_len, list_any, position_or_len}
@@ -7,7 +7,7 @@ use lib.ListN.{get_or-map}
 use Rattle.std.proofs.lemmas.List.{length-map}
 use Rattle.std.proofs.lemmas.Bool.{false≢true}
 use Rattle.std.proofs.lemmas.Bool.Decides.{Decides-eqb, eqb_tells}
-use Rattle.std.proofs.lemmas.List.Sums.{sum_by-cons, get_or-le-sum_by, position_or_len_is, passes_at_first}
+use Rattle.std.proofs.lemmas.List.Sums.{position_or_len_is, passes_at_first}
 use Rattle.std.proofs.lemmas.List.Elements.{Contains-get_or, Contains-append_cases, Contains-append_left}
 use Rattle.std.proofs.lemmas.List.Elements.{Contains-append_right}
 use Rattle.std.proofs.lemmas.Option.{slice_get_read}
@@ -15,11 +15,13 @@ use Rattle.page_source.specs.Lists.{AreDistinct, times_in}
 use Rattle.page_source.proofs.Members.{contains_none, contains_here, contains_there, contains_cases, contains_filter}
 use Rattle.page_source.proofs.Members.{filter_contains, contains_range, Piece, contains_flat_map, flat_map_contains}
 use Rattle.page_source.proofs.Times.{times_append, times_flat_map, times_some, contains_times}
+use Rattle.page_source.proofs.Lists.{two_places}
 use Rattle.space_header.specs.declared.address.Address.{Address}
 use Rattle.space_header.specs.Header.{limit_of}
 use Rattle.extent_map.specs.Extents.{extent_of, extent_count, extent_state, is_used, IsUsed, used_in}
 use Rattle.extent_map.specs.Extents.{is_fragment_extent, is_system_page}
-use Rattle.space_audit.proofs.Fragments.{and_left, and_right, used_below, fragment_not_own}
+use Rattle.extent_map.proofs.Used.{used_below}
+use Rattle.space_audit.proofs.Fragments.{and_left, and_right, fragment_not_own}
 use Rattle.inode_segments.specs.Inodes.{inode_pages, segments, segment_id, slot_pages}
 use Rattle.space_audit.specs.declared.owner.Owner.{Owner}
 use Rattle.space_audit.specs.declared.owner.Owner.TheVariants.{System, InodePage, Used, Spare, FragmentFree, FreeExtent}
@@ -58,16 +60,6 @@ pub not_any : (n : ℕ) (xs : List ℕ) (b : Bool) → list_any (λ m. m == n) x
     → list_any (λ m. m == n) xs ≡ false
 not_any n xs true e h = absurd (h (any_contains n xs e))
 not_any n xs false e h = e
-
--- two members of a sum
-two_places : {X : Type 0} (f : X → ℕ) (xs : List X) (k s : ℕ) (d : X) → k < s → s < length xs
-    → f (get_or xs k d) + f (get_or xs s d) ≤ sum_by f xs
-two_places f [] k s d h l = absurd (omega arith)
-two_places f (x ∷ xs) k zero d h l = absurd (omega arith)
-two_places f (x ∷ xs) zero (suc s) d h l = let r = get_or-le-sum_by f xs s d (omega arith) in let e = sum_by-cons f
-    x xs in omega arith
-two_places f (x ∷ xs) (suc k) (suc s) d h l = let r = two_places f xs k s d (omega arith) (omega arith) in let e =
-    sum_by-cons f x xs in omega arith
 
 -- which branch an owner came from
 pub own_branch : (below free own : Bool) (a b : Owner) (s : ℕ)
@@ -246,7 +238,7 @@ claimed_is_used file h c n s place g k u =
     ]
 
 -- a page that a segment uses is a used one, and neither a system page nor an inode page
-used_by : (file : List ℕ) (n s : ℕ) → IsUsedBy file s n → IsUsed file n
+pub used_by : (file : List ℕ) (n s : ℕ) → IsUsedBy file s n → IsUsed file n
 unfolding owner_of
 used_by file n s o =
     let r = own_branch (nat_lt n (limit_of file)) (extent_state file (n / 64) == 1)

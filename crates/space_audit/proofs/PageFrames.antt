@@ -6,7 +6,7 @@ use Rattle.std.specs.Option.{unwrap_or}
 use Rattle.std.proofs.lemmas.List.{get_or_append_left, take-append-drop}
 use Rattle.std.proofs.Math.Seq.{get_or-append_seam}
 use Rattle.std.proofs.lemmas.List.Sums.{sum_by-append, count_by_more_yes, count_by_more_no}
-use Rattle.std.proofs.lemmas.Bool.{cases_lt, false≢true}
+use Rattle.std.proofs.lemmas.Bool.{cases_lt, false≢true, not-true}
 use Rattle.std.proofs.lemmas.List.Elements.{All-contains, Contains-append_cases}
 use Rattle.page_source.specs.declared.checks.Stop.{Stop}
 use Rattle.page_source.specs.declared.checks.Stop.TheVariants as stops
@@ -20,6 +20,7 @@ use Rattle.space_header.specs.Header.{limit_of}
 use Rattle.extent_map.specs.declared.extent.Extent.{Extent}
 use Rattle.extent_map.specs.Extents.{is_used, IsUsed, is_fragment_page, is_fragment_extent, is_system_page}
 use Rattle.extent_map.specs.Laws.{UsedPagesAreOfExtents}
+use Rattle.extent_map.proofs.Used.{used_below}
 use Rattle.inode_segments.specs.Inodes.{inode_pages, full_pages, free_pages}
 use Rattle.inode_segments.specs.InodeChecks.{AreInodes, IsInodePage}
 use Rattle.inode_segments.specs.Kept.{InodesView, AreKept}
@@ -27,7 +28,7 @@ use Rattle.space_audit.specs.declared.owner.Owner.TheVariants.{InodePage}
 use Rattle.space_audit.specs.Owners.{owner_of}
 use Rattle.space_audit.specs.Audit.{FrameCheck, FrameChecks, IsKindFor}
 use Rattle.space_audit.specs.Read.{IsKind, AreKinds, AwaitsFrames, fetches_at}
-use Rattle.space_audit.proofs.Fragments.{fragment_used, fragment_extent, used_below, and_right}
+use Rattle.space_audit.proofs.Fragments.{fragment_used, fragment_extent, and_right}
 use Rattle.space_audit.proofs.ClaimSteps.{used_in_size}
 use Rattle.space_audit.proofs.OwnerFacts.{not_one, not_four, contains_any}
 
@@ -43,17 +44,13 @@ inode_page file n inodes are a t =
       ],
     )
 
-not_system : (b : Bool) → not b ≡ true → b ≡ false
-not_system true e = absurd (false≢true e)
-not_system false e = refl
-
 inode_owner : (file : List ℕ) (n : ℕ) → is_fragment_page file n ≡ true → Contains (inode_pages file) n
     → owner_of file n ≡ InodePage
 unfolding owner_of
 inode_owner file n f c =
     let used = fragment_used file n f in
     let fragment = fragment_extent file n f in
-    let system = not_system (is_system_page n) (and_right (is_used file n && is_fragment_extent file (n / 64))
+    let system = not-true (is_system_page n) (and_right (is_used file n && is_fragment_extent file (n / 64))
     (not (is_system_page n)) f) in
     let any = contains_any n (inode_pages file) c in
     rw (

@@ -7,7 +7,7 @@ use Rattle.std.specs.List.{range_with_len, position_or_len, prefix_len}
 use Rattle.std.proofs.lemmas.Bool.{cases_lt}
 use lib.ListN.{get_or-eq_default}
 use Rattle.std.proofs.lemmas.Bool.Decides.{Decides-eqb, eqb_tells}
-use Rattle.std.proofs.lemmas.List.FromFn.{length-map-range_with_len, get_or-map-range_with_len, map-range_with_len_more}
+use Rattle.std.proofs.lemmas.List.FromFn.{get_or-map-range_with_len, map-range_with_len_more}
 use Rattle.std.proofs.lemmas.List.Elements.{filter-append}
 use Rattle.std.proofs.lemmas.List.Sums.{sum_by-append, prefix_len-le-length}
 use Rattle.page_source.proofs.Members.{range_more}
@@ -15,23 +15,18 @@ use Rattle.space_header.specs.declared.address.Address.{Address}
 use Rattle.extent_map.specs.declared.extent.Extent.{Extent}
 use Rattle.extent_map.specs.Extents.{AreExtents, extents_of, extent_of, extent_count, extent_state}
 use Rattle.extent_map.specs.Extents.{used_count}
+use Rattle.extent_map.proofs.Readers.{extents_count}
 use Rattle.inode_segments.specs.Inodes.{segments, segment_id}
 use Rattle.space_audit.specs.Numbering.{place_in}
 use Rattle.space_audit.specs.Lists.{home_by, home_number, homes_of, uses_of}
 use Rattle.space_audit.proofs.OwnerFacts.{get_at}
-
-pub extents_length : (file : List ℕ) (extents : List Extent) → AreExtents file extents
-    → length extents ≡ extent_count file
-unfolding extents_of
-extents_length file extents are = ap length are.same
-    ∙ length-map-range_with_len (extent_of file) 0 (extent_count file)
 
 pub extent_is : (file : List ℕ) (extents : List Extent) (e : ℕ) (x : Extent) → AreExtents file extents
     → slice_get extents e ≡ Some x → (e < extent_count file) × (extent_of file e ≡ x)
 unfolding extents_of
 extent_is file extents e x are at =
     let there = get_at extents e x at in
-    let below : e < extent_count file = subst (λ n. e < n) (extents_length file extents are) there.0 in (
+    let below : e < extent_count file = subst (λ n. e < n) (extents_count file extents are) there.0 in (
       below,
       sym (get_or-map-range_with_len (extent_of file) 0 (extent_count file) e e x below (omega arith))
           ∙ (ap (λ xs. get_or xs e x) (sym are.same) ∙ there.1 x),

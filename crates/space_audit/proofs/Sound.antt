@@ -12,11 +12,11 @@ use Rattle.space_audit.specs.Lists.{HomeList, ListChecks, HomeListChecks, ThreeC
 use Rattle.space_audit.specs.Lists.{free_frag_list, full_frag_list, segment_free_list, segment_not_full_list}
 use Rattle.space_audit.specs.Lists.{segment_full_list}
 use Rattle.extent_map.specs.Extents.{extent_nodes}
+use Rattle.extent_map.proofs.Used.{used_below}
 use Rattle.space_audit.specs.Owners.{IsPartition}
 use Rattle.space_audit.specs.Laws.{UseClaims}
 use Rattle.space_audit.specs.Audit.{UseChecks, OwnerChecks, AuditChecks, HasExtents, IsSlot, IsUsedFragment}
 use Rattle.space_audit.specs.Audit.{HasFragmentCount, HasNotFullCount, fragment_claims, IsSoundSpace}
-use Rattle.space_audit.proofs.Fragments.{used_below}
 use Rattle.space_audit.proofs.Claims.{HasClaims, partition, fragment_once, used_within}
 use Rattle.space_audit.proofs.OwnerFacts.{uses_are_claims}
 

@@ -1,17 +1,16 @@
 -- What a build answers at each of its ends.
 use Rattle.std.proofs.Common.{◌≡◌, ℕ, ◌≤◌, List, [], length, None, Result, Ok, Err, refl, inl, inr}
-use Rattle.std.proofs.Common.{ap, ◌∙◌, unwrap_or, slice_index_or, arith}
+use Rattle.std.proofs.Common.{ap, ◌∙◌, arith}
 use Rattle.std.specs.FinMap.{get, get-empty}
 use Rattle.std.specs.Option.{is_some}
 use Rattle.std.specs.Ordering.{nat_cmp}
-use Rattle.std.proofs.lemmas.List.FromFn.{length-map-range_with_len}
 use Rattle.page_source.specs.declared.objects.ByteSource.{Ghosts as TextOf}
 use Rattle.page_source.specs.declared.objects.PageStore.{Ghosts as StoreOf}
 use Rattle.page_source.specs.Objects.{PageMap, Store, IsFresh}
 use Rattle.page_source.proofs.Told.{told1}
 use Rattle.schema_text.specs.Grammar.{IsTable}
 use Rattle.schema_text.specs.TableDef.{TableDef}
-use Rattle.row_layout.specs.StoredRow.{Stored, fitted_row}
+use Rattle.row_layout.specs.StoredRow.{Stored}
 use Rattle.row_store.specs.declared.stop.RowsStop.{RowsStop}
 use Rattle.row_store.specs.declared.stop.RowsStop.TheVariants as reads
 use Rattle.space_builder.specs.declared.built.Built.{Built}
@@ -31,7 +30,7 @@ use Rattle.space_builder.specs.calls.Space.{IsSpaceOf, PutsSpace, LeavesSpace}
 use Rattle.space_builder.specs.calls.StoredRows.{AreStoredRows}
 use Rattle.space_builder.specs.calls.Stops.{stop_of_rows, stop_of_put, stop_of_plan}
 use Rattle.space_builder.specs.layout.Laws.{CanBuild}
-use Rattle.row_store.specs.StoredRows.{Rows, stored_rows}
+use Rattle.row_store.specs.StoredRows.{Rows}
 use Rattle.space_builder.specs.layout.Layout.{FitsSpace, layout_size}
 
 -- a build ends so
@@ -172,9 +171,3 @@ no_cause g table rows old new source source_now a built later ends = record {
   source_rose = λ same. absurd (cc);
   store_rose = λ same. absurd (cc);
 }
-
--- as many rows are stored as there are
-pub stored_count : (table : TableDef) (rows : Rows) → length (stored_rows table rows) ≡ length rows
-unfolding stored_rows
-stored_count table rows =
-    length-map-range_with_len (λ r. unwrap_or (fitted_row table r (slice_index_or rows r [])) []) 0 (length rows)

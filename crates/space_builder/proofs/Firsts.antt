@@ -1,17 +1,16 @@
 -- With which leaf entries the pages of a level begin: the pointers to them have their keys.
-use Rattle.std.proofs.Common.{◌≡◌, ℕ, zero, suc, ◌+◌, ◌<◌, ◌≤◌, false, List, [], ◌∷◌}
+use Rattle.std.proofs.Common.{◌≡◌, ℕ, zero, suc, ◌+◌, ◌<◌, ◌≤◌, List, [], ◌∷◌}
 use Rattle.std.proofs.Common.{length, map, get_or, take, slice_index}
 use Rattle.std.proofs.Common.{sym, ap, ◌∙◌, subst, arith}
-use Rattle.std.proofs.lemmas.List.{take_all, take-append-le, length-take, length-map}
+use Rattle.std.proofs.lemmas.List.{length-map}
 use Rattle.std.proofs.lemmas.List.{get_or-map}
-use Rattle.page_source.specs.Pages.{be_bytes}
 use Rattle.column_values.specs.Types.{Fields}
-use Rattle.compact_record.specs.declared.parts.Part.TheVariants.{Bytes}
 use Rattle.page_packer.specs.Entries.{Entry, entry_at}
-use Rattle.tree_layout.specs.Division.{Level, divided, pointer_with}
+use Rattle.tree_layout.specs.Division.{Level, divided}
 use Rattle.tree_layout.specs.Division.{pointers_to}
 use Rattle.tree_layout.specs.Levels.{level_at}
 use Rattle.tree_layout.specs.Steps.{StandOnEachOther}
+use Rattle.tree_layout.proofs.Rise.{key_of_pointer}
 use Rattle.space_builder.specs.declared.entries.Pointer.{Pointer}
 use Rattle.space_builder.specs.calls.Pointing.{pointing, pointer_at, PointInto}
 use Rattle.space_builder.specs.calls.TreePlan.{BeginAt}
@@ -54,14 +53,6 @@ leaf_firsts keys leaves pages starts filled begins = record {
   key = λ k inside. ap (take keys) (begins.each k inside (filled k inside)).1;
 }
 
--- the key of a pointer
-key_of_pointing : (keys : ℕ) (entry : Entry) (n : ℕ) → keys ≤ length entry
-    → take keys (pointer_with keys entry n) ≡ take keys entry
-key_of_pointing keys entry n long =
-    let size = length-take keys entry in
-    take-append-le keys (take keys entry) (Bytes (be_bytes 4 n) false ∷ []) (omega arith)
-    ∙ take_all keys (take keys entry) (omega arith)
-
 -- the pages above begin with the keys of the pages below
 pub upper_firsts : (keys : ℕ) (leaves : List Entry) (pointers : List Pointer) (pages : Level) (starts firsts : List ℕ)
     → ((i : ℕ) → i < length leaves → keys ≤ length (entry_at leaves i)) → AreFilled pages → PointInto leaves pointers
@@ -77,7 +68,7 @@ upper_firsts keys leaves pointers pages starts firsts long filled into begins sa
           ap (take keys) (begins.each k inside (filled k inside)).1
           ∙ ap (take keys) (get_or-map (pointing keys leaves) pointers (slice_index starts k) no_pointer []
           (inner k inside))
-          ∙ key_of_pointing keys (entry_at leaves (pointer_at pointers (slice_index starts k)).first)
+          ∙ key_of_pointer keys (entry_at leaves (pointer_at pointers (slice_index starts k)).first)
           (pointer_at pointers (slice_index starts k)).page
           (long (pointer_at pointers (slice_index starts k)).first (low k inside))
           ∙ ap (λ n. take keys (entry_at leaves n)) (sym (first_is k inside));

@@ -1,4 +1,3 @@
-pub mod Lists
 pub mod layout
 pub mod building
 pub mod Puts

@@ -2,6 +2,7 @@
 use Rattle.std.proofs.Common.{◌≡◌, ℕ, ◌+◌, ◌<◌, List, [], length, slice_index_or, Some, None, Result, Ok, Err}
 use Rattle.std.proofs.Common.{refl, sym, ap, ◌∙◌, subst, arith}
 use Rattle.std.proofs.lemmas.List.{same_lists, get_or_default}
+use Rattle.std.proofs.lemmas.Option.{same_Some}
 use Rattle.page_source.proofs.Unique.{IsUnique, Check-unique, Then-unique, Each-unique, some_is_not_none}
 use Rattle.schema_text.specs.TableDef.{TableDef, index_at}
 use Rattle.schema_text.specs.Grammar.{IsTable}
@@ -22,7 +23,7 @@ roots_once table =
     Each-unique (length table.indexes) _
     (λ j. Check-unique (index_at table j).line ((index_at table j).root ≡ 3 + j))
 
-row_once : (table : TableDef) (text : List ℕ) (k : ℕ) → IsUnique (RowChecks table text k)
+pub row_once : (table : TableDef) (text : List ℕ) (k : ℕ) → IsUnique (RowChecks table text k)
 unfolding RowChecks
 row_once table text k =
     Then-unique _ _ (Check-unique _ _)
@@ -47,16 +48,13 @@ rows_once one table text is a b p q =
 same_row : (a b : BadRow) → Some a ≡ Some b → a ≡ b
 same_row a b e = cc
 
-same_line : (a b : ℕ) → Some a ≡ Some b → a ≡ b
-same_line a b e = cc
-
 module _ (one : HasOneRow) (table : TableDef) (text : List ℕ) (is : IsTable table) where
   -- no other answer comes where a root is misplaced, where a line is refused, or where the rows need too much
   root_only : (line : ℕ) → RootOrderChecks table (Some line) → (b : Result Rows BuildStop) → ComesTo table text b
       → Err (stops.RootPlace line) ≡ b
   root_only line p (Ok rows) q = some_is_not_none line (roots_once table (Some line) None p q.0)
   root_only line p (Err (stops.RootPlace other)) q =
-      ap (λ (n : ℕ). Err (stops.RootPlace n)) (same_line line other (roots_once table (Some line) (Some other) p q))
+      ap (λ (n : ℕ). Err (stops.RootPlace n)) (same_Some line other (roots_once table (Some line) (Some other) p q))
   root_only line p (Err (stops.RowsRefused other why)) q =
       some_is_not_none line (roots_once table (Some line) None p q.0)
   root_only line p (Err stops.Full) q = some_is_not_none line (roots_once table (Some line) None p q.0)

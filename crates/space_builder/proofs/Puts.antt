@@ -1,20 +1,22 @@
 -- Pages are put into a store: none, one, a list behind a list, and a part of a list where putting stopped.
 use Rattle.std.proofs.Common.{◌≡◌, ◌≢◌, ℕ, ◌≤◌, ◌++◌, List, [], ◌∷◌, cond, get_or, Contains}
-use Rattle.std.proofs.Common.{Option, Some, None, IfSome, unwrap_or, Result, Ok, Err, IsErrAnd}
+use Rattle.std.proofs.Common.{Option, Some, None, IfSome, Result, Ok, Err, IsErrAnd}
 use Rattle.std.proofs.Common.{refl, sym, ap, ◌∙◌, subst, arith}
-use Rattle.std.specs.FinMap.{get, insert, empty}
+use Rattle.std.specs.FinMap.{get, insert}
 use Rattle.std.specs.List.{All}
 use Rattle.std.proofs.lemmas.Bool.{ne_eqb, eq-eqb}
 use Rattle.std.proofs.lemmas.List.{map-append}
 use Rattle.std.proofs.lemmas.Result.{err_from_is_err_and}
 use Rattle.std.proofs.lemmas.List.Elements.{All-nil, All-cons, All-append, Contains-get_or}
 use Rattle.std.proofs.lemmas.List.Elements.{Contains-append_left, Contains-append_right}
+use Rattle.std.proofs.lemmas.Option.{same_Some}
 use Rattle.page_source.specs.declared.objects.PageStore.{Ghosts as StoreOf}
 use Rattle.page_source.specs.Faults.{Rose}
 use Rattle.page_source.specs.Objects.{PageMap, Store, KeepsSizes, HoldsPage, HoldsOthers}
 use Rattle.page_source.proofs.Members.{contains_here}
 use Rattle.page_source.proofs.Slots.{get-insert_at}
 use Rattle.offpage_chain.specs.Writing.{HoldsAllBut, KeepsAllBut}
+use Rattle.offpage_chain.proofs.Writes.{others_none}
 use Rattle.space_layout.specs.NumberedPages.{Numbered}
 use Rattle.space_builder.specs.declared.built.PutStop.{PutStop}
 use Rattle.space_builder.specs.declared.built.PutStop.TheVariants as stops
@@ -39,9 +41,6 @@ abbrev IsNone : Option PageMap → Type 0
 IsNone None = Unit {0}
 IsNone (Some x) = ⊥
 
-same_map : (a b : PageMap) → Some a ≡ Some b → a ≡ b
-same_map a b e = ap (λ (o : Option PageMap). unwrap_or o empty) e
-
 -- numbers
 
 pub among_left : (pages others : List Numbered) → AreAmong (numbers_of pages) (numbers_of (pages ++ others))
@@ -56,14 +55,10 @@ among_right pages others n has =
 
 -- what stays
 
-holds_same : (numbers : List ℕ) (old : Option PageMap) → HoldsAllBut numbers old old
-holds_same numbers None = refl
-holds_same numbers (Some old) = (old, refl, λ m other. refl)
-
 pub keeps_same : (numbers : List ℕ) (old : Store) → KeepsAllBut numbers old old
 keeps_same numbers old = record {
   sizes = record { size = refl; asked = refl };
-  others = holds_same numbers old.held;
+  others = others_none numbers old.held;
 }
 
 holds_both : (first second numbers : List ℕ) (old now new : Option PageMap) → AreAmong first numbers
@@ -75,7 +70,7 @@ holds_both first second numbers (Some old) (Some now) new in_first in_second kep
   more.0,
   more.1,
   λ m other. more.2 m (λ has. other (in_second m has))
-      ∙ ap (λ (map : PageMap). get map m) (same_map now kept.0 kept.1) ∙ kept.2 m (λ has. other (in_first m has)),
+      ∙ ap (λ (map : PageMap). get map m) (same_Some now kept.0 kept.1) ∙ kept.2 m (λ has. other (in_first m has)),
 )
 
 -- two steps, each of which keeps all but some of these numbers

@@ -22,8 +22,8 @@ use Rattle.tree_layout.specs.Division.{pointers_to, FitsAlone, HasSmallPointers}
 use Rattle.tree_layout.specs.DivisionLaws.{AreTheLevels}
 use Rattle.tree_layout.specs.Levels.{level_at, width_at}
 use Rattle.tree_layout.specs.Steps.{AreOnly}
-use Rattle.space_builder.proofs.Lists.{all_map}
 use Rattle.tree_layout.proofs.Zips.{zip_length}
+use Rattle.tree_layout.proofs.Held.{length-counts, count_at}
 use Rattle.space_builder.specs.declared.built.PutStop.{PutStop}
 use Rattle.space_builder.specs.declared.built.PutStop.TheVariants as stops
 use Rattle.space_builder.specs.declared.entries.Pointer.{Pointer}
@@ -35,12 +35,12 @@ use Rattle.space_builder.specs.calls.Pointing.{pointing, pointer_at, PointInto}
 use Rattle.space_builder.specs.calls.TreePlan.{fields_in, width_in, number_in, first_numbers, HasPage, spot_among}
 use Rattle.space_builder.specs.calls.TreePlan.{spot_in, packed_at, laid_pages, pointer_in, tree_pages}
 use Rattle.space_builder.specs.calls.TreePlan.{BeginAt, CanPutLevel, CanPutTree}
-use Rattle.space_builder.proofs.layout.Sizes.{length-counts, count_at}
 use Rattle.space_builder.proofs.layout.Laid.{contains_flat, contains_mapped, contains_image}
 use Rattle.space_builder.proofs.Firsts.{stand_at, no_pointer, AreFirsts, AreFilled, leaf_firsts, upper_firsts}
 use Rattle.space_builder.proofs.Puts.{ArePut, HaveOtherNumbers, AreAmong, none_put, both_put, puts_all}
 use Rattle.space_builder.proofs.Puts.{memory_behind, stopped_behind}
 use Rattle.space_builder.proofs.LaidPages.{map_same, number_found, number_high, one_page}
+use Rattle.row_layout.proofs.Ranges.{all_map}
 
 -- one list more over a range
 pub flat_more : {A : Type 0} (f : ℕ → List A) (from count : ℕ)

@@ -19,7 +19,7 @@ use Rattle.space_layout.specs.NumberedPages.{Numbered}
 use Rattle.space_layout.specs.ValuePlaces.{row_at, pages_before_row, pages_before_field, value_page_count}
 use Rattle.row_layout.specs.StoredRow.{Stored, stored_at}
 use Rattle.row_layout.specs.HoldsValues.{pages_of_stored, stored_in}
-use Rattle.space_builder.proofs.Lists.{all_map}
+use Rattle.row_layout.proofs.Ranges.{all_map}
 use Rattle.space_builder.specs.declared.built.PutStop.TheVariants as stops
 use Rattle.space_builder.specs.layout.ValuePage.{value_page_bytes, pages_of_bytes, page_counts, pages_of_field}
 use Rattle.space_builder.specs.build.Puts.{numbers_of, IsHeld, PutsPages}
@@ -159,10 +159,6 @@ unfolding pages_before_field
 before_room counts i inside = sum_by_more_le (λ (n : ℕ). n) counts i 0 inside
 
 -- and before a row
-pub rows_none : (counts : List (List ℕ)) → pages_before_row counts 0 ≡ 0
-unfolding pages_before_row
-rows_none counts = refl
-
 pub rows_more : (counts : List (List ℕ)) (r : ℕ) → r < length counts
     → pages_before_row counts (r + 1) ≡ pages_before_row counts r + sum (row_at counts r)
 unfolding pages_before_row

@@ -10,6 +10,7 @@ use Rattle.schema_text.specs.declared.table.Format.{Format}
 use Rattle.space_layout.specs.Numbers.{segment_page}
 use Rattle.space_layout.specs.NumberedPages.{Numbered}
 use Rattle.space_layout.specs.ValuePlaces.{pages_before_row, pages_before_field}
+use Rattle.space_layout.proofs.Parts.{rows_none}
 use Rattle.row_layout.specs.StoredRow.{Stored, stored_at}
 use Rattle.row_layout.specs.HoldsValues.{pages_of_stored, stored_in}
 use Rattle.space_builder.specs.declared.built.PutStop.{PutStop}
@@ -23,7 +24,7 @@ use Rattle.space_builder.proofs.Puts.{ArePut, none_put, all_put, puts_all}
 use Rattle.space_builder.proofs.PutSteps.{next_put, next_failed, some_next, some_one}
 use Rattle.space_builder.proofs.ValuePuts.{field_pages, field_count_is, count_at, counts_at, row_number_is, takes_still}
 use Rattle.space_builder.proofs.ValuePuts.{before_none, before_more, before_all, before_room, first_more}
-use Rattle.space_builder.proofs.ValuePuts.{rows_none, rows_more, rows_room}
+use Rattle.space_builder.proofs.ValuePuts.{rows_more, rows_room}
 
 -- the fields of a row, whose pages stand from a place on
 module _ {T : Type 0} (g : StoreOf T) (format : Format) (sizes : List ℕ) (at : ℕ) (row : List Stored) where

@@ -21,6 +21,7 @@ use Rattle.space_header.specs.Writing.{with_header, header_bytes, base_bytes, ad
 use Rattle.extent_map.specs.declared.extent.Extent.{Extent}
 use Rattle.extent_map.specs.Extents.{extent_at, extent_of, descriptor_page, descriptor_byte}
 use Rattle.extent_map.specs.Writing.{FitsExtent, extent_bytes}
+use Rattle.extent_map.proofs.Writing.{node_size}
 use Rattle.inode_segments.specs.Inodes.{inode_at, inode_byte, is_used_place}
 use Rattle.inode_segments.specs.Writing.{inode_bytes}
 use Rattle.space_layout.specs.Numbers.{extent_start, extents_needed, space_pages, segment_page}
@@ -35,7 +36,7 @@ use Rattle.space_layout.proofs.Ranges.{pieces_same}
 use Rattle.space_layout.proofs.PageNumbers.{own_below, page_high}
 use Rattle.space_layout.proofs.SameBytes.{node_same, extent_same, inode_same, header_same, seal_same}
 use Rattle.space_layout.proofs.SameBytes.{piece_same, pieces_length}
-use Rattle.space_layout.proofs.Pieces.{node_size, extent_size, inode_size}
+use Rattle.space_layout.proofs.Pieces.{extent_size, inode_size}
 use Rattle.space_layout.proofs.Fits.{header_fits, fragment_fits, own_fits, lone_fits, inode_fits}
 use Rattle.space_layout.proofs.Listed.{descriptors_length, fragment_listed, own_listed}
 

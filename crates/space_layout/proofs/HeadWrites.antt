@@ -1,7 +1,7 @@
 -- One more descriptor or inode on its page.
-use Rattle.std.proofs.Common.{◌≡◌, ℕ, ◌+◌, ◌*◌, ◌<◌, ◌≤◌, List, [], ◌∷◌, ◌++◌, length, flat_map, get_or, take, drop}
-use Rattle.std.proofs.Common.{refl, sym, ap, ◌∙◌, arith, append-nil, add-zero}
-use Rattle.std.proofs.lemmas.List.{take_more, take_all, length-take-le, take-append-drop}
+use Rattle.std.proofs.Common.{◌≡◌, ℕ, ◌+◌, ◌*◌, ◌<◌, ◌≤◌, List, [], ◌∷◌, ◌++◌, length, flat_map, get_or, take}
+use Rattle.std.proofs.Common.{refl, sym, ap, ◌∙◌, arith, append-nil}
+use Rattle.std.proofs.lemmas.List.{take_more, take_all, length-take-le}
 use Rattle.std.proofs.lemmas.List.Concat.{flat_map-append}
 use Rattle.std.proofs.lemmas.List.FromFn.{length-map-range_with_len, get_or-map-range_with_len, take-map-range_with_len}
 use Rattle.std.proofs.lemmas.List.FromFn.{length-range_with_len}
@@ -12,6 +12,7 @@ use Rattle.extent_map.specs.declared.extent.Extent.{Extent}
 use Rattle.extent_map.specs.Writing.{extent_bytes}
 use Rattle.inode_segments.specs.declared.inode.Inode.{Inode}
 use Rattle.inode_segments.specs.Writing.{inode_bytes}
+use Rattle.inode_segments.proofs.Writing.{nothing_written}
 use Rattle.space_layout.specs.Numbers.{IsShape, extents_needed, fragment_extents, extent_start}
 use Rattle.space_layout.specs.Fields.{inode, fragment_descriptor, own_descriptor}
 use Rattle.space_layout.specs.HeadPages.{descriptors, inodes}
@@ -22,13 +23,6 @@ use Rattle.space_layout.proofs.Ranges.{pieces_same}
 use Rattle.space_layout.proofs.Pieces.{extent_size}
 use Rattle.space_layout.proofs.HeadBytes.{bytes_of_inode, one_inode_length}
 use Rattle.space_layout.proofs.Listed.{descriptors_length, fragment_listed, own_listed}
-
--- nothing was written yet
-nothing_written : (page : List ℕ) (at : ℕ) → with_bytes page at [] ≡ page
-unfolding with_bytes
-nothing_written page at =
-    ap (λ (xs : List ℕ). xs ++ drop (at + 0) page) (append-nil (take at page))
-    ∙ ap (λ (k : ℕ). take at page ++ drop k page) (add-zero at) ∙ take-append-drop at page
 
 pub no_descriptors : (page sizes : List ℕ) → with_descriptors page sizes 0 ≡ page
 unfolding with_descriptors

@@ -28,7 +28,7 @@ fields_none : (row : List ℕ) → pages_before_field row 0 ≡ 0
 unfolding pages_before_field
 fields_none row = refl
 
-rows_none : (counts : List (List ℕ)) → pages_before_row counts 0 ≡ 0
+pub rows_none : (counts : List (List ℕ)) → pages_before_row counts 0 ≡ 0
 unfolding pages_before_row
 rows_none counts = refl
 

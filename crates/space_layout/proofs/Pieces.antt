@@ -3,18 +3,14 @@ use Rattle.std.proofs.Common.{◌≡◌, ℕ, ◌*◌, List, ◌++◌, length, r
 use Rattle.std.proofs.lemmas.List.{length-append}
 use Rattle.std.proofs.lemmas.List.FromFn.{length-map-range_with_len}
 use Rattle.page_source.specs.Pages.{be_bytes}
-use Rattle.space_header.specs.declared.address.Base.{Base}
-use Rattle.space_header.specs.declared.address.Node.{Node}
-use Rattle.space_header.specs.Writing.{node_bytes, base_bytes, address_bytes}
+use Rattle.space_header.specs.Writing.{node_bytes, base_bytes}
 use Rattle.extent_map.specs.declared.extent.Extent.{Extent}
 use Rattle.extent_map.specs.Writing.{extent_bytes, bitmap_byte, bitmap_bytes}
+use Rattle.extent_map.proofs.Writing.{node_size}
 use Rattle.inode_segments.specs.declared.inode.Inode.{Inode}
 use Rattle.inode_segments.specs.Writing.{inode_bytes, slots_bytes}
+use Rattle.inode_segments.proofs.Writing.{base_size}
 use Rattle.space_layout.proofs.SameBytes.{pieces_length}
-
-pub node_size : (node : Node) → length (node_bytes node) ≡ 12
-unfolding node_bytes address_bytes
-node_size node = refl
 
 pub extent_size : (x : Extent) → length (extent_bytes x) ≡ 40
 unfolding extent_bytes bitmap_bytes
@@ -27,10 +23,6 @@ extent_size x =
     let eight : length (be_bytes 8 x.id) ≡ 8 = refl in
     let four : length (be_bytes 4 x.state) ≡ 4 = refl in
     omega (arith, a, b, c, n, bits, eight, four)
-
-base_size : (base : Base) → length (base_bytes base) ≡ 16
-unfolding base_bytes address_bytes
-base_size base = refl
 
 slots_size : (slots : List ℕ) → length (slots_bytes slots) ≡ 4 * length slots
 unfolding slots_bytes

@@ -1,10 +1,10 @@
 -- The slots of the segments of a built tablespace: each used page of a fragment extent but for the first three is in
 -- one of them.
-use Rattle.std.proofs.Common.{◌≡◌, ℕ, ◌+◌, ◌*◌, ◌/◌, ◌%◌, ◌<◌, ◌≤◌, ◌==◌, ◌&&◌, ◌||◌, nat_lt, not, Bool}
+use Rattle.std.proofs.Common.{◌≡◌, ℕ, ◌+◌, ◌*◌, ◌/◌, ◌%◌, ◌<◌, ◌≤◌, ◌==◌, ◌&&◌, ◌||◌, nat_lt, not}
 use Rattle.std.proofs.Common.{true, List, ◌++◌, length, map, filter, flat_map, All, Contains, inl}
 use Rattle.std.proofs.Common.{inr, refl, sym, ap, ◌∙◌, subst, arith}
 use Rattle.std.specs.List.{range_with_len}
-use Rattle.std.proofs.lemmas.Bool.{cases_lt, ne_eqb, lt-ltb, le-ltb, ltb-true, false≢true}
+use Rattle.std.proofs.lemmas.Bool.{cases_lt, ne_eqb, lt-ltb, le-ltb, ltb-true, false≢true, and_from}
 use Rattle.std.proofs.lemmas.List.Elements.{Contains-append_left, Contains-append_right}
 use Rattle.page_source.specs.Pages.{fil_null}
 use Rattle.page_source.specs.Lists.{AreDistinct, times_in}
@@ -14,6 +14,7 @@ use Rattle.page_source.proofs.Times.{times_once}
 use Rattle.space_header.specs.Header.{limit_of}
 use Rattle.extent_map.specs.Extents.{extent_state, is_used, is_fragment_extent, is_system_page}
 use Rattle.extent_map.specs.Extents.{is_fragment_page}
+use Rattle.extent_map.proofs.Used.{used_below}
 use Rattle.inode_segments.specs.Inodes.{inode_of, inode_pages, segments, slot_pages}
 use Rattle.space_audit.specs.Owners.{system_pages}
 use Rattle.space_audit.specs.Audit.{IsFragmentUse, IsSlot, IsUsedFragment, fragment_claims}
@@ -28,7 +29,7 @@ use Rattle.space_layout.proofs.RunLists.{filter_run}
 use Rattle.space_layout.proofs.Ranges.{from_range, in_range, all_from_range, distinct_images, distinct_pieces}
 use Rattle.space_layout.proofs.Ranges.{distinct_append, filter_images, pieces_same, map_same}
 use Rattle.space_layout.proofs.Given.{given_state}
-use Rattle.space_layout.proofs.Spaces.{used_below, head_size, head_limit, fragment_given}
+use Rattle.space_layout.proofs.Spaces.{head_size, head_limit, fragment_given}
 use Rattle.space_layout.proofs.Inodes.{inode_slots, segments_are, each_segment, inode_page_two}
 use Rattle.space_layout.proofs.HomeLists.{state_of_own}
 
@@ -218,13 +219,10 @@ fragment_once file sizes flags shape h n u =
       | inr l ↦ Contains-append_right (range_with_len 0 3) (all_slots sizes) n (slots_has sizes shape n l high)
     ])
 
-both_true : (a b : Bool) → a ≡ true → b ≡ true → (a && b) ≡ true
-both_true a b first second = rw (first, second) refl
-
 -- page 2 is a fragment page, and no system page
 pub two_is_fragment : (file sizes : List ℕ) (flags : ℕ) → KnownHeads file sizes flags
     → is_fragment_page file 2 ≡ true
 two_is_fragment file sizes flags h =
     let u = fragment_use file sizes flags h 2 (omega arith) in
-    both_true (is_used file 2 && is_fragment_extent file (2 / 64)) (not (is_system_page 2))
-    (both_true (is_used file 2) (is_fragment_extent file (2 / 64)) u.used u.fragment) refl
+    and_from (is_used file 2 && is_fragment_extent file (2 / 64)) (not (is_system_page 2))
+    (and_from (is_used file 2) (is_fragment_extent file (2 / 64)) u.used u.fragment) refl

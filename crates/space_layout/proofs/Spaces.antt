@@ -1,11 +1,12 @@
 -- What is known of a file that holds the head pages of a built tablespace.
-use Rattle.std.proofs.Common.{◌≡◌, ◌⊎◌, ℕ, ◌+◌, ◌*◌, ◌/◌, ◌%◌, ◌<◌, ◌≤◌, true, false}
+use Rattle.std.proofs.Common.{◌≡◌, ◌⊎◌, ℕ, ◌+◌, ◌*◌, ◌/◌, ◌%◌, ◌<◌, ◌≤◌, true}
 use Rattle.std.proofs.Common.{nat_lt, List, length, inl, inr, refl, sym, ap, ◌∙◌, arith}
-use Rattle.std.proofs.lemmas.Bool.{cases_lt, lt-ltb, le-ltb, ltb-true, false≢true}
+use Rattle.std.proofs.lemmas.Bool.{cases_lt, lt-ltb, le-ltb, ltb-true}
 use Rattle.page_source.specs.Pages.{page_of}
 use Rattle.space_header.specs.declared.header.SpaceHeader.{SpaceHeader}
 use Rattle.space_header.specs.Header.{header_of, size_of, limit_of, header_space, space_flags}
 use Rattle.extent_map.specs.Extents.{extent_count, is_used, IsUsed}
+use Rattle.extent_map.proofs.Used.{used_below}
 use Rattle.space_layout.specs.Numbers.{own_of, used_fragments, fragment_extents, extent_start}
 use Rattle.space_layout.specs.Numbers.{extents_needed, space_pages, size_at, IsShape}
 use Rattle.space_layout.specs.declared.runs.Run.{Run}
@@ -16,17 +17,6 @@ use Rattle.space_layout.proofs.Steps.{less_same, Place, some_place}
 use Rattle.space_layout.proofs.PageNumbers.{extents_follow, extent_counts, own_below, extents_none, HasPlace}
 use Rattle.space_layout.proofs.PageNumbers.{fragment_place, own_place}
 use Rattle.space_layout.proofs.Given.{Given, given_used}
-
--- a used page is below the free limit
-not_used_past : (file : List ℕ) (n : ℕ) → limit_of file ≤ n → is_used file n ≡ false
-unfolding is_used
-not_used_past file n past = rw (le-ltb n (limit_of file) past) refl
-
-pub used_below : (file : List ℕ) (n : ℕ) → IsUsed file n → n < limit_of file
-used_below file n used = elim (cases_lt n (limit_of file)) [
-  | inl below ↦ below
-  | inr past ↦ absurd (false≢true (sym (not_used_past file n past) ∙ used))
-]
 
 -- the numbers of the header
 pub head_space : (file sizes : List ℕ) (flags : ℕ) → KnownHeads file sizes flags → header_space (page_of file 0) ≡ 1

@@ -2,7 +2,6 @@
 use Rattle.std.proofs.Common.{◌≡◌, ℕ, ◌<◌, List, length, get_or, All, ap, ◌∙◌}
 use Rattle.std.proofs.Common.{arith}
 use Rattle.std.proofs.lemmas.List.{get_or_default}
-use Rattle.std.proofs.lemmas.List.FromFn.{get_or-map-range_with_len, length-map-range_with_len}
 use Rattle.column_values.specs.declared.kind.ColumnType.{ColumnType}
 use Rattle.column_values.specs.declared.value.Value.{Value}
 use Rattle.column_values.specs.declared.value.Value.TheVariants.{Null}
@@ -12,26 +11,15 @@ use Rattle.schema_text.specs.TableDef.{TableDef, column_at}
 use Rattle.schema_text.specs.Grammar.{IsTable}
 use Rattle.schema_text.specs.IndexFields.{field_of_column}
 use Rattle.sql_dump.specs.Cells.{RowView, CellView, AreCells, HavePlaces, IsNear, IsSound, ReadsValue}
-use Rattle.schema_text.specs.IndexFields.{fields_of_columns}
 use Rattle.sql_dump.specs.Cells.{ReadsRow, cell_of_column, pages_of_cell}
 use Rattle.sql_dump.specs.Cells.{place_in}
 use Rattle.schema_text.proofs.ColumnFields.{holds_column}
+use Rattle.schema_text.proofs.EntryFields.{field_at_column}
 
 -- a value that is read may be written
 pub sound_value : (file : List ℕ) (cell : CellView) (value : Value) → ReadsValue file cell value → IsSound cell
 sound_value file cell value reads =
     record { local = λ n e. (value, reads.local n e); long = λ n e. (reads.long n e).fits }
-
--- the field of a column
-pub field_at_column : (table : TableDef) (at : List ℕ) (c d : ℕ) → at ≡ fields_of_columns table
-    → c < length table.columns → get_or at c d ≡ field_of_column table c
-field_at_column table at c d are within =
-    ap (λ (xs : List ℕ). get_or xs c d) are
-    ∙ get_or-map-range_with_len (field_of_column table) 0 (length table.columns) c c d within (omega arith)
-
-pub length_fields : (table : TableDef) (at : List ℕ) → at ≡ fields_of_columns table → length at ≡ length table.columns
-length_fields table at are = ap length are ∙ length-map-range_with_len (field_of_column table) 0 (length
-    table.columns)
 
 -- the field of a column is among those that were read
 pub field_within : (table : TableDef) (at : List ℕ) (places : List Place) (c d : ℕ) → IsTable table

@@ -123,7 +123,7 @@ pub record IsNext (file : List ℕ) (pages : List ℕ) (new : ChainRest) (n : �
   pub held : page ≡ page_of file p
   pub goes_on : GoesOnAlong file new back
 
-next_of : (file pages : List ℕ) (new : ChainRest) (n : ℕ) (page : List ℕ) → GivesNext file pages new (Some n) page
+pub next_of : (file pages : List ℕ) (new : ChainRest) (n : ℕ) (page : List ℕ) → GivesNext file pages new (Some n) page
     → IsNext file pages new n page
 next_of file [] new n page gives = absurd (cc gives)
 next_of file (p ∷ back) new n page gives = record {

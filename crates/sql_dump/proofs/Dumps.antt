@@ -1,8 +1,6 @@
 -- What a dump is of a file whose checks hold, and how it ends.
-use Rattle.std.proofs.Common.{ℕ, ◌<◌, List, length, map, filter, Option, Some, None, Ok, Err, refl, sym, ap, arith}
-use Rattle.std.proofs.Common.{ltb-true}
+use Rattle.std.proofs.Common.{ℕ, List, length, map, filter, Option, Some, None, Ok, Err, refl, sym, ap, arith}
 use Rattle.std.specs.List.{range_with_len}
-use Rattle.std.proofs.lemmas.Bool.{and_parts}
 use Rattle.std.proofs.lemmas.List.{append-nil}
 use Rattle.std.proofs.lemmas.List.FromFn.{get_or-map-range_with_len}
 use Rattle.page_source.specs.declared.objects.ByteSink.{Ghosts as SinkOf}
@@ -13,7 +11,8 @@ use Rattle.page_source.specs.Pages.{page_of}
 use Rattle.page_source.specs.Objects.{GrowsBy, GrowsByPart}
 use Rattle.fil_frame.specs.Frame.{kind_of, space_of}
 use Rattle.space_header.specs.Header.{size_of, limit_of}
-use Rattle.extent_map.specs.Extents.{is_used, IsUsed}
+use Rattle.extent_map.specs.Extents.{is_used}
+use Rattle.extent_map.proofs.Used.{used_below}
 use Rattle.inode_segments.specs.Inodes.{segments}
 use Rattle.space_audit.specs.Owners.{owner_of}
 use Rattle.space_audit.specs.Audit.{AuditChecks}
@@ -51,10 +50,6 @@ space_of_file file = record {
   used = length (filter (is_used file) (range_with_len 0 (size_of file)));
   segments = segments file;
 }
-
-used_below : (file : List ℕ) (n : ℕ) → IsUsed file n → n < limit_of file
-unfolding is_used
-used_below file n used = ltb-true n (limit_of file) (and_parts _ _ used).0
 
 audited : (file : List ℕ) (flags : ℕ) → AuditChecks file flags None → IsAuditOf file (space_of_file file)
 unfolding space_of_file

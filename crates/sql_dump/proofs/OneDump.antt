@@ -29,7 +29,7 @@ use Rattle.sql_dump.specs.Laws.{CheckedCanBeRead, HasOneDump}
 use Rattle.sql_dump.proofs.Dumps.{sound_table}
 
 -- lists of values that are equal place by place are equal
-same_list : (xs ys : List Value) → length xs ≡ length ys
+pub same_list : (xs ys : List Value) → length xs ≡ length ys
     → ((c : ℕ) → c < length xs → get_or xs c Null ≡ get_or ys c Null) → xs ≡ ys
 same_list [] [] size same = refl
 same_list [] (y ∷ ys) size same = absurd (omega (arith, size))

@@ -1,9 +1,8 @@
 -- The line of a row, value by value.
-use Rattle.std.proofs.Common.{◌≡◌, ℕ, zero, suc, ◌+◌, ◌-◌, ◌<◌, ◌≤◌, ◌==◌, false, List, [], ◌∷◌, ◌++◌, length, take}
+use Rattle.std.proofs.Common.{◌≡◌, ℕ, zero, suc, ◌+◌, ◌-◌, ◌<◌, ◌≤◌, List, [], ◌∷◌, ◌++◌, length, take}
 use Rattle.std.proofs.Common.{map, flat_map, get_or, refl, sym, ap, ◌∙◌, subst, arith, append_assoc, length-append}
 use Rattle.std.proofs.Common.{Option, Err}
 use Rattle.std.specs.List.{join_with_byte, zip, range_with_len}
-use Rattle.std.proofs.lemmas.Bool.Decides.{nat_tests}
 use Rattle.std.proofs.lemmas.List.{append-nil, take_more, take_all, map-append, length-map, length-take-le}
 use Rattle.std.proofs.lemmas.List.Concat.{flat_map-append}
 use Rattle.page_source.specs.Objects.{GrowsBy, GrowsByPart}
@@ -14,6 +13,7 @@ use Rattle.schema_text.specs.TableDef.{TableDef, column_at}
 use Rattle.row_text.specs.Values.{value_text}
 use Rattle.row_text.specs.Line.{comma, texts_of, joined_values, values_of, line_of}
 use Rattle.row_text.specs.Writer.{line_open, line_close, before_value}
+use Rattle.row_text.proofs.Lines.{behind_value}
 use Rattle.sql_dump.specs.Cells.{RowView, cell_of_column, pages_of_cell, pages_of_columns}
 use Rattle.page_source.proofs.Texts.{grows_on, grows_part}
 use Rattle.sql_dump.specs.declared.stop.WriteStop.{WriteStop}
@@ -22,11 +22,8 @@ use Rattle.column_values.specs.declared.kind.ColumnType.{ColumnType}
 use Rattle.schema_text.proofs.ColumnFields.{range_at}
 use Rattle.sql_dump.proofs.Written.{part_more, ends_in_piece}
 
-before_suc : (n : ℕ) → before_value (suc n) ≡ comma ∷ []
-before_suc n = let test : (suc n == 0) ≡ false = grind (arith, nat_tests) in rw test refl
-
 -- one piece more
-join_more : (pieces : List (List ℕ)) (piece : List ℕ)
+pub join_more : (pieces : List (List ℕ)) (piece : List ℕ)
     → join_with_byte comma (pieces ++ piece ∷ []) ≡ join_with_byte comma pieces ++ (before_value (length pieces) ++
     piece)
 join_more [] piece = refl
@@ -35,9 +32,9 @@ join_more (x ∷ y ∷ pieces) piece =
     let all = join_with_byte comma (x ∷ y ∷ pieces) in
     ap (λ (text : List ℕ). x ++ (comma ∷ text)) (join_more (y ∷ pieces) piece) ∙ sym (append_assoc x _ _)
     ∙ ap (λ (before : List ℕ). all ++ (before ++ piece))
-    (before_suc (length pieces) ∙ sym (before_suc (suc (length pieces))))
+    (behind_value (length pieces) ∙ sym (behind_value (suc (length pieces))))
 
-zip_more : {A B : Type 0} (xs : List A) (ys : List B) (x : A) (y : B) → length xs ≡ length ys
+pub zip_more : {A B : Type 0} (xs : List A) (ys : List B) (x : A) (y : B) → length xs ≡ length ys
     → zip (xs ++ x ∷ []) (ys ++ y ∷ []) ≡ zip xs ys ++ (x, y) ∷ []
 zip_more [] [] x y same = refl
 zip_more [] (b ∷ ys) x y same = absurd (omega arith)
@@ -45,7 +42,7 @@ zip_more (a ∷ xs) [] x y same = absurd (omega arith)
 zip_more {A = A} {B = B} (a ∷ xs) (b ∷ ys) x y same =
     ap (λ (ps : List (A × B)). (a, b) ∷ ps) (zip_more xs ys x y (omega arith))
 
-zip_size : {A B : Type 0} (xs : List A) (ys : List B) → length xs ≡ length ys → length (zip xs ys) ≡ length xs
+pub zip_size : {A B : Type 0} (xs : List A) (ys : List B) → length xs ≡ length ys → length (zip xs ys) ≡ length xs
 zip_size [] ys same = refl
 zip_size (a ∷ xs) [] same = absurd (omega arith)
 zip_size (a ∷ xs) (b ∷ ys) same = ap suc (zip_size xs ys (omega arith))
@@ -124,7 +121,7 @@ line_goes_on table row c =
     ap (λ (t : List ℕ). line_open table ++ t) (range_more (value_piece table row) c)
     ∙ sym (append_assoc (line_open table) _ _)
 
-regroup_behind : (o a b l d : List ℕ) → (o ++ (a ++ (b ++ l))) ++ d ≡ ((o ++ a) ++ b) ++ (l ++ d)
+pub regroup_behind : (o a b l d : List ℕ) → (o ++ (a ++ (b ++ l))) ++ d ≡ ((o ++ a) ++ b) ++ (l ++ d)
 regroup_behind o a b l d = simp append_assoc
 
 pub line_is : (table : TableDef) (row : List Value) → length row ≡ length table.columns

@@ -1,5 +1,5 @@
 -- What the checks of a table say of the reading of its rows.
-use Rattle.std.proofs.Common.{◌≡◌, ℕ, zero, suc, ◌+◌, ◌-◌, ◌*◌, ◌<◌, ◌≤◌, Bool, true, false, List, [], ◌∷◌, ◌++◌}
+use Rattle.std.proofs.Common.{◌≡◌, ℕ, zero, suc, ◌+◌, ◌-◌, ◌<◌, ◌≤◌, Bool, true, false, List, [], ◌∷◌, ◌++◌}
 use Rattle.std.proofs.Common.{length, take, drop, flat_map, get_or, None, refl, sym, ◌∙◌, subst, arith, inl, inr}
 use Rattle.std.proofs.Common.{length-append, length-drop}
 use Rattle.std.specs.List.{AllZip}
@@ -38,6 +38,7 @@ use Rattle.table_check.specs.Values.{bytes_at, front_of, ValueChecks, FieldCheck
 use Rattle.table_check.specs.Values.{live_rows}
 use Rattle.table_check.specs.Values.{pages_of_part, pages_of_rows, RowChecks}
 use Rattle.table_check.specs.Rows.{IsWholeValue, HasValue, place_of_column, IsRow, AreRows}
+use Rattle.table_check.proofs.WholeRows.{page_whole}
 use Rattle.sql_dump.specs.Long.{chain_bytes, stated_length}
 use Rattle.sql_dump.specs.Cells.{IsWholeLong, ReadsValue, row_on, cell_of_column}
 use Rattle.sql_dump.specs.Lines.{ReadsRecord, ReadsRows}
@@ -52,14 +53,6 @@ pub record ChainLaws (file : List ℕ) : Type 0 where
   pub least : size_of file ≤ 4194304
   pub most : size_of file ≤ page_count file
 
--- a page of a file is whole
-page_size_of : (file : List ℕ) (n : ℕ) → n < page_count file → length (page_of file n) ≡ 16384
-unfolding page_of page_count
-page_size_of file n within =
-    let count : 16384 * n + 16384 ≤ length file = omega arith in
-    let taken : 16384 * n + 16384 - 16384 * n ≡ 16384 = omega arith in
-    rw taken (length-take-le 16384 (drop (16384 * n) file) (omega (arith, length-drop (16384 * n) file)))
-
 -- the bytes along a chain are as many as are due
 pub bytes_due : (file : List ℕ) (pages : List ℕ) (n left : ℕ) → GoesOn file n left pages
     → length (bytes_on file pages) ≡ left
@@ -67,7 +60,7 @@ unfolding bytes_on
 bytes_due file [] n left goes = sym goes
 bytes_due file (p ∷ pages) n left goes =
     let page = page_of file p in
-    let size = page_size_of file p goes.1 in
+    let size = page_whole file p goes.1 in
     let taken : 46 + part_length page - 46 ≡ part_length page = omega arith in
     let part : length (part_bytes page) ≡ part_length page =
     rw taken (length-take-le (part_length page) (drop 46 page) (omega (

@@ -1,9 +1,7 @@
 -- The checks of a space have an answer for each file.
 use Rattle.std.proofs.Common.{◌≡◌, ℕ, suc, ◌*◌, ◌%◌, ◌<◌, ◌≤◌, Bool, true, false, List, [], ◌++◌, length, get_or, All}
 use Rattle.std.proofs.Common.{Option, None, sym, ◌∙◌, subst, arith}
-use Rattle.std.specs.List.{range_with_len}
-use Rattle.std.proofs.lemmas.List.{length-map}
-use Rattle.std.proofs.lemmas.List.FromFn.{get_or-map-range_with_len, length-range_with_len}
+use Rattle.std.proofs.lemmas.List.FromFn.{get_or-map-range_with_len}
 use Rattle.std.proofs.lemmas.List.Elements.{Contains-append_right}
 use Rattle.page_source.specs.Pages.{page_of, page_count}
 use Rattle.page_source.specs.Lists.{AreDistinct}
@@ -25,6 +23,7 @@ use Rattle.inode_segments.specs.InodeChecks.{InodeListsChecks, step_before}
 use Rattle.inode_segments.specs.Inodes.{segments, segment_id, inode_of, full_pages, step_address, used_places}
 use Rattle.inode_segments.specs.Inodes.{stepped_pages}
 use Rattle.inode_segments.specs.InodeChecks.{SegmentCheck, SegmentChecks, AllInodeChecks}
+use Rattle.inode_segments.proofs.Steps.{stepped_length}
 use Rattle.space_audit.specs.Lists.{HomeList, HomeListChecks, ThreeChecks, SegmentListsCheck, HomeCheck, ListChecks}
 use Rattle.space_audit.specs.Audit.{HasFragmentCount, SlotCheck, SlotsCheck, CountCheck, CountChecks, ClaimCheck}
 use Rattle.space_audit.specs.Audit.{UseChecks, FrameCheck, FrameChecks, OwnerChecks, AuditChecks}
@@ -80,11 +79,6 @@ step_is_new file is_fragment full earlier base k h = h.0
 
 abbrev stepped : List ℕ → Base → ℕ → ℕ
 stepped file base k = (step_address file base k).page
-
-stepped_length : (file : List ℕ) (base : Base) (k : ℕ) → length (stepped_pages file base k) ≡ k
-unfolding stepped_pages
-stepped_length file base k =
-    length-map (range_with_len 0 k) (stepped file base) ∙ length-range_with_len 0 k
 
 stepped_at : (file : List ℕ) (base : Base) (n k d : ℕ) → k < n
     → get_or (stepped_pages file base n) k d ≡ stepped file base k

@@ -6,7 +6,7 @@ pub mod RecordMarks
 mod LiveSteps
 mod RowSteps
 mod RowMarks
-mod WholeRows
+pub mod WholeRows
 mod LeafPass
 mod TreeSteps
 mod UnreachedSteps
@@ -15,7 +15,7 @@ pub mod OneAnswer
 mod Validity
 mod NewPages
 mod TreesLaw
-mod ValuesLaw
+pub mod ValuesLaw
 mod ValidLaw
 mod Checks
 mod AuditDecisions

@@ -12,7 +12,7 @@ use Rattle.column_values.specs.declared.field.FieldType.{FieldType}
 use Rattle.column_values.specs.declared.field.FieldType.TheVariants as kinds
 use Rattle.column_values.specs.Types.{Fields}
 use Rattle.compact_record.specs.declared.places.Place.{Place}
-use Rattle.index_page.specs.PageChecks.{PageChecks}
+use Rattle.index_page.proofs.ChecksLaw.{checks_unique}
 use Rattle.space_header.specs.declared.address.Address.{Address}
 use Rattle.space_header.specs.declared.address.Base.{Base}
 use Rattle.space_header.specs.declared.address.Node.{Node}
@@ -163,18 +163,11 @@ audit_unique file flags =
     (Then-unique _ _ (lists_unique file) (use_unique file)))))
     (frames_unique file)
 
--- a tree: a page, a page at its spot, and all levels
-page_unique : (page : List ℕ) (fields : Fields) (leaf root leftmost : Bool)
-    → IsUnique (PageChecks page fields leaf root leftmost)
-unfolding PageChecks
-page_unique page fields leaf root leftmost =
-    before _ _ _ (before _ _ _ (before _ _ _ (before _ _ _ (before _ _ _
-    (before _ _ _ (before _ _ _ (before _ _ _ (before _ _ _ (before _ _ _ (Check-unique _ _))))))))))
-
+-- a tree: a page at its spot, and all levels
 pub node_unique : (page : List ℕ) (fields : Fields) (spot : Spot) → IsUnique (NodeAt page fields spot)
 node_unique page fields spot =
     before _ _ _
-    (Then-unique _ _ (at_page spot.page _ (page_unique page fields _ _ _)) (before _ _ _ (holds _ _ _)))
+    (Then-unique _ _ (at_page spot.page _ (checks_unique page fields _ _ _)) (before _ _ _ (holds _ _ _)))
 
 spot_unique : (page : List ℕ) (fields : Fields) (id : ℕ) (spot : Spot) (previous next : ℕ)
     → IsUnique (SpotAt page fields id spot previous next)

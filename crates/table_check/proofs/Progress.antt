@@ -1,5 +1,5 @@
 -- Pages that were marked and counted so far, and those of one more call.
-use Rattle.std.proofs.Common.{◌≡◌, ◌==◌, IfSome, ℕ, ◌+◌, ◌≤◌, Bool, true, false, cond, List, [], ◌∷◌, ◌++◌, length}
+use Rattle.std.proofs.Common.{◌≡◌, IfSome, ℕ, ◌+◌, ◌≤◌, Bool, true, false, cond, List, [], ◌++◌, length}
 use Rattle.std.proofs.Common.{Option, None, Result, Ok, Err, refl, sym, ap, ◌∙◌, subst, arith, length-append}
 use Rattle.std.specs.Prelude.{not}
 use Rattle.std.proofs.lemmas.List.Sums.{count_by-le-length}
@@ -13,7 +13,9 @@ use Rattle.page_source.specs.Checks.{HaltsAt, HaltsWithCause}
 use Rattle.page_source.specs.Calls.{OfFile, HaltsOver, AsksNoMore}
 use Rattle.page_source.proofs.Told.{told0, told2, told3}
 use Rattle.space_audit.specs.Marks.{is_in, is_set, Marked}
+use Rattle.space_audit.proofs.Marking.{marked_none}
 use Rattle.table_check.specs.Marking.{ChecksPages}
+use Rattle.tree_walk.proofs.Levels.{is_in-append}
 
 pub unmarked_most : (marks : List Bool) → unmarked marks ≤ length marks
 unmarked_most marks = count_by-le-length not marks
@@ -33,13 +35,6 @@ pub record HasMarked {S : Type 0} (g : FileOf S) (old new : S) (before after : L
   pub counted : OfFile g old (λ file. count ≡ length (pages file))
   pub grew : OfFile g old (λ file. Marked (is_set before) after (pages file))
 
-cond_false : (a : Bool) → cond a true false ≡ a
-cond_false true = refl
-cond_false false = refl
-
-pub marked_none : (marks : List Bool) → Marked (is_set marks) marks []
-marked_none marks n = sym (cond_false (is_set marks n))
-
 -- none yet
 pub none_marked : {S : Type 0} (g : FileOf S) (old : S) (marks : List Bool) (steps : ℕ) (pages : List ℕ → List ℕ)
     → ((file : List ℕ) → pages file ≡ []) → HasMarked g old old marks marks steps steps 0 pages
@@ -58,16 +53,11 @@ cond_twice : (a b c : Bool) → cond (cond a true b) true c ≡ cond a true (con
 cond_twice true b c = refl
 cond_twice false b c = refl
 
-pub is_in_append : (xs ys : List ℕ) (n : ℕ) → is_in (xs ++ ys) n ≡ cond (is_in xs n) true (is_in ys n)
-is_in_append [] ys n = refl
-is_in_append (x ∷ xs) ys n =
-    ap (λ (b : Bool). cond (x == n) true b) (is_in_append xs ys n) ∙ sym (cond_twice (x == n) (is_in xs n) (is_in ys n))
-
 pub marked_more : (taken : ℕ → Bool) (old new : List Bool) (list more : List ℕ) → Marked taken old list
     → Marked (is_set old) new more → Marked taken new (list ++ more)
 marked_more taken old new list more a b n =
     b n ∙ ap (λ (s : Bool). cond s true (is_in more n)) (a n) ∙ cond_twice (taken n) (is_in list n) (is_in more n)
-    ∙ ap (λ (s : Bool). cond (taken n) true s) (sym (is_in_append list more n))
+    ∙ ap (λ (s : Bool). cond (taken n) true s) (sym (is_in-append list more n))
 
 -- the source of a halt, behind calls that went on
 pub cause_both : {A B : Type 0} {first old new : ℕ} {result : Result A Halt} (answer : Result B Halt) → first ≤ old

@@ -1,7 +1,7 @@
 -- A record's fields are checked one after another.
 use Rattle.std.proofs.Common.{◌≡◌, ℕ, ◌+◌, ◌<◌, ◌≤◌, Bool, List, length, get_or, Option, Some, None}
 use Rattle.std.proofs.Common.{IfSome, Result, Ok, Err, refl, sym, ap, ◌∙◌, subst, arith, length-append}
-use Rattle.std.proofs.lemmas.List.FromFn.{get_or-map-range_with_len, length-map-range_with_len}
+use Rattle.std.proofs.lemmas.List.FromFn.{get_or-map-range_with_len}
 use Rattle.std.proofs.lemmas.List.{get_or_default}
 use Rattle.std.proofs.Math.Path.{fun_ext}
 use Rattle.page_source.specs.declared.objects.PageSource.{Ghosts as FileOf}
@@ -25,11 +25,6 @@ use Rattle.table_check.proofs.Progress.{HasMarked, none_marked, more_marked, all
 use Rattle.table_check.proofs.RecordSteps.{part_more, part_most, record_breaks, whole_record, record_holds, below_more}
 
 -- the field and the place that were read
-pub count_of_places : (page : List ℕ) (origin : ℕ) (fields : Fields) → length (places_of page origin fields)
-    ≡ field_count fields
-unfolding places_of
-count_of_places page origin fields = length-map-range_with_len (place_of page origin fields) 0 (field_count fields)
-
 pub place_read : (page : List ℕ) (origin : ℕ) (fields : Fields) (places : List Place) (i : ℕ) (d : Place)
     → places ≡ places_of page origin fields → i < field_count fields → get_or places i d ≡ place_of page origin fields i
 unfolding places_of

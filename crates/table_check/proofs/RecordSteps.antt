@@ -10,27 +10,19 @@ use Rattle.page_source.specs.declared.checks.Halt.{Halt}
 use Rattle.page_source.specs.declared.checks.Halt.TheVariants.{Broken, Source}
 use Rattle.page_source.specs.Checks.{HaltsAt}
 use Rattle.page_source.specs.Verdict.{AllBelow, Each}
+use Rattle.page_source.proofs.Lists.{range_next}
 use Rattle.column_values.specs.Types.{Fields, field_at}
 use Rattle.compact_record.specs.Reading.{place_of, field_count}
 use Rattle.offpage_chain.specs.ChainChecks.{PlaceChecks}
 use Rattle.table_check.specs.Values.{FieldCheckBy, RecordChecksBy, pages_of_field, pages_of_part}
 use Rattle.table_check.specs.Values.{pages_of_record}
 
-range_suc : (a n : ℕ) → range_with_len a (suc n) ≡ range_with_len a n ++ (a + n) ∷ []
-range_suc a zero = ap (λ (x : ℕ). x ∷ []) (omega arith)
-range_suc a (suc n) =
-    let e : (a + 1) + n ≡ a + suc n = omega arith in
-    ap (λ (rest : List ℕ). a ∷ rest) (range_suc (a + 1) n ∙ ap (λ (x : ℕ). range_with_len (a + 1) n ++ x ∷ []) e)
-
-pub range_more : (a n : ℕ) → range_with_len a (n + 1) ≡ range_with_len a n ++ (a + n) ∷ []
-range_more a n = let e : n + 1 ≡ suc n = omega arith in ap (range_with_len a) e ∙ range_suc a n
-
 -- the numbers below a count, and one more
 pub flat_map_more : (f : ℕ → List ℕ) (n : ℕ)
     → flat_map f (range_with_len 0 (n + 1)) ≡ flat_map f (range_with_len 0 n) ++ f n
 flat_map_more f n =
     let e : 0 + n ≡ n = omega arith in
-    ap (flat_map f) (range_more 0 n ∙ ap (λ (x : ℕ). range_with_len 0 n ++ x ∷ []) e)
+    ap (flat_map f) (range_next 0 n ∙ ap (λ (x : ℕ). range_with_len 0 n ++ x ∷ []) e)
     ∙ flat_map-append f (range_with_len 0 n) (n ∷ [])
     ∙ ap (λ (rest : List ℕ). flat_map f (range_with_len 0 n) ++ rest) (append-nil (f n))
 

@@ -20,6 +20,7 @@ use Rattle.tree_walk.specs.declared.ends.TreeEnds.{TreeEnds}
 use Rattle.tree_walk.specs.Leaf.{IsWalked}
 use Rattle.tree_walk.specs.Walk.{IsEndsOf}
 use Rattle.page_source.specs.Checks.{HaltsAt, Stops, stop_of}
+use Rattle.page_source.proofs.Lists.{range_next}
 use Rattle.column_values.specs.Types.{Fields}
 use Rattle.schema_text.specs.declared.table.IndexDef.{IndexDef}
 use Rattle.schema_text.specs.TableDef.{TableDef, index_at}
@@ -28,20 +29,20 @@ use Rattle.space_audit.specs.Marks.{is_in, is_set, Marked}
 use Rattle.tree_walk.specs.Index.{Index, index_of, tree_pages}
 use Rattle.tree_walk.specs.Segments.{named_segments, leaf_segment}
 use Rattle.tree_walk.specs.TreeChecks.{TreeChecks}
+use Rattle.tree_walk.proofs.Levels.{is_in-append}
 use Rattle.table_check.specs.First.{ValueChecksOf}
 use Rattle.table_check.specs.Values.{RowChecks}
 use Rattle.table_check.specs.Trees.{clustered_tree, all_tree_pages, index_in, index_count, IndexCheck, NamedCheck}
 use Rattle.table_check.specs.Trees.{NamedChecks, pages_of_trees, segments_of_trees, leaf_segments_of}
 use Rattle.table_check.specs.declared.trees.Taken.{Taken}
 use Rattle.table_check.specs.Taken.{AreExactly, AreTaken, AreWalked, AreEnds, leaves_of}
-use Rattle.table_check.proofs.Progress.{is_in_append}
-use Rattle.table_check.proofs.RecordSteps.{flat_map_more, range_more, below_more}
+use Rattle.table_check.proofs.RecordSteps.{flat_map_more, below_more}
 
 -- more numbers were marked
 pub exactly_more : (old new : List Bool) (list more : List ℕ) → AreExactly old list → Marked (is_set old) new more
     → AreExactly new (list ++ more)
 exactly_more old new list more a b n =
-    b n ∙ ap (λ (s : Bool). cond s true (is_in more n)) (a n) ∙ sym (is_in_append list more n)
+    b n ∙ ap (λ (s : Bool). cond s true (is_in more n)) (a n) ∙ sym (is_in-append list more n)
 
 module _ (file : List ℕ) (table : TableDef) (j : ℕ) {leaf node : Fields} {indexes : List IndexDef} (d : IndexDef)
     (within : j < length table.indexes) (all : indexes ≡ table.indexes)
@@ -110,7 +111,7 @@ module _ (file : List ℕ) (table : TableDef) where
   leaves_more j =
       let f = λ (i : ℕ). leaf_segment (index_in file table i) in
       let e : 0 + j ≡ j = omega arith in
-      ap (map f) (range_more 0 j ∙ ap (λ (x : ℕ). range_with_len 0 j ++ x ∷ []) e)
+      ap (map f) (range_next 0 j ∙ ap (λ (x : ℕ). range_with_len 0 j ++ x ∷ []) e)
       ∙ map-append f (range_with_len 0 j) (j ∷ [])
 
   pub leaf_added : (j : ℕ) (leaves now : List ℕ) (ends : TreeEnds) → leaves ≡ leaf_segments_of file table j

@@ -5,12 +5,13 @@ use Rattle.std.specs.List.{range_with_len}
 use Rattle.std.proofs.lemmas.List.Elements.{filter-append}
 use Rattle.std.proofs.lemmas.Bool.{true≢false, eqb-true}
 use Rattle.page_source.specs.Verdict.{AllBelow}
+use Rattle.page_source.proofs.Lists.{range_next}
 use Rattle.schema_text.specs.TableDef.{TableDef}
 use Rattle.space_audit.specs.declared.owner.Owner.{Owner}
 use Rattle.space_audit.specs.declared.owner.Owner.TheVariants as owners
 use Rattle.space_audit.specs.Owners.{owner_of}
 use Rattle.table_check.specs.First.{is_segment_owner, is_reached, is_unreached, UnreachedCheck, IsLeftOver}
-use Rattle.table_check.proofs.RecordSteps.{range_more, below_more}
+use Rattle.table_check.proofs.RecordSteps.{below_more}
 
 -- an owner that is no segment
 pub no_segment : (owner : Owner) → ((segment : ℕ) → ¬ (owner ≡ owners.Used segment)) → is_segment_owner owner ≡ false
@@ -30,7 +31,7 @@ filter_more : (p : ℕ → Bool) (n : ℕ)
     → filter p (range_with_len 0 (n + 1)) ≡ filter p (range_with_len 0 n) ++ filter p (n ∷ [])
 filter_more p n =
     let e : 0 + n ≡ n = omega arith in
-    ap (filter p) (range_more 0 n ∙ ap (λ (x : ℕ). range_with_len 0 n ++ x ∷ []) e)
+    ap (filter p) (range_next 0 n ∙ ap (λ (x : ℕ). range_with_len 0 n ++ x ∷ []) e)
     ∙ filter-append p (range_with_len 0 n) (n ∷ [])
 
 filter_no : (p : ℕ → Bool) (n : ℕ) → p n ≡ false → filter p (n ∷ []) ≡ []

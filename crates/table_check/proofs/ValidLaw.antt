@@ -1,14 +1,14 @@
 -- A file passes all checks exactly where it is valid, and what is known of a valid file.
-use Rattle.std.proofs.Common.{◌≡◌, ◌↔◌, ℕ, ◌<◌, ◌≤◌, Bool, true, false, ◌&&◌, nat_lt, List, ◌++◌, length, map}
+use Rattle.std.proofs.Common.{◌≡◌, ◌↔◌, ℕ, ◌<◌, ◌≤◌, List, ◌++◌, length, map}
 use Rattle.std.proofs.Common.{get_or, None, refl, sym, ◌∙◌, arith}
 use Rattle.std.specs.List.{range_with_len, filter}
-use Rattle.std.proofs.lemmas.Bool.{ltb-true, true≢false}
 use Rattle.std.proofs.lemmas.List.FromFn.{get_or-map-range_with_len}
 use Rattle.page_source.specs.Lists.{times_in}
 use Rattle.page_source.specs.Pages.{page_of}
 use Rattle.fil_frame.specs.Frame.{kind_of, space_of}
 use Rattle.space_header.specs.Header.{size_of, limit_of}
 use Rattle.extent_map.specs.Extents.{is_used, IsUsed}
+use Rattle.extent_map.proofs.Used.{used_below}
 use Rattle.inode_segments.specs.Inodes.{segments}
 use Rattle.space_audit.specs.Owners.{owner_of}
 use Rattle.space_audit.specs.Audit.{AuditChecks}
@@ -111,17 +111,7 @@ space_in file = record {
   segments = segments file;
 }
 
--- of two tests that both hold the first holds
-first_holds : (a b : Bool) → (a && b) ≡ true → a ≡ true
-first_holds true b e = refl
-first_holds false b e = absurd (true≢false (sym e))
-
--- a used page lies below the free limit
-used_below : (file : List ℕ) (n : ℕ) → IsUsed file n → n < limit_of file
-unfolding is_used
-used_below file n used = ltb-true n (limit_of file) (first_holds (nat_lt n (limit_of file)) _ used)
-
--- so its type is known by its number
+-- the type of a used page is known by its number
 kind_known : (file : List ℕ) (n : ℕ) → IsUsed file n
     → get_or (map (λ m. kind_of (page_of file m)) (range_with_len 0 (limit_of file))) n 0 ≡ kind_of (page_of file n)
 kind_known file n used =

@@ -46,7 +46,7 @@ come_once xs d n = elim (cases_lt 0 (times_in xs n)) [
 ]
 
 -- and members differ where no number comes twice
-are_distinct : (xs : List ℕ) → ComeOnce xs → AreDistinct xs
+pub are_distinct : (xs : List ℕ) → ComeOnce xs → AreDistinct xs
 are_distinct [] once = distinct_none
 are_distinct (x ∷ xs) once =
     distinct_cons x xs

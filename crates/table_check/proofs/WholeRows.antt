@@ -4,10 +4,11 @@ use Rattle.std.proofs.Common.{◌∷◌, ◌++◌}
 use Rattle.std.proofs.Common.{length, take, get_or, flat_map, All, None, refl, sym, ap, ◌∙◌, subst, arith}
 use Rattle.std.proofs.lemmas.Bool.{true≢false}
 use Rattle.std.proofs.lemmas.List.Edits.{length-between}
-use Rattle.std.proofs.lemmas.List.Elements.{All-nil, All-append, All-map, All-filter}
+use Rattle.std.proofs.lemmas.List.Elements.{All-map, All-filter}
 use Rattle.std.proofs.lemmas.List.FromFn.{get_or-map-range_with_len, length-map-range_with_len}
 use Rattle.std.proofs.Math.Path.{fun_ext}
 use Rattle.page_source.specs.Pages.{num, page_of, page_count}
+use Rattle.page_source.proofs.Lists.{all_flat_map}
 use Rattle.column_values.specs.declared.kind.ColumnType.{ColumnType}
 use Rattle.column_values.specs.declared.kind.ColumnType.TheVariants as types
 use Rattle.column_values.specs.declared.value.Value.TheVariants as values
@@ -26,6 +27,7 @@ use Rattle.compact_record.specs.Whole.{LiesWhole}
 use Rattle.compact_record.proofs.KeySteps.{on_page}
 use Rattle.index_page.specs.Header.{records_of}
 use Rattle.space_audit.specs.Marks.{is_in, seen}
+use Rattle.space_audit.proofs.Marking.{marked_none}
 use Rattle.schema_text.specs.TableDef.{TableDef}
 use Rattle.schema_text.specs.IndexFields.{leaf_fields}
 use Rattle.tree_walk.specs.declared.ends.TreeEnds.{TreeEnds}
@@ -45,7 +47,6 @@ use Rattle.table_check.specs.Values.{live_rows}
 use Rattle.table_check.specs.Values.{pages_of_value, pages_of_field, pages_of_part, pages_of_record, pages_of_row}
 use Rattle.table_check.specs.Values.{pages_of_rows, all_chain_pages}
 use Rattle.table_check.specs.First.{ValueChecksOf}
-use Rattle.table_check.proofs.Progress.{marked_none}
 use Rattle.table_check.proofs.RecordSteps.{part_more, whole_record}
 
 -- any bytes of such a type, as many as a record keeps of a value, spell one
@@ -159,19 +160,12 @@ module _ (page : List ℕ) (origin : ℕ) (fields : Fields) (size : length page 
       whole_record file page origin fields ∙ part_none file (field_count fields) (omega arith)
 
 -- a page of the file is whole
-page_whole : (file : List ℕ) (n : ℕ) → n < page_count file → length (page_of file n) ≡ 16384
+pub page_whole : (file : List ℕ) (n : ℕ) → n < page_count file → length (page_of file n) ≡ 16384
 unfolding page_of page_count
 page_whole file n within =
     let below : n < length file / 16384 = within in
     let fits : 16384 * n + 16384 ≤ length file = omega (arith, below) in
     length-between file (16384 * n) (16384 * n + 16384) fits ∙ omega arith
-
-all_of_pages : {X A : Type 0} (P : A → Type 0) (f : X → List A) (xs : List X) → All (λ x. All P (f x)) xs
-    → All P (flat_map f xs)
-all_of_pages P f [] all = All-nil P
-all_of_pages P f (x ∷ xs) all =
-    All-append P (f x) (flat_map f xs) (all 0 x (omega arith))
-    (all_of_pages P f xs (λ k d below. all (suc k) d (omega (arith, below))))
 
 none_of_all : {X A : Type 0} (f : X → List A) (xs : List X) → All (λ x. f x ≡ []) xs → flat_map f xs ≡ []
 none_of_all f [] all = refl
@@ -190,7 +184,7 @@ module _ (index : Index) (walked : IsWalked index) (can : RowsCanBeRead)
   whole_pages : All IsWholePage (leaf_rows index)
   whole_pages =
       let facts = leaf_facts index walked in
-      all_of_pages IsWholePage (rows_on index) (leaf_pages index)
+      all_flat_map IsWholePage (rows_on index) (leaf_pages index)
       (λ k d below. All-map IsWholePage _ (records_of (page_in index (get_or (leaf_pages index) k d)))
       (λ j e under. page_whole index.file (get_or (leaf_pages index) k d) (facts.within k d below)))
 

@@ -1,6 +1,6 @@
 -- The places of the records of a kind, one after another.
 use Rattle.std.proofs.Common.{◌≡◌, ℕ, zero, suc, ◌+◌, ◌-◌, ◌≤◌, Bool, true, false, cond, List, [], ◌∷◌, ◌++◌}
-use Rattle.std.proofs.Common.{length, map, take, refl, sym, ap, ◌∙◌, arith, append_assoc}
+use Rattle.std.proofs.Common.{length, map, take, sym, ap, ◌∙◌, arith, append_assoc, add-one}
 use Rattle.std.specs.Prelude.{filter}
 use Rattle.std.specs.List.{range_with_len}
 use Rattle.std.proofs.Math.Seq.{take-append_seam}
@@ -10,19 +10,15 @@ use Rattle.salvage_model.specs.declared.kind.RecordKind.{RecordKind}
 use Rattle.salvage_model.specs.Records.{first_place, list_length, is_place_of, places_of}
 use Rattle.salvage_model.specs.Outcome.{SavedRow}
 use Rattle.table_salvage.specs.Work.{places_before}
-
-range_more : (a n : ℕ) → range_with_len a (suc n) ≡ range_with_len a n ++ (a + n) ∷ []
-range_more a zero = let e : a + 0 ≡ a = omega arith in rw e refl
-range_more a (suc n) =
-    let e : (a + 1) + n ≡ a + suc n = omega arith in
-    ap (λ (t : List ℕ). a ∷ t) (range_more (a + 1) n ∙ ap (λ k. range_with_len (a + 1) n ++ k ∷ []) e)
+use Rattle.page_source.proofs.Lists.{range_next}
 
 -- the numbers from a on that pass, up to the last one
 module _ (is : ℕ → Bool) (a : ℕ) where
   pass_more : (k : ℕ) → filter is (range_with_len a (suc k))
       ≡ filter is (range_with_len a k) ++ cond (is (a + k)) ((a + k) ∷ []) []
   pass_more k =
-      ap (λ (t : List ℕ). filter is t) (range_more a k) ∙ filter-append is (range_with_len a k) ((a + k) ∷ [])
+      ap (λ (t : List ℕ). filter is t) (ap (range_with_len a) (sym (add-one k)) ∙ range_next a k)
+      ∙ filter-append is (range_with_len a k) ((a + k) ∷ [])
 
   pass_to : (place : ℕ) → a ≤ place → filter is (range_with_len a ((place + 1) - a))
       ≡ filter is (range_with_len a (place - a)) ++ cond (is place) (place ∷ []) []

@@ -190,7 +190,7 @@ pub alike_entry : (a : Entry) → AreAlike a a
 alike_entry [] = tt
 alike_entry (x ∷ xs) = (alike_part x, alike_entry xs)
 
-alike_all : (entries : List Entry) → AllZip AreAlike entries entries
+pub alike_all : (entries : List Entry) → AllZip AreAlike entries entries
 alike_all [] = tt
 alike_all (x ∷ xs) = (alike_entry x, alike_all xs)
 

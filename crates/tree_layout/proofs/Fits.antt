@@ -2,8 +2,7 @@
 use Rattle.std.proofs.Common.{◌≡◌, ℕ, zero, suc, ◌<◌, List, [], ◌∷◌, length, get_or, take}
 use Rattle.std.proofs.Common.{false, sym, subst, arith, inl, inr}
 use Rattle.std.specs.List.{All, AllZip}
-use Rattle.std.proofs.lemmas.Bool.{false≢true, cases_lt}
-use Rattle.byteorder.specs.Numbers.{length-bytes_high_first}
+use Rattle.std.proofs.lemmas.Bool.{cases_lt}
 use Rattle.page_source.specs.Pages.{be_bytes}
 use Rattle.column_values.specs.Types.{Fields, AreOfOneIndex, child_field}
 use Rattle.compact_record.specs.Reading.{field_count}
@@ -15,6 +14,7 @@ use Rattle.tree_layout.specs.Levels.{AreLevels, EachPage, level_at, width_at, pa
 use Rattle.tree_layout.proofs.Offsets.{all_within}
 use Rattle.tree_layout.proofs.Zips.{zip-append, zip_length}
 use Rattle.tree_layout.proofs.Rise.{fields_at, fields_up, count_above, entry_above, key_above, level_rises}
+use Rattle.page_packer.proofs.Pointers.{child_part}
 
 zip-take : {A B : Type 0} (R : A → B → Type 0) (n : ℕ) (xs : List A) (ys : List B) → AllZip R xs ys
     → AllZip R (take n xs) (take n ys)
@@ -28,16 +28,13 @@ zip-take R (suc n) (x ∷ xs) (y ∷ ys) z = (z.0, zip-take R n xs ys z.1)
 abbrev pub KeyFits : Fields → Entry → Type 0
 KeyFits leaf entry = AllZip FitsField (take leaf.keys leaf.fields) (take leaf.keys entry)
 
-child_fits : (n : ℕ) → FitsField child_field (Bytes (be_bytes 4 n) false)
-child_fits n = ((λ same. length-bytes_high_first 4 n), (λ other. absurd (false≢true other)))
-
 -- so a pointer by that key fits the fields of node pointers
 pointer_fits : (leaf node : Fields) → AreOfOneIndex leaf node → (entry : Entry) (n : ℕ) → KeyFits leaf entry
     → FitFields node (pointer_with node.keys entry n)
 pointer_fits leaf node one entry n fits =
     rw (one.pointers, one.keys)
     (zip-append FitsField (take leaf.keys leaf.fields) (child_field ∷ []) (take leaf.keys entry)
-    (Bytes (be_bytes 4 n) false ∷ []) fits (child_fits n, tt))
+    (Bytes (be_bytes 4 n) false ∷ []) fits (child_part n, tt))
 
 module _ (leaf node : Fields) (numbers : ℕ → ℕ → ℕ) (levels : List Level) (one : AreOfOneIndex leaf node)
     (tree : AreLevels leaf node numbers levels) where

@@ -1,17 +1,17 @@
 -- The keys of a tree that is laid out rise on every level, and every entry has a part for each field.
 use Rattle.std.proofs.Common.{◌≡◌, ◌==◌, ℕ, zero, suc, ◌+◌, ◌<◌, ◌≤◌, List, [], ◌∷◌, length, get_or, take}
-use Rattle.std.proofs.Common.{cond, map, refl, sym, ap, subst, ◌∙◌, arith, add-one, length-append}
+use Rattle.std.proofs.Common.{cond, refl, sym, ap, subst, ◌∙◌, arith, add-one, length-append}
 use Rattle.std.specs.List.{All}
 use Rattle.std.proofs.lemmas.Bool.{ne_eqb}
 use Rattle.std.proofs.lemmas.List.{take-append-le, take-take, length-take-le}
 use Rattle.std.proofs.lemmas.List.FromFn.{length-map-range_with_len, get_or-map-range_with_len}
-use Rattle.column_values.specs.declared.field.Field.{Field}
 use Rattle.column_values.specs.Types.{Fields, AreOfOneIndex, child_field}
 use Rattle.compact_record.specs.Reading.{field_count, key_kinds}
 use Rattle.tree_layout.specs.Entries.{Entry, IsEntryBelow, EntriesAscend}
 use Rattle.tree_layout.specs.Division.{Level, pointer_with, pointer_to_page, pointers_to}
 use Rattle.tree_layout.specs.Levels.{AreLevels, EachPage, level_at, width_at, page_entries, entries_at}
 use Rattle.tree_layout.proofs.Offsets.{pairs_within, pairs_across, all_within}
+use Rattle.tree_walk.proofs.DescentLaw.{same_kinds}
 
 -- the pointers to a level are as many as its pages, in their order
 pub length-pointers : (keys : ℕ) (pages : Level) (number : ℕ → ℕ)
@@ -39,15 +39,6 @@ pub length-pointer : (keys : ℕ) (entry : Entry) (n : ℕ) → keys ≤ length 
 length-pointer keys entry n enough =
     let size : length (take keys entry) ≡ keys = length-take-le keys entry enough in
     length-append (take keys entry) _ ∙ omega arith
-
--- the keys of leaves and of node pointers have the same kinds
-pub same_kinds : (leaf node : Fields) → AreOfOneIndex leaf node → key_kinds node ≡ key_kinds leaf
-same_kinds leaf node one =
-    let size : length (take leaf.keys leaf.fields) ≡ leaf.keys = length-take-le leaf.keys leaf.fields one.few in
-    rw (one.keys, one.pointers)
-    (ap (map (λ (field : Field). field.kind))
-    (take-append-le leaf.keys (take leaf.keys leaf.fields) (child_field ∷ []) (omega arith)
-    ∙ take-take leaf.keys leaf.keys leaf.fields (omega arith)))
 
 below_same : (fields : Fields) (a b c d : Entry) → take fields.keys a ≡ take fields.keys c
     → take fields.keys b ≡ take fields.keys d → IsEntryBelow fields c d → IsEntryBelow fields a b

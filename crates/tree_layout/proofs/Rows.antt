@@ -9,12 +9,13 @@ use Rattle.std.proofs.lemmas.List.{ext_get_or, get_or-map, length-map}
 use Rattle.std.proofs.lemmas.List.FromFn.{length-map-range_with_len, get_or-map-range_with_len}
 use Rattle.column_values.specs.Types.{Fields, AreOfOneIndex}
 use Rattle.compact_record.specs.Reading.{key_kinds, field_count}
-use Rattle.compact_record.specs.Header.{next_origin}
-use Rattle.index_page.specs.Header.{record_count, records_from, records_of}
+use Rattle.index_page.specs.Header.{records_of}
 use Rattle.tree_walk.specs.Index.{Index, no_row, page_in, fields_on, root_level, rows_on, rows_of, row_at}
 use Rattle.tree_walk.specs.Index.{child_of, children, key_in, pages_at}
 use Rattle.tree_walk.specs.Descent.{tree_rows}
 use Rattle.tree_walk.specs.Records.{record_key}
+use Rattle.tree_walk.proofs.DescentLaw.{same_kinds}
+use Rattle.tree_walk.proofs.Records.{length-records}
 use Rattle.tree_layout.specs.Entries.{Entry, key_of_entry, HoldsEntry}
 use Rattle.tree_layout.specs.Division.{Level, pointer_to_page}
 use Rattle.tree_layout.specs.Levels.{level_at, width_at, page_entries, entries_at, top_of, numbers_at}
@@ -24,18 +25,9 @@ use Rattle.tree_layout.proofs.Offsets.{all_within}
 use Rattle.tree_layout.proofs.Zips.{zip_maps, zip_kept, zip_from, zip-map, zip-flat_map, zip_length, zip_at}
 use Rattle.tree_layout.proofs.Records.{key_is, child_is}
 use Rattle.tree_layout.proofs.Rise.{level_rises, parts_at, first_keys, entry_above, count_above, fields_at}
-use Rattle.tree_layout.proofs.Rise.{length-node, same_kinds}
+use Rattle.tree_layout.proofs.Rise.{length-node}
 use Rattle.tree_layout.proofs.Rise.{length-pointer, key_of_pointer, fields_up}
 use Rattle.compact_record.specs.Writing.{part_cell}
-
--- a page has as many records as it states
-length-chain : (page : List ℕ) (from count : ℕ) → length (records_from page from count) ≡ count
-unfolding records_from
-length-chain page from zero = refl
-length-chain page from (suc count) = ap suc (length-chain page (next_origin page from) count)
-
-pub length-records : (page : List ℕ) → length (records_of page) ≡ record_count page
-length-records page = length-chain page (next_origin page 99) (record_count page)
 
 pub length-numbers : (levels : List Level) (numbers : ℕ → ℕ → ℕ) (l : ℕ)
     → length (numbers_at levels numbers l) ≡ width_at levels l

@@ -28,13 +28,14 @@ use Rattle.tree_walk.specs.TreeChecks.{TreeChecks, RootCheck, PlaceWith, PlaceCh
 use Rattle.tree_walk.specs.TreeChecks.{DepthCheck}
 use Rattle.tree_walk.specs.TreeChecks.{held_key_in}
 use Rattle.tree_walk.specs.Laws.{ChecksAreWholeness, IsWhole, RowsByLeaves}
+use Rattle.tree_walk.proofs.Records.{length-records}
 use Rattle.tree_layout.specs.Entries.{key_of_entry, IsEntryBelow}
 use Rattle.tree_layout.specs.Division.{Level}
 use Rattle.tree_layout.specs.Levels.{level_at, width_at, page_entries, top_of, numbers_at}
 use Rattle.tree_layout.specs.Built.{HoldsTree}
 use Rattle.tree_layout.proofs.Offsets.{pairs_across}
 use Rattle.tree_layout.proofs.Rise.{level_rises, count_above}
-use Rattle.tree_layout.proofs.Rows.{length-records, length-numbers, number_at, kinds_on, count_rows, count_records}
+use Rattle.tree_layout.proofs.Rows.{length-numbers, number_at, kinds_on, count_rows, count_records}
 use Rattle.tree_layout.proofs.Rows.{record_key_is, child_above, pointer_key, children_above, root_alone, pages_are}
 use Rattle.tree_layout.proofs.Rows.{root_level_is, rows_are, row_keys_are, rows_live}
 use Rattle.tree_layout.specs.TreeLaws.{BuiltTreesAreWhole}

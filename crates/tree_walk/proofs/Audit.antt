@@ -5,21 +5,16 @@ use Rattle.std.proofs.lemmas.Bool.{false≢true}
 use Rattle.page_source.specs.Pages.{page_of, page_count, num}
 use Rattle.space_header.specs.declared.address.Address.{Address}
 use Rattle.fil_frame.specs.Kinds.{index_kind}
-use Rattle.space_header.specs.Header.{size_of, address_at}
-use Rattle.extent_map.specs.Head.{HeaderChecks, IsSize}
+use Rattle.space_header.specs.Header.{address_at}
 use Rattle.inode_segments.specs.Inodes.{segments}
 use Rattle.space_audit.specs.Owners.{IsUsedBy}
-use Rattle.space_audit.specs.Audit.{OwnerChecks}
 use Rattle.space_audit.specs.Space.{SpaceView, IsAuditOf, IsPageOf}
+use Rattle.space_audit.proofs.Audited.{head_size}
 use Rattle.tree_walk.specs.declared.index.Tree.{Tree}
 use Rattle.tree_walk.specs.Tree.{index_in}
 use Rattle.tree_walk.specs.Segments.{segment_in, segment_named_at, leaf_segment, top_segment, AreNewSegments}
 use Rattle.tree_walk.specs.TreeChecks.{IsRootPlace, HasNewSegments}
 use Rattle.tree_walk.specs.Place.{IsPagePlace}
-
-pub audit_size : (file : List ℕ) (space : SpaceView) → IsAuditOf file space → IsSize (size_of file) (page_count file)
-unfolding OwnerChecks HeaderChecks
-audit_size file space a = a.sound.0.0.1.1.1.1.1.0
 
 pub place_iff : (b taken : Bool) (file : List ℕ) (segment n : ℕ) → (IsTrue b ↔ IsPageOf file segment index_kind n) →
     IsTrue (b && not taken) ↔ IsPagePlace file taken segment n
@@ -29,12 +24,12 @@ place_iff false taken file segment n i = ((λ t. absurd (false≢true t)), (λ p
 
 pub place_within : (file : List ℕ) (space : SpaceView) (taken : Bool) (segment n : ℕ) → IsAuditOf file space →
     IsPagePlace file taken segment n → n < page_count file
-place_within file space taken segment n a p = let s = (audit_size file space a).within in let b = p.page.below in
+place_within file space taken segment n a p = let s = (head_size file space a).within in let b = p.page.below in
     omega arith
 
 pub root_within : (file : List ℕ) (space : SpaceView) (taken : Bool) (n : ℕ) → IsAuditOf file space → IsRootPlace
     file taken n → n < page_count file
-root_within file space taken n a p = let s = (audit_size file space a).within in let b = p.page.1.below in omega arith
+root_within file space taken n a p = let s = (head_size file space a).within in let b = p.page.1.below in omega arith
 
 -- the segments that a root names
 module _ (file : List ℕ) (tree : Tree) (page : List ℕ) (named : ℕ → Bool) (l t : ℕ)

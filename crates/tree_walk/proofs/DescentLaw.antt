@@ -382,3 +382,9 @@ pub descent_law : ChecksAreIndexPage → HasOneChain → ChecksGiveTree
 descent_law law one index o w =
     tree_is law one index (root_level index) true (bounded_root index)
     (whole index (agrees_on index o) w.taken w.named w.holds (root_level index) refl)
+
+-- the head of a tree is a node
+pub node_of : (index : Index) (level : ℕ) (root : Bool) (b : Bounded) → IsTree index level root b
+    → IsNode index level root b
+node_of index zero root b tree = tree
+node_of index (suc level) root b tree = tree.0

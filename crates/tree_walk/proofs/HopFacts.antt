@@ -14,7 +14,7 @@ in_turn_more : (n : ℕ) (before held : HeldPage) (came : List HeldPage) → n �
 in_turn_more n before held [] e t q = (q ∙ sym e, tt)
 in_turn_more n before held (x ∷ xs) e (s, t) q = (s, in_turn_more (next_page x.page) x held xs refl t q)
 
-last_more : (before held : HeldPage) (came : List HeldPage) → last_held before (came ++ held ∷ []) ≡ held
+pub last_more : (before held : HeldPage) (came : List HeldPage) → last_held before (came ++ held ∷ []) ≡ held
 last_more before held [] = refl
 last_more before held (x ∷ xs) = last_more x held xs
 

@@ -1,7 +1,7 @@
 -- the keys rise over all leaves
 use Rattle.std.proofs.Common.{◌≡◌, ◌==◌, ◌&&◌, ◌-◌, ℕ, suc, zero, ◌+◌, ◌<◌, List, [], ◌∷◌, ◌++◌, length, get_or, Bool}
 use Rattle.std.proofs.Common.{true, false, Option, None, Some, cond, arith, refl, ap, add-one, subst, inl, inr}
-use Rattle.std.proofs.lemmas.Bool.{false≢true, ne_eqb}
+use Rattle.std.proofs.lemmas.Bool.{false≢true, ne_eqb, and_parts}
 use Rattle.std.proofs.lemmas.List.{append-nil, length-map, get_or-map}
 use Rattle.column_values.specs.Order.{Key, IsBelow}
 use Rattle.compact_record.specs.Reading.{key_of}
@@ -20,6 +20,7 @@ use Rattle.tree_walk.specs.Laws.{row_key, Rises, KeysRiseOverLeaves}
 use Rattle.tree_walk.proofs.Records.{page_facts, some_record, length-records}
 use Rattle.tree_walk.proofs.Levels.{pages_at_more, pages_at_root}
 use Rattle.tree_walk.proofs.Descents.{rows_law}
+use Rattle.tree_walk.proofs.DescentLaw.{high_more}
 
 last_row : List Row → Row
 last_row rows = get_or rows (length rows - 1) no_row
@@ -56,10 +57,6 @@ rises_at index n (o ∷ []) h = tt
 rises_at index n (o ∷ p ∷ os) h =
     (h 0 (omega arith), rises_at index n (p ∷ os) (λ k m. rw add-one (rw add-one at (h (suc k) (omega arith)))))
 
-no_lowest : (b : Bool) → (b && false) ≡ true → ⊥
-no_lowest true e = false≢true e
-no_lowest false e = false≢true e
-
 page_rises : (index : Index) (n : ℕ) (root leftmost : Bool) → PageChecks (page_in index n) index.leaf true root
     leftmost None → Rises index (rows_on index n)
 unfolding PageChecks
@@ -67,7 +64,7 @@ page_rises index n root leftmost c =
     let f = page_facts (page_in index n) index.leaf true root leftmost c in
     rises_at index n (records_of (page_in index n))
     (λ k m. elim (c.1.1.1.1.1.1.1.1.1.1 k m) [
-      | inl z ↦ absurd (no_lowest leftmost z.1)
+      | inl z ↦ absurd (false≢true (and_parts leftmost false z.1).1)
       | inr b ↦ b
     ])
 
@@ -158,9 +155,6 @@ low_same index q qs low (suc j) = rw (
   ne_eqb (suc (suc j)) 0
       (λ e. omega arith),
 ) refl
-
-high_more : (index : Index) (p : Row) (ps : List Row) (j : ℕ) → high_of index ps j ≡ high_of index (p ∷ ps) (suc j)
-high_more index p ps j = rw (add-one (suc j), add-one j) refl
 
 leaves_from : (index : Index) (low : Option Key) (ps : List Row)
     → ((j : ℕ) → j < length ps → Leaf index (child_of index (row_at ps j))

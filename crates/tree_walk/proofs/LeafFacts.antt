@@ -19,15 +19,15 @@ use Rattle.page_source.specs.declared.rule.Fault.{Fault}
 use Rattle.page_source.specs.declared.checks.Halt.{Halt}
 use Rattle.page_source.specs.declared.checks.Halt.TheVariants.{Broken, Source}
 use Rattle.index_page.specs.Page.{IsChain}
-use Rattle.tree_walk.proofs.Audit.{audit_size}
 use Rattle.tree_walk.proofs.Records.{length-records, passed_more, chain_end, record_at}
 use Rattle.tree_walk.proofs.Levels.{level_facts, pages_at_root}
 use Rattle.tree_walk.proofs.Cursors.{rows_more, stands_within, stands_read}
+use Rattle.space_audit.proofs.Audited.{head_size}
 
 module _ (index : Index) (w : IsWalked index) where
   pub leaf_facts : LevelFacts index index.leaf (root_level index)
   leaf_facts =
-      let f = level_facts index w.taken w.named (audit_size index.file w.space w.audit) (root_level index)
+      let f = level_facts index w.taken w.named (head_size index.file w.space w.audit) (root_level index)
       (omega arith) w.holds.0 w.holds.1 in
       let e : root_level index - root_level index ≡ 0 = omega arith in
       let q : fields_on index (root_level index - root_level index) ≡ index.leaf = rw e refl in

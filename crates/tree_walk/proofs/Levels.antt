@@ -42,9 +42,6 @@ reached_root index = refl
 
 -- marks
 
-pub marked_start : (marks : List Bool) → Marked (is_set marks) marks []
-marked_start marks n = elim (get_or marks n false) as (λ b. b ≡ cond b true false) [ true ↦ refl | false ↦ refl ]
-
 pub is_in-append : (xs ys : List ℕ) (n : ℕ) → is_in (xs ++ ys) n ≡ cond (is_in xs n) true (is_in ys n)
 is_in-append [] ys n = refl
 is_in-append (x ∷ xs) ys n =

@@ -10,10 +10,10 @@ use Rattle.tree_walk.specs.Facts.{LevelFacts}
 use Rattle.tree_walk.specs.Leaf.{IsWalked}
 use Rattle.tree_walk.specs.Descent.{below}
 use Rattle.tree_walk.specs.Laws.{IsLinkedByNext, LinksEqualDescent, LinksAreDescent}
-use Rattle.tree_walk.proofs.Audit.{audit_size}
 use Rattle.tree_walk.proofs.Levels.{level_facts}
 use Rattle.tree_walk.proofs.Descents.{below_is, rows_law}
 use Rattle.tree_walk.proofs.Fresh.{distinct_tree}
+use Rattle.space_audit.proofs.Audited.{head_size}
 
 linked_by : (index : Index) (pages : List ℕ) → All (λ n. n < fil_null) pages
     → ((i : ℕ) → i < length pages → next_page (page_in index (get_or pages i 0)) ≡ get_or pages (i + 1) fil_null)
@@ -33,7 +33,7 @@ linked_by index (x ∷ xs) a h =
 
 module _ (index : Index) (w : IsWalked index) where
   facts : (d : ℕ) → d ≤ root_level index → LevelFacts index (fields_on index (root_level index - d)) d
-  facts d h = level_facts index w.taken w.named (audit_size index.file w.space w.audit) d h w.holds.0
+  facts d h = level_facts index w.taken w.named (head_size index.file w.space w.audit) d h w.holds.0
       (λ e l. w.holds.1 e (omega arith))
 
   levels : (d : ℕ) → d ≤ root_level index → IsLinkedByNext index (get_or (pages_at index d) 0 0)

@@ -20,6 +20,7 @@ use Rattle.tree_walk.specs.Index.{Index, page_in, fields_on, root_level, index_i
 use Rattle.tree_walk.specs.Index.{children, reached, tree_pages, is_live_row, is_deleted_row}
 use Rattle.tree_walk.specs.Segments.{leaf_segment, top_segment, named_segments}
 use Rattle.space_audit.specs.Marks.{is_set, Marked}
+use Rattle.space_audit.proofs.Audited.{head_size}
 use Rattle.tree_walk.specs.Facts.{LevelFacts}
 use Rattle.tree_walk.specs.Tree.{index_in}
 use Rattle.tree_walk.specs.Ends.{lies_whole}
@@ -28,7 +29,6 @@ use Rattle.tree_walk.proofs.States.{TreeState}
 use Rattle.tree_walk.proofs.Tallies.{tally_root}
 use Rattle.tree_walk.specs.Place.{SpotAt}
 use Rattle.tree_walk.specs.TreeChecks.{RootCheck, DepthCheck, LevelCheck, TreeChecks, root_spot}
-use Rattle.tree_walk.proofs.Audit.{audit_size}
 use Rattle.tree_walk.proofs.Levels.{level_facts, fields_above, level_from, marked_join, pages_at_root, reached_root}
 use Rattle.tree_walk.proofs.Levels.{reached_more}
 
@@ -138,7 +138,7 @@ module _ (index : Index) (top : Top) (depth : ℕ) (start names marks : List Boo
   tree_facts : (space : SpaceView) → IsAuditOf index.file space → depth < top.level → LevelFacts index index.node depth
   tree_facts space a h =
       let l = t.is_top.level in
-      let f = level_facts index (is_set start) (is_set names) (audit_size index.file space a) depth (omega arith)
+      let f = level_facts index (is_set start) (is_set names) (head_size index.file space a) depth (omega arith)
       t.checked t.held in
       let h : depth < root_level index = omega arith in
       subst (λ fs. LevelFacts index fs depth) (fields_above index depth h) f

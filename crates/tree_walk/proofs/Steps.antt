@@ -11,6 +11,7 @@ use Rattle.tree_walk.specs.declared.cursor.Cursor.{Cursor}
 use Rattle.tree_walk.specs.Index.{Index, Row, page_in, pages_at, places, row_at, children, child_of, no_row}
 use Rattle.compact_record.specs.Keys.{child_at}
 use Rattle.space_audit.specs.Marks.{is_set, Marked}
+use Rattle.space_audit.proofs.Marking.{marked_none}
 use Rattle.tree_walk.specs.Records.{IsRecord}
 use Rattle.tree_walk.specs.declared.level.Aim.{Aim}
 use Rattle.tree_walk.specs.declared.level.Place.{Place}
@@ -22,7 +23,7 @@ use Rattle.tree_walk.specs.Walk.{IsTally, IsTallyOf}
 use Rattle.tree_walk.proofs.Tallies.{tally_none, tally_more}
 use Rattle.tree_walk.specs.TreeChecks.{before, PlaceCheck, LevelCheck}
 use Rattle.tree_walk.proofs.Records.{length-records, first_record}
-use Rattle.tree_walk.proofs.Levels.{check_at, marks_step, children_more, children_all, marked_start, pages_at_more}
+use Rattle.tree_walk.proofs.Levels.{check_at, marks_step, children_more, children_all, pages_at_more}
 use Rattle.tree_walk.proofs.Levels.{level_halts}
 use Rattle.tree_walk.proofs.Cursors.{stands_within, stands_child, stands_record}
 
@@ -139,7 +140,7 @@ module _ (index : Index) (aim : Aim) (upper : Level) (origin : ℕ) (page : List
       }) page (record { live = 0; deleted = 0; whole = true })
   state_first start = record {
     at = record { facts = a.facts; is_aim = a.is_aim; stands = stands_first; previous = refl };
-    marked = marked_start start;
+    marked = marked_none start;
     held = λ k h. absurd (omega arith);
     tallied = λ z. tally_none index;
   }

@@ -23,6 +23,7 @@ use Rattle.tree_layout.specs.Entries.{Entry}
 use Rattle.tree_layout.specs.Division.{tree_levels, level_counts, CanDivide}
 use Rattle.tree_layout.specs.Levels.{top_of}
 use Rattle.tree_layout.specs.Places.{pages_above, top_size, leaf_size}
+use Rattle.tree_layout.proofs.Held.{length-counts, count_at}
 use Rattle.row_layout.specs.StoredRow.{Stored}
 use Rattle.row_layout.specs.HoldsValues.{clustered_entries, pages_of_stored}
 use Rattle.space_builder.specs.declared.plan.IndexPages.{IndexPages}
@@ -39,7 +40,7 @@ use Rattle.space_builder.specs.calls.StoredRows.{AreStoredRows, PicksEntries}
 use Rattle.space_builder.specs.calls.Plan.{HaveRows, OfStored, stored_total, HasTreeCounts, HasWideLevel, IsFull}
 use Rattle.space_builder.specs.calls.Plan.{HasValuePages, ArePagesOf, IsPlanOf, FindsPages}
 use Rattle.space_builder.proofs.layout.FittedRows.{fitted_if}
-use Rattle.space_builder.proofs.layout.Sizes.{length-counts, count_at, size_small, top_is, leaf_is}
+use Rattle.space_builder.proofs.layout.Sizes.{size_small, top_is, leaf_is}
 
 -- these are the leaf entries of index j, whose values have no pages yet
 abbrev pub AreLeaves : TableDef → List (List Stored) → ℕ → List Entry → Type 0

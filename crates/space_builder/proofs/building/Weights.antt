@@ -12,11 +12,7 @@ use Rattle.std.proofs.Common.{Bool, true, ◌==◌, ◌||◌}
 use Rattle.page_packer.specs.Packing.{sizes_fit}
 use Rattle.tree_layout.specs.Counting.{begins_page}
 use Rattle.tree_layout.specs.Counting.{Cutting, weight_of, nothing_cut, one_more, cut_more}
-
-cut_push : (cutting : Cutting) (weights : List Weight) (weight : Weight)
-    → cut_more cutting (weights ++ weight ∷ []) ≡ one_more (cut_more cutting weights) weight
-cut_push cutting [] weight = refl
-cut_push cutting (w ∷ weights) weight = cut_push (one_more cutting w) weights weight
+use Rattle.tree_layout.proofs.Counting.{cut_snoc}
 
 -- one entry more
 pub cut_step : (leaf node : Fields) (entries : List Entry) (k : ℕ) → k < length entries
@@ -25,7 +21,7 @@ pub cut_step : (leaf node : Fields) (entries : List Entry) (k : ℕ) → k < len
     ≡ cut_more nothing_cut (map (weight_of leaf node) (take (k + 1) entries))
 cut_step leaf node entries k within =
     sym (ap (cut_more nothing_cut) (map_more (weight_of leaf node) entries k [] within)
-    ∙ cut_push nothing_cut (map (weight_of leaf node) (take k entries)) (weight_of leaf node (entry_at entries k)))
+    ∙ cut_snoc nothing_cut (map (weight_of leaf node) (take k entries)) (weight_of leaf node (entry_at entries k)))
 
 -- a pointer by the key of an entry fits
 pub pointer_fits : PointersPoint → (leaf node : Fields) (entries : List Entry) → CanDivide leaf node entries → (k : ℕ)

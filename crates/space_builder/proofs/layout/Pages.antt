@@ -19,9 +19,9 @@ use Rattle.space_builder.specs.layout.Layout.{layout_value_page, value_pages, se
 use Rattle.space_builder.specs.layout.ValuePage.{pages_of_field, pages_of_row, pages_of_values}
 use Rattle.row_layout.specs.StoredRow.{Stored, stored_at}
 use Rattle.row_layout.specs.HoldsValues.{stored_in, pages_of_stored}
+use Rattle.row_layout.proofs.Ranges.{all_map}
 use Rattle.space_builder.specs.layout.LowerLaws.{LowerLaws}
 use Rattle.space_builder.specs.layout.Laws.{CanBuild}
-use Rattle.space_builder.proofs.Lists.{all_map}
 use Rattle.space_builder.proofs.layout.Laid.{all_flat, contains_flat, contains_mapped, contains_image}
 use Rattle.space_builder.proofs.layout.Laid.{fill, levels_length, levels_width}
 use Rattle.space_builder.proofs.layout.Laid.{tree_numbered, places, parts_long, row_long, field_is}

@@ -4,31 +4,24 @@ use Rattle.std.proofs.Common.{Some, [], sym, ap, ◌∙◌, arith, inl, inr}
 use Rattle.std.specs.List.{range_with_len, sum_by}
 use Rattle.std.proofs.lemmas.Bool.{cases_lt}
 use Rattle.std.proofs.lemmas.Option.{slice_get-get_or}
-use Rattle.std.proofs.lemmas.List.{get_or_past, take_all, length-map, get_or-map}
+use Rattle.std.proofs.lemmas.List.{get_or_past, take_all}
 use Rattle.std.proofs.lemmas.List.Sums.{get_or-le-sum_by}
 use Rattle.std.proofs.lemmas.List.FromFn.{get_or-map-range_with_len, length-map-range_with_len}
 use Rattle.schema_text.specs.TableDef.{TableDef}
 use Rattle.schema_text.specs.IndexFields.{leaf_fields, node_fields}
 use Rattle.space_layout.specs.Numbers.{size_at, extents_of, extents_before, extents_needed, IsShape}
-use Rattle.tree_layout.specs.Division.{Level, tree_levels, level_counts, CanDivide}
+use Rattle.tree_layout.specs.Division.{tree_levels, level_counts, CanDivide}
 use Rattle.tree_layout.specs.DivisionLaws.{AreTheLevels}
 use Rattle.tree_layout.specs.Levels.{width_at, top_of}
 use Rattle.tree_layout.specs.Places.{top_size, leaf_size, FitsSegments}
-use Rattle.space_builder.proofs.Lists.{all_map}
+use Rattle.tree_layout.proofs.Held.{length-counts, count_at}
 use Rattle.row_store.specs.StoredRows.{Rows, stored_rows}
 use Rattle.space_builder.specs.layout.Layout.{entries_with, tree_counts, value_total, index_sizes}
 use Rattle.space_builder.specs.layout.Layout.{segment_sizes}
 use Rattle.space_builder.specs.layout.LowerLaws.{LowerLaws}
 use Rattle.space_builder.specs.layout.Laws.{CanBuild}
 use Rattle.space_builder.proofs.layout.FittedRows.{are_fitted}
-
--- the counts of levels
-pub length-counts : (levels : List Level) → length (level_counts levels) ≡ length levels
-length-counts levels = length-map levels (λ (level : Level). length level)
-
-pub count_at : (levels : List Level) (l : ℕ) → l < length levels
-    → slice_index (level_counts levels) l ≡ width_at levels l
-count_at levels l inside = get_or-map (λ (level : Level). length level) levels l [] 0 inside
+use Rattle.row_layout.proofs.Ranges.{all_map}
 
 -- a segment of a tablespace that can be built is small
 pub size_small : (sizes : List ℕ) (s : ℕ) → extents_needed sizes ≤ 256 → size_at sizes s ≤ 16416

@@ -2,7 +2,6 @@
 use Rattle.std.proofs.Common.{◌≡◌, ℕ, zero, suc, ◌+◌, ◌^◌, ◌<◌, true, false, ◌==◌, cond, List, [], ◌∷◌}
 use Rattle.std.proofs.Common.{length, get_or, Some, None, arith, lit<, inr}
 use Rattle.std.proofs.lemmas.Bool.{eq-eqb}
-use Rattle.std.proofs.lemmas.List.FromFn.{get_or-map-range_with_len, length-map-range_with_len}
 use Rattle.page_source.specs.Pages.{fil_null}
 use Rattle.fil_frame.specs.Kinds.{index_kind}
 use Rattle.fil_frame.specs.Frame.{Seals}
@@ -23,16 +22,7 @@ use Rattle.tree_layout.specs.Built.{IsBuiltPage}
 use Rattle.space_builder.specs.layout.LowerLaws.{PageLaws}
 use Rattle.space_builder.specs.layout.TreePage.{heads_of, heads_on, fields_of_level, tree_body, tree_page}
 use Rattle.tree_layout.proofs.Zips.{zip_length}
-
--- the numbers of a level
-length-numbers : (levels : List Level) (numbers : ℕ → ℕ → ℕ) (l : ℕ)
-    → length (numbers_at levels numbers l) ≡ width_at levels l
-length-numbers levels numbers l = length-map-range_with_len (numbers l) 0 (width_at levels l)
-
-number_at : (levels : List Level) (numbers : ℕ → ℕ → ℕ) (l k d : ℕ) → k < width_at levels l
-    → get_or (numbers_at levels numbers l) k d ≡ numbers l k
-number_at levels numbers l k d within =
-    get_or-map-range_with_len (numbers l) 0 (width_at levels l) k k d within (omega arith)
+use Rattle.tree_layout.proofs.Rows.{length-numbers, number_at}
 
 -- the neighbours' numbers fit
 beside_small : (xs : List ℕ) (k : ℕ) → ((i : ℕ) → i < length xs → get_or xs i fil_null < 2 ^ 32)

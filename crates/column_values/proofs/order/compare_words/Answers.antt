@@ -10,7 +10,8 @@ returns-in-Less-clause-order c =
     let a = c.args.a.now in
     let b = c.args.b.now in
     sym (word_decides (8 * c.loop-word.word) 8 a b _ _ _ Less
-    (omega (arith, c.min-words.ensures, c.loop-word-test.true)) (omega (arith, c.min-words.ensures, c.loop-word-test.true))
+    (omega (arith, c.min-words.ensures, c.loop-word-test.true))
+    (omega (arith, c.min-words.ensures, c.loop-word-test.true))
     (are_bytes a (λ k. omega (arith, c.type_inv.a k))) (are_bytes b (λ k. omega (arith, c.type_inv.b k)))
     c.number_at.ensures.number c.number_at-in-loop-word.ensures.number c.cmp-order.ensures c.in-Less.is
     c.loop-word.invariant)
@@ -20,7 +21,8 @@ returns-in-Greater-clause-order c =
     let a = c.args.a.now in
     let b = c.args.b.now in
     sym (word_decides (8 * c.loop-word.word) 8 a b _ _ _ Greater
-    (omega (arith, c.min-words.ensures, c.loop-word-test.true)) (omega (arith, c.min-words.ensures, c.loop-word-test.true))
+    (omega (arith, c.min-words.ensures, c.loop-word-test.true))
+    (omega (arith, c.min-words.ensures, c.loop-word-test.true))
     (are_bytes a (λ k. omega (arith, c.type_inv.a k))) (are_bytes b (λ k. omega (arith, c.type_inv.b k)))
     c.number_at.ensures.number c.number_at-in-loop-word.ensures.number c.cmp-order.ensures c.in-Greater.is
     c.loop-word.invariant)
@@ -32,7 +34,8 @@ loop-word-preserved c =
     let next : 8 * (c.loop-word.word + 1) ≡ 8 * c.loop-word.word + 8 = omega arith in
     (λ k. bytes_cmp (take (next k) a) (take (next k) b))
     ∙ word_decides (8 * c.loop-word.word) 8 a b _ _ _ Equal
-    (omega (arith, c.min-words.ensures, c.loop-word-test.true)) (omega (arith, c.min-words.ensures, c.loop-word-test.true))
+    (omega (arith, c.min-words.ensures, c.loop-word-test.true))
+    (omega (arith, c.min-words.ensures, c.loop-word-test.true))
     (are_bytes a (λ k. omega (arith, c.type_inv.a k))) (are_bytes b (λ k. omega (arith, c.type_inv.b k)))
     c.number_at.ensures.number c.number_at-in-loop-word.ensures.number c.cmp-order.ensures c.in-Equal.is
     c.loop-word.invariant

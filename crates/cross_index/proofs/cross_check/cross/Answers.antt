@@ -1,11 +1,12 @@
 use Rattle.std.proofs.Common.{ℕ, arith}
 use Rattle.std.proofs.lemmas.Result.{err_from_is_err_and}
 use Rattle.page_source.proofs.Told.{told1}
-use Rattle.cross_index.proofs.AllSteps.{asks_at_most, all_cost, takes_steps}
+use Rattle.cross_index.proofs.AllSteps.{all_cost, takes_steps}
 use Rattle.cross_index.specs.declared.crossed.Crossed.{Crossed}
 use Rattle.cross_index.specs.declared.gathered.Gathered.{Gathered}
 use Rattle.cross_index.specs.Cross.{IsSecondary}
 use Rattle.cross_index.proofs.Named.{checks_name, pass_names, names_again}
+use Rattle.table_check.proofs.Asked.{asks_at_most}
 use Rattle.cross_index.proofs.cross_check.cross.Goals as goal
 
 pub returns-in_err-entries-clause-steps : goal.returns-in_err-entries-clause-steps

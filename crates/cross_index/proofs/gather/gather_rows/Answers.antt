@@ -7,9 +7,9 @@ use Rattle.page_source.proofs.Told.{told1, told2, told3, told4, told5}
 use Rattle.column_values.specs.Types.{Fields, AreFields}
 use Rattle.compact_record.specs.declared.places.Place.{Place}
 use Rattle.compact_record.specs.Reading.{places_of, field_count}
+use Rattle.compact_record.proofs.KeySteps.{count_of_places}
 use Rattle.schema_text.specs.IndexFields.{leaf_fields}
 use Rattle.tree_walk.specs.Records.{IsRecord}
-use Rattle.cross_index.proofs.EntrySteps.{count_of_places}
 use Rattle.cross_index.proofs.GatherSteps.{gather_start, can_give, finds, halts_so, row_readable, can_gather}
 use Rattle.cross_index.proofs.GatherSteps.{gather_more, gather_all}
 use Rattle.cross_index.proofs.KeptPages.{kept_below}

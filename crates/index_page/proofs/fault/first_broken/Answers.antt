@@ -47,5 +47,8 @@ returns-then-not-keys_rise-clause-exact c =
     let room = c.have_room.ensures.exact.0 c.if-not-have_room.false in
     let empty = c.may_be_empty-2.ensures.0 c.if-not-may_be_empty.false in
     passed header (passed ends (passed chain (passed numbers (passed free (passed directory (passed kind (passed spelled
-    (passed room (passed empty
-    (λ rise. false≢true (c.if-not-keys_rise.ensures.exact.1 (rw (c.is_lowest_first-lowest.ensures) rise)), refl))))))))))
+    (passed room (passed empty (
+      λ rise.
+          false≢true (c.if-not-keys_rise.ensures.exact.1 (rw (c.is_lowest_first-lowest.ensures) rise)),
+      refl,
+    ))))))))))

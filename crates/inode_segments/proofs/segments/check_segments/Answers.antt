@@ -1,10 +1,9 @@
 use Rattle.std.proofs.Common.{◌≡◌, ◌↔◌, ◌<◌, ℕ, true, false, map, take, Contains, inl, inr, sym, subst, ◌∙◌, ap, arith}
-use Rattle.std.proofs.lemmas.Bool.{false≢true}
+use Rattle.std.proofs.lemmas.Bool.{false≢true, not-true, not-false}
 use Rattle.std.specs.Ordering.{nat_cmp}
 use Rattle.std.specs.BTreeSet.{contains}
 use Rattle.inode_segments.specs.declared.inode.Inode.{Inode}
 use Rattle.inode_segments.proofs.Kept.{segment_there, new_id, is_new, segment_breaks, segment_holds, ids_more, has_more}
-use Rattle.inode_segments.proofs.Kept.{not_true, not_false}
 use Rattle.inode_segments.proofs.segments.check_segments.Goals as goal
 use Rattle.inode_segments.proofs.segments.check_segments.Goals.{then-inode-next-via-then-inode-next}
 use Rattle.inode_segments.proofs.segments.check_segments.Goals.{then-inode-next-via-else-inode-next+in_ok-add_id+then-not-branch}
@@ -26,7 +25,7 @@ seen c new = elim c.then-inode-next.branch [
   | then-inode-next-via-then-inode-next w ↦ absurd (omega (arith, w.if-inode-next.true, new.0))
   | then-inode-next-via-else-inode-next+in_ok-add_id+then-not-branch w ↦ new.1
       ((c.loop-i.invariant.ids c.inode-inode.result.now.id).0
-      (not_false (contains nat_cmp c.loop-i.ids c.inode-inode.result.now.id) (sym w.in_ok-add_id.ensures.new
+      (not-false (contains nat_cmp c.loop-i.ids c.inode-inode.result.now.id) (sym w.in_ok-add_id.ensures.new
       ∙ w.if-not-branch.true)))
 ]
 
@@ -53,7 +52,7 @@ loop-i-preserved c =
     let inode = c.inode-inode.result.now in
     let inodes = c.args.inodes.now.inodes in
     let unseen : contains nat_cmp c.loop-i.ids inode.id ≡ false =
-    not_true (contains nat_cmp c.loop-i.ids inode.id) (sym c.in_ok-add_id.ensures.new ∙ c.if-not-branch.false) in
+    not-true (contains nat_cmp c.loop-i.ids inode.id) (sym c.in_ok-add_id.ensures.new ∙ c.if-not-branch.false) in
     record {
       held = λ file are head.
           let here = segment_there file c.args.inodes.now i place inode are c.place-holder.ensures

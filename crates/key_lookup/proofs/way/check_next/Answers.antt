@@ -2,7 +2,8 @@ use Rattle.std.proofs.Common.{arith}
 use Rattle.std.proofs.lemmas.Result.{err_from_is_err_and}
 use Rattle.page_source.proofs.Told.{told1, told2, told3}
 use Rattle.key_lookup.specs.Tree.{index_in}
-use Rattle.key_lookup.proofs.WaySteps.{size_is, due_beyond, due_halts, due_breaks, due_holds}
+use Rattle.key_lookup.proofs.WaySteps.{due_beyond, due_halts, due_breaks, due_holds}
+use Rattle.offpage_chain.proofs.Places.{size_is}
 use Rattle.key_lookup.proofs.way.check_next.Goals as goal
 
 pub returns-then-n-tree-clause-exact : goal.returns-then-n-tree-clause-exact

@@ -3,8 +3,9 @@ use Rattle.std.proofs.lemmas.Result.{err_from_is_err_and}
 use Rattle.page_source.proofs.Told.{told0, told1, told2, told3}
 use Rattle.column_values.specs.Utf8Reader.{CountsUpTo, IsFed}
 use Rattle.space_audit.specs.Marks.{is_set}
+use Rattle.space_audit.proofs.Marking.{marked_none}
 use Rattle.offpage_chain.proofs.Feeds.{fed_none, fed_more, counts_more}
-use Rattle.offpage_chain.proofs.Alongs.{IsAlong, walk_of, marked_none, along_start, along_halts, along_more}
+use Rattle.offpage_chain.proofs.Alongs.{IsAlong, walk_of, along_start, along_halts, along_more}
 use Rattle.offpage_chain.proofs.Alongs.{along_holds, along_count, along_within, along_marked, along_fed}
 use Rattle.offpage_chain.proofs.check.check_pages.Goals as goal
 

@@ -5,10 +5,11 @@ use Rattle.page_source.proofs.Told.{told0, told1, told2, told3}
 use Rattle.column_values.specs.Utf8Reader.{CountsUpTo, IsFed, TakesText}
 use Rattle.space_audit.specs.Marks.{is_set}
 use Rattle.offpage_chain.proofs.Feeds.{fed_none, fed_more, counts_more}
+use Rattle.offpage_chain.proofs.Stages.{text_says}
 use Rattle.salvage_model.specs.declared.loss.Loss.TheVariants.{Broken}
 use Rattle.row_salvage.proofs.AlongChain.{walk_of, IsReached, reached_start, reached_more, reached_end}
 use Rattle.row_salvage.proofs.ChainVerdict.{parts_empty, parts_elsewhere}
-use Rattle.row_salvage.proofs.ChainAnswers.{answer_early, answer_break, answer_untold, answer_whole, text_says}
+use Rattle.row_salvage.proofs.ChainAnswers.{answer_early, answer_break, answer_untold, answer_whole}
 use Rattle.row_salvage.proofs.chain_check.check_parts.Goals as goal
 use Rattle.row_salvage.proofs.chain_check.check_parts.Goals.{then-reference-chain-via-then-reference-chain}
 use Rattle.row_salvage.proofs.chain_check.check_parts.Goals.{then-reference-chain-via-else-reference-chain+then-reference-ne-PART_HEADER}

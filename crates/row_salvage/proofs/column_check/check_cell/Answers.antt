@@ -74,7 +74,8 @@ returns-clause-answers g c =
     told1 (g.S.PageSource.content c.args.source.now)
     (λ file answers. cell_long file c.args.leaf cell sound goes c.args.marks.now c.check_parts.new.marks
     (g.S.PageSource.faults c.args.source.now) (g.S.PageSource.faults c.check_parts.new.source) text front
-    c.space_id.result c.split_local.result.1 (c.space_id.ensures ∙ ap (λ (v : CellView). space_of v.page) c.cell.view_is)
+    c.space_id.result c.split_local.result.1
+    (c.space_id.ensures ∙ ap (λ (v : CellView). space_of v.page) c.cell.view_is)
     (c.split_local.ensures.reference ∙ ap reference_of c.local.ensures.bytes)
     (c.split_local.ensures.front ∙ ap front_of c.local.ensures.bytes) takes (loss_of c.check_parts.result)
     (answers front (c.feed.ensures.feeds.fed [] c.text_of-text.ensures.fresh)))

@@ -1,7 +1,7 @@
 use Rattle.std.proofs.Common.{◌+◌, ◌-◌, length, sym, ap, ◌∙◌, arith}
 use Rattle.row_layout.specs.StoredRow.{fitted}
+use Rattle.row_layout.proofs.Fitting.{length-with_off}
 use Rattle.row_store.proofs.Longest.{fit_more}
-use Rattle.row_store.proofs.Spots.{length-off}
 use Rattle.row_store.proofs.fitting.fit_row.Goals as goal
 
 pub loop-gone-preserved : goal.loop-gone-preserved
@@ -16,5 +16,5 @@ loop-gone-preserved c =
           ∙ fit_more table row c.in-Some.i (n - gone) (n - (gone + 1)) (sym c.if-not-is_too_long.ensures)
           c.in-Some.ensures (omega (arith, c.loop-gone-test.true, c.len-gone-end.ensures))
           ∙ ap (fitted table (n - (gone + 1))) (sym c.send_off.ensures);
-      size = ap length c.send_off.ensures ∙ length-off c.in-Some.i row ∙ c.loop-gone.invariant.size;
+      size = ap length c.send_off.ensures ∙ length-with_off c.in-Some.i row ∙ c.loop-gone.invariant.size;
     }

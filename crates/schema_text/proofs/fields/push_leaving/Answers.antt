@@ -1,15 +1,16 @@
 use Rattle.std.proofs.Common.{ℕ, Bool, refl, ◌+◌, ◌≡◌, ◌∙◌, ◌++◌, ◌∷◌, [], sym, ap, arith}
 use Rattle.schema_text.specs.IndexFields.{leaving_field}
-use Rattle.schema_text.proofs.FieldLemmas.{field_same, field_more, range_more}
+use Rattle.schema_text.proofs.FieldLemmas.{field_same, field_more}
 use Rattle.std.specs.List.{range_with_len}
 use Rattle.column_values.specs.declared.field.FieldType.TheVariants.{Column}
 use Rattle.schema_text.proofs.fields.push_leaving.Goals as goal
 use Rattle.schema_text.proofs.fields.push_leaving.Goals.{then-not-is_among+in_ok-push, else-not-is_among}
+use Rattle.page_source.proofs.Lists.{range_next}
 
 pub loop-place-preserved : goal.loop-place-preserved
 loop-place-preserved c =
     let xs = range_with_len 0 c.loop-place.place in
-    let grown = range_more 0 c.loop-place.place
+    let grown = range_next 0 c.loop-place.place
     ∙ ap (λ (q : ℕ). xs ++ q ∷ []) (let e : 0 + c.loop-place.place ≡ c.loop-place.place = omega arith in e) in
     elim c.if-not-is_among.branch [
       | then-not-is_among+in_ok-push w ↦

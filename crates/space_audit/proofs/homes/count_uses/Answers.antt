@@ -2,8 +2,9 @@ use Rattle.std.proofs.Common.{◌≡◌, ◌++◌, ◌∷◌, [], ◌≤◌, sub
 use Rattle.std.specs.List.{range_with_len}
 use Rattle.std.proofs.lemmas.List.Elements.{All-push}
 use Rattle.extent_map.specs.Extents.{used_count}
+use Rattle.extent_map.proofs.Readers.{extents_count}
 use Rattle.space_audit.specs.Lists.{uses_of}
-use Rattle.space_audit.proofs.ReadExtents.{uses_more, uses_is, extents_length}
+use Rattle.space_audit.proofs.ReadExtents.{uses_more, uses_is}
 use Rattle.space_audit.proofs.homes.count_uses.Goals as goal
 
 pub loop-e-preserved : goal.loop-e-preserved
@@ -28,6 +29,6 @@ returns-clause-told c = λ file are.
       c.loop-e-test.false,
       c.loop-e.auto.e-end,
       c.count-e-end.ensures.count,
-      extents_length file
+      extents_count file
           c.args.extents.now are,
     ))

@@ -2,7 +2,8 @@ use Rattle.std.proofs.Common.{◌≡◌, ◌++◌, ◌∷◌, [], map, sym, ◌�
 use Rattle.std.specs.List.{range_with_len}
 use Rattle.space_audit.specs.Lists.{home_number, home_by}
 use Rattle.space_audit.specs.Numbering.{place_in}
-use Rattle.space_audit.proofs.ReadExtents.{homes_more, homes_are, home_is, extent_is, extents_length, use_at}
+use Rattle.space_audit.proofs.ReadExtents.{homes_more, homes_are, home_is, extent_is, use_at}
+use Rattle.extent_map.proofs.Readers.{extents_count}
 use Rattle.space_audit.proofs.homes.number_homes.Goals as goal
 
 pub loop-e-preserved : goal.loop-e-preserved
@@ -31,6 +32,6 @@ returns-clause-told c = λ file are used ids.
       c.loop-e-test.false,
       c.loop-e.auto.e-end,
       c.count-e-end.ensures.count,
-      extents_length file
+      extents_count file
           c.args.extents.now are,
     ))

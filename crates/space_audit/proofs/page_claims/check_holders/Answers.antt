@@ -1,7 +1,8 @@
 use Rattle.std.proofs.Common.{◌/◌, None, get_or, sym, ◌∙◌, subst, arith, below_more}
 use Rattle.std.proofs.lemmas.Bool.{false≢true}
 use Rattle.extent_map.specs.Extents.{is_used, is_fragment_extent}
-use Rattle.space_audit.proofs.Fragments.{and_left, and_right, both_true, used_below}
+use Rattle.extent_map.proofs.Used.{used_below}
+use Rattle.space_audit.proofs.Fragments.{and_left, and_right, both_true}
 use Rattle.space_audit.specs.Audit.{ClaimCheck}
 use Rattle.space_audit.specs.Holders.{IsOnce}
 use Rattle.space_audit.proofs.ClaimSteps.{holder_tells, used_in_size}

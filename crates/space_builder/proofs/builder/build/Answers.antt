@@ -2,8 +2,9 @@ use Rattle.std.proofs.Common.{◌∙◌, length, ap, sym, subst}
 use Rattle.std.proofs.lemmas.Result.{err_from_is_err_and}
 use Rattle.space_builder.specs.calls.Plan.{AreOrders}
 use Rattle.space_builder.proofs.Builds.{fresh_lacks, read_failed, read_short, read_cause, are_stored, is_space, no_plan}
-use Rattle.space_builder.proofs.Builds.{not_put, all_put, put_cause, put_short, no_cause, stored_count}
+use Rattle.space_builder.proofs.Builds.{not_put, all_put, put_cause, put_short, no_cause}
 use Rattle.space_builder.proofs.Outcomes.{put_calls}
+use Rattle.row_store.proofs.NextRows.{length-stored}
 use Rattle.space_builder.proofs.builder.build.Goals as goal
 
 pub returns-in_err-stored-clause-built : goal.returns-in_err-stored-clause-built
@@ -121,7 +122,7 @@ returns-clause-built g c =
     (subst (AreOrders c.args.schema.now c.in_ok-stored.stored) (sym c.deref-2.ensures.value) c.in_ok-orders.ensures)
     c.in_ok-plan.ensures))
     (c.count.ensures ∙ ap length c.in_ok-stored.ensures.finds.same
-    ∙ stored_count c.args.schema.now c.in_ok-stored.ensures.finds.rows)
+    ∙ length-stored c.args.schema.now c.in_ok-stored.ensures.finds.rows)
 
 pub returns-clause-cause : goal.returns-clause-cause
 returns-clause-cause g c =

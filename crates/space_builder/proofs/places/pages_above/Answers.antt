@@ -1,19 +1,7 @@
-use Rattle.std.proofs.Common.{◌≡◌, ℕ, suc, ◌+◌, ◌-◌, ◌<◌, ◌≤◌, List, length, slice_index, refl, arith}
-use Rattle.std.proofs.lemmas.List.{drop_all}
-use Rattle.std.proofs.lemmas.List.Sums.{sum_by-drop_more}
+use Rattle.std.proofs.Common.{◌≡◌, ℕ, suc, ◌+◌, ◌-◌, ◌<◌, ◌≤◌, List, length, slice_index, arith}
 use Rattle.tree_layout.specs.Places.{pages_above}
+use Rattle.tree_layout.proofs.Numbers.{above_none, above_more}
 use Rattle.space_builder.proofs.places.pages_above.Goals as goal
-
-above_none : (counts : List ℕ) (l : ℕ) → length counts ≤ suc l → pages_above counts l ≡ 0
-unfolding pages_above
-above_none counts l past = let e : l + 1 ≡ suc l = omega arith in rw (e, drop_all (suc l) counts past) refl
-
-above_more : (counts : List ℕ) (l : ℕ) → suc l < length counts
-    → pages_above counts l ≡ slice_index counts (suc l) + pages_above counts (suc l)
-unfolding pages_above
-above_more counts l inside =
-    let e : l + 1 ≡ suc l = omega arith in
-    rw e (sum_by-drop_more (λ n. n) counts (suc l) 0 inside)
 
 above_step : (counts : List ℕ) (i : ℕ) → 1 ≤ i → i < length counts
     → pages_above counts (i - 1) ≡ slice_index counts i + pages_above counts i

@@ -1,9 +1,10 @@
 use Rattle.std.proofs.Common.{length, ◌<◌, ap, ◌∙◌, arith}
 use Rattle.std.proofs.lemmas.Result.{err_from_is_err_and}
 use Rattle.compact_record.specs.Reading.{field_count}
+use Rattle.compact_record.proofs.KeySteps.{count_of_places}
 use Rattle.page_source.proofs.Told.{told0}
 use Rattle.table_check.proofs.Progress.{unmarked_most}
-use Rattle.table_check.proofs.RecordMarks.{count_of_places, place_read, field_read}
+use Rattle.table_check.proofs.RecordMarks.{place_read, field_read}
 use Rattle.table_check.proofs.RecordMarks.{none_held, field_breaks, field_holds, all_held, field_steps, all_steps}
 use Rattle.table_check.proofs.RecordMarks.{steps_held}
 use Rattle.table_check.proofs.record.check_row_values.Goals as goal

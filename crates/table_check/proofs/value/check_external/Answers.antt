@@ -55,7 +55,8 @@ returns-clause-checks g c =
           c.split_local.ensures.reference (chain (front_of local) was)))
           c.check_chain_in.ensures.exact;
       count = subst (λ (r : Reference). IfOk c.check_chain_in.result (λ count. OfFile g.S.PageSource c.args.source.now
-          (λ file. count ≡ length (chain_pages file r)))) c.split_local.ensures.reference c.check_chain_in.ensures.count;
+          (λ file. count ≡ length (chain_pages file r)))) c.split_local.ensures.reference
+          c.check_chain_in.ensures.count;
       grew = subst (λ (r : Reference). OnOk c.check_chain_in.result (OfFile g.S.PageSource c.args.source.now
           (λ file. Marked (is_set c.args.marks.now) c.check_chain_in.new.marks
           (chain_pages file r)))) c.split_local.ensures.reference c.check_chain_in.ensures.grew;

@@ -1,6 +1,7 @@
 use Rattle.std.proofs.Common.{◌<◌, length, ap, ◌∙◌, arith}
 use Rattle.sql_dump.specs.Cells.{RowView, RowOnLeaf, cell_of_column}
-use Rattle.sql_dump.proofs.Cells.{cell_is, length_fields, field_within}
+use Rattle.sql_dump.proofs.Cells.{cell_is, field_within}
+use Rattle.schema_text.proofs.EntryFields.{length_fields}
 use Rattle.sql_dump.proofs.row.Row.cell.Goals as goal
 
 pub bounds-self-inside-c : goal.bounds-self-inside-c

@@ -1,12 +1,7 @@
-use Rattle.std.proofs.Common.{ℕ, ◌+◌, ◌≤◌, length, arith}
-use Rattle.column_values.specs.Utf8Reader.{Reader, Any, Limited, Bad, Good, CountsUpTo, CanFeed, new_reader}
+use Rattle.std.proofs.Common.{◌+◌, length, arith}
+use Rattle.column_values.specs.Utf8Reader.{CountsUpTo, new_reader}
+use Rattle.column_values.proofs.Utf8Steps.{can_feed}
 use Rattle.value_tests.proofs.column_values_tests.texts.is_text_in_two.Goals as goal
-
--- so many bytes more can be read where the number of characters is bounded
-can_feed : (most more : ℕ) (reader : Reader) → CountsUpTo most reader → most + more ≤ 8589934591 → CanFeed reader more
-can_feed most more Any low room = tt
-can_feed most more (Limited limit Bad) low room = tt
-can_feed most more (Limited limit (Good count pending)) low room = omega arith
 
 pub feed-requires-2 : goal.feed-requires-2
 feed-requires-2 c =
