@@ -332,8 +332,9 @@ def listed_partitions(words):
 
 
 # `Create Table` is what `mysql` writes above the statement, and the line of the database is that of `mysqldump`.
+# A statement that asks for the text of a table, as a client's log has it, is none that describes one.
 START = re.compile(r'''
-    \b(?:CREATE\s+TABLE|create\s+table)\s+(?:(?:IF\s+NOT\s+EXISTS|if\s+not\s+exists)\s+)?
+    \b(?P<asked>(?i:SHOW)\s+)?(?:CREATE\s+TABLE|create\s+table)\s+(?:(?:IF\s+NOT\s+EXISTS|if\s+not\s+exists)\s+)?
   | ^(?:(?:USE|use)\s+|--\ Current\ Database:\ )(?:`(?P<quoted>(?:[^`]|``)*)`|(?P<plain>[\w$]+))\s*(?:;|$)''',
                    re.MULTILINE | re.VERBOSE)
 
@@ -346,6 +347,8 @@ def tables_of(text, wanted=None):
         if not found:
             return tables
         at = found.end()
+        if found['asked']:
+            continue
         if found.lastgroup:
             database = found['plain'] or found['quoted'].replace('``', '`')
             continue
