@@ -1,5 +1,5 @@
 pub mod Moves
-pub mod Rows
+pub mod SavedRows
 pub mod Known
 pub mod Pages
 pub mod Alike

@@ -32,7 +32,7 @@ use Rattle.salvage_laws.proofs.Whole.{sound_cell}
 use Rattle.salvage_laws.proofs.Nothing.{HasLaws, IsWholeSaved, IsWholePage, leaf_list, pages_in, leaf_of}
 use Rattle.carve_laws.specs.Laws.{carved_job}
 use Rattle.carve_laws.proofs.Moves.{IsSame}
-use Rattle.carve_laws.proofs.Rows.{IsHeldRow, rows_move}
+use Rattle.carve_laws.proofs.SavedRows.{IsHeldRow, rows_move}
 use Rattle.carve_laws.proofs.Known.{unused_there, known_there}
 use Rattle.space_audit.proofs.OwnerFacts.{used_by}
 

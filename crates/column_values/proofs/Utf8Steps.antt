@@ -205,10 +205,6 @@ reads_characters count n bytes are few = record {
   few = λ most low. omega (arith, low, few);
 }
 
-pub room_of : (limit : ℕ) (state : State) (more : ℕ) → CanFeed (Limited limit state) more → RoomFor state more
-room_of limit Bad more can = tt
-room_of limit (Good count pending) more can = can
-
 pub counts_up_to : (most limit : ℕ) (state : State) → CountsUpTo most (Limited limit state) → UpTo most state
 counts_up_to most limit Bad low = tt
 counts_up_to most limit (Good count pending) low = low

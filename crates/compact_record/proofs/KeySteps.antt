@@ -19,7 +19,7 @@ use Rattle.compact_record.specs.Reading.{cell_at, key_kinds, key_of, places_of, 
 use Rattle.compact_record.specs.Reading.{local_length, record_end, is_null, Reading, IsReading}
 use Rattle.compact_record.specs.Keys.{key_at, IsOnPage, LiesBelow, HaveChild}
 use Rattle.compact_record.proofs.KeyOrders.{LeftOf, cells_decide, kinds_size, kind_of_field}
-use Rattle.compact_record.proofs.Steps.{local_more}
+use Rattle.compact_record.proofs.FieldSteps.{local_more}
 
 -- what is left of two keys from field i on, in their order
 abbrev pub KeyLeft : List ℕ → List ℕ → Fields → List Place → List Place → ℕ → Ordering

@@ -29,7 +29,7 @@ use Rattle.compact_record.specs.Writing.{part_at, part_cell, key_of_parts, child
 use Rattle.compact_record.specs.Writing.{length_of_part}
 use Rattle.compact_record.specs.Writing.{all_lengths, bytes_below, value_bytes}
 use Rattle.compact_record.specs.Laws.{ReadsWhatStands}
-use Rattle.compact_record.proofs.Steps.{lengths_more, local_more}
+use Rattle.compact_record.proofs.FieldSteps.{lengths_more, local_more}
 use Rattle.compact_record.proofs.Pieces.{flat_more, flat_within, flat_slice, slice_in}
 use Rattle.compact_record.proofs.NullBits.{bit_of_byte, null_bit_at, nulls_below}
 use Rattle.compact_record.proofs.FieldFits.{fit_same, fit_at, fits_so, value_stands}

@@ -41,7 +41,7 @@ pub(crate) fn field_at(fields: &FieldList, i: usize) -> Field
 }
 
 /// How a record keeps field `i`.
-#[tactic(auto, using(crate::proofs::Steps::storage_in, crate::proofs::Steps::storage_short))]
+#[tactic(auto, using(crate::proofs::FieldSteps::storage_in, crate::proofs::FieldSteps::storage_short))]
 pub(crate) fn storage_at(fields: &FieldList, i: usize) -> Storage
     requires { i < length fields.now.fields }
     ensures value { result ≡ storage_of (field_at fields.now i) }

@@ -100,7 +100,7 @@ pub(crate) fn read_places(
 }
 
 /// How many nullable fields stand before the one behind field `i`.
-#[tactic(auto, using(crate::proofs::Steps::nullable_more))]
+#[tactic(auto, using(crate::proofs::FieldSteps::nullable_more))]
 pub(crate) fn nulls_with(fields: &FieldList, i: usize, nulls: usize) -> usize
     requires inside { i < length fields.now.fields }
     requires few { i < 128 }
@@ -117,7 +117,7 @@ pub(crate) fn nulls_with(fields: &FieldList, i: usize, nulls: usize) -> usize
 }
 
 /// The bytes of the lengths before the field behind field `i`.
-#[tactic(auto, using(crate::proofs::Steps::lengths_more))]
+#[tactic(auto, using(crate::proofs::FieldSteps::lengths_more))]
 pub(crate) fn lengths_with(
     page: &Page,
     origin: usize,

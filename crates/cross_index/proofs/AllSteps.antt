@@ -11,7 +11,7 @@ use Rattle.schema_text.specs.TableDef.{TableDef}
 use Rattle.page_source.specs.declared.objects.PageSource.{Ghosts as FileOf}
 use Rattle.page_source.specs.Calls.{OfFile}
 use Rattle.page_source.specs.Pages.{page_count}
-use Rattle.page_source.proofs.Told.{told1}
+use Rattle.page_source.proofs.Told.{map_told}
 use Rattle.page_source.proofs.Lists.{range_next}
 use Rattle.tree_walk.specs.declared.ends.TreeEnds.{TreeEnds}
 use Rattle.table_check.specs.First.{TakesSteps, dump_steps}
@@ -117,6 +117,6 @@ pub takes_steps : {S : Type 0} {g : FileOf S} {source : S} {pages steps spent : 
     → OfFile g source (λ file. pages ≤ page_count file) → pages ≤ 4194304 → spent ≤ steps + dump_steps pages
     → TakesSteps g source dump_steps steps spent
 takes_steps {g = g} {source = source} within most few = record {
-  told = told1 (g.content source) (λ file less. omega (arith, less, few)) within;
+  told = map_told (g.content source) (λ file less. omega (arith, less, few)) within;
   always = omega (arith, most, few);
 }

@@ -18,7 +18,7 @@ use Rattle.cross_index.specs.Sides.{AreApart}
 use Rattle.cross_index.proofs.Sides.{rise_apart, one_lone, one_side, same_not_lone, same_back, have_answer}
 use Rattle.cross_index.proofs.Sides.{HaveAnswer}
 use Rattle.cross_index.proofs.Rising.{entries_rise}
-use Rattle.cross_index.proofs.Rows.{HasLaws, rows_apart}
+use Rattle.cross_index.proofs.DistinctKeys.{HasLaws, rows_apart}
 
 -- checks that have one answer each below a count have one
 each_unique : {F : Type 0} (count : ℕ) (check : ℕ → Option F → Type 0) → ((k : ℕ) → k < count → IsUnique (check k))

@@ -30,7 +30,7 @@ use Rattle.cross_index.specs.calls.Gather.{kept_fields, StandsAt}
 use Rattle.cross_index.specs.calls.Compare.{CanCompare, Compares}
 use Rattle.cross_index.specs.calls.Indexes.{CanCompareIndex}
 use Rattle.cross_index.proofs.Rising.{entries_rise}
-use Rattle.cross_index.proofs.Rows.{HasLaws, rows_apart}
+use Rattle.cross_index.proofs.DistinctKeys.{HasLaws, rows_apart}
 use Rattle.cross_index.proofs.EntrySteps.{kept_size}
 use Rattle.cross_index.proofs.KeysAre.{keys_are}
 use Rattle.cross_index.proofs.EntryFields.{entry_kept}

@@ -2,7 +2,7 @@ pub mod Sides
 pub mod Keys
 pub mod Rising
 pub mod EntryKinds
-pub mod Rows
+pub mod DistinctKeys
 pub mod Differences
 pub mod Merge
 pub mod CellSteps

@@ -1,6 +1,6 @@
 //! The rows that come next in the order of an index, read ahead of their turn.
 
-use crate::cells::Cells;
+use crate::kept_values::KeptValues;
 use crate::order::{Keys, cell_number};
 use page_source::NoMemory;
 use std::alloc::Global;
@@ -27,7 +27,7 @@ fn find_starts(starts: &mut [usize], keys: &Keys, slot: usize, rows: &[usize]) {
 }
 
 /// Reads the bytes at some places.
-fn read_bytes(bytes: &mut [u8], cells: &Cells, starts: &[usize]) {
+fn read_bytes(bytes: &mut [u8], cells: &KeptValues, starts: &[usize]) {
     for i in 0..starts.len().min(bytes.len()) {
         bytes[i] = cells.byte(starts[i]);
     }

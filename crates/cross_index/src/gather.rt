@@ -15,8 +15,8 @@ ghost use Rattle.cross_index.specs.calls.Broken.{BreaksAt, BreaksChain, BreaksRo
 ghost use Rattle.cross_index.specs.calls.Gather.{CanFollowPlace, CanGather, CanGatherAll, IsGathered, pages_of_place};
 ghost use Rattle.cross_index.specs.calls.Gather.{pages_of_fields, cells_of, kept_fields};
 
-use crate::cells::Cells;
 use crate::crossed::CrossStop;
+use crate::kept_values::KeptValues;
 use crate::long::{Room, read_long};
 use column_values::FieldList;
 use compact_record::{Located, Place};
@@ -32,7 +32,7 @@ fn gather_field<S: PageSource, L: Ledger>(
     source: &mut S,
     page: &Page,
     place: Place,
-    cells: &mut Cells,
+    cells: &mut KeptValues,
     room: &mut Room,
     steps: &mut Steps<L>,
 ) -> Result<(), CrossStop>
@@ -79,7 +79,7 @@ fn gather_row<S: PageSource, L: Ledger>(
     page: &Page,
     places: &[Place],
     kept: &[usize],
-    cells: &mut Cells,
+    cells: &mut KeptValues,
     room: &mut Room,
     steps: &mut Steps<L>,
 ) -> Result<(), CrossStop>
@@ -125,7 +125,7 @@ pub(crate) fn gather_rows<S: PageSource, L: Ledger>(
     kept: &[usize],
     rows: &mut LiveRows,
     located: &mut Located,
-    cells: &mut Cells,
+    cells: &mut KeptValues,
     room: &mut Room,
     steps: &mut Steps<L>,
 ) -> Result<usize, CrossStop>

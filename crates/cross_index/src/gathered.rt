@@ -7,10 +7,10 @@ ghost use Rattle.cross_index.specs.calls.Broken.{BreaksAt, BreaksReading};
 ghost use Rattle.cross_index.specs.calls.Gather.{IsGathered};
 ghost use Rattle.cross_index.specs.calls.Indexes.{CanRead, HasFields};
 
-use crate::cells::Cells;
 use crate::crossed::CrossStop;
 use crate::gather::gather_rows;
 use crate::kept::kept_fields;
+use crate::kept_values::KeptValues;
 use crate::long::Room;
 use compact_record::Located;
 use page_source::{Page, PageSource, Steps};
@@ -29,7 +29,7 @@ pub(crate) struct Gathered {
     /// The fields that are kept of each row.
     pub(crate) kept: Vec<usize>,
     /// The values of the kept fields, row after row.
-    pub(crate) cells: Cells,
+    pub(crate) cells: KeptValues,
     /// How many rows there are.
     pub(crate) count: usize,
 }
@@ -57,7 +57,7 @@ pub(crate) fn gather<S: PageSource, L: Ledger>(
     let at = column_fields(alloc, schema)?;
     let fields = schema.fields(alloc, 0, true)?;
     let kept = kept_fields(alloc, schema, &at, fields.fields().len())?;
-    let mut cells = Cells::new(alloc);
+    let mut cells = KeptValues::new(alloc);
     let mut rows = LiveRows::start(alloc, ends)?;
     let mut located = Located::with_room(alloc, fields.fields().len() as u32)?;
     let mut room = Room {

@@ -2,7 +2,6 @@
 #![tactic(auto)]
 
 mod ahead;
-mod cells;
 mod cross_check;
 mod crossed;
 mod entries;
@@ -10,6 +9,7 @@ mod gather;
 mod gathered;
 mod indexes;
 mod kept;
+mod kept_values;
 pub mod laws;
 mod long;
 mod numbers;

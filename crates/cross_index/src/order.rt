@@ -9,7 +9,7 @@ ghost use Rattle.compact_record.specs.declared.places.Place.{Place};
 ghost use Rattle.cross_index.specs.calls.Kept.{LiesIn, kept_key, kept_keys};
 ghost use Rattle.cross_index.specs.calls.Order.{IsOrder};
 
-use crate::cells::Cells;
+use crate::kept_values::KeptValues;
 use column_values::{Field, FieldList, FieldType};
 use compact_record::Place;
 use key_ranks::{RowKeys, order_of_rows};
@@ -22,7 +22,7 @@ use std::marker::Model;
 #[derive(Clone, Copy)]
 pub(crate) struct Keys<'a> {
     /// The values of all rows, and how many each has.
-    pub(crate) cells: &'a Cells,
+    pub(crate) cells: &'a KeptValues,
     pub(crate) width: usize,
     /// The fields of the index, and which of a row's values each is.
     pub(crate) fields: &'a FieldList,

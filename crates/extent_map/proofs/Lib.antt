@@ -3,5 +3,5 @@ pub mod Masks
 pub mod Uses
 pub mod Readers
 pub mod Stages
-pub mod Sound
+pub mod SoundDescriptors
 pub mod Writing

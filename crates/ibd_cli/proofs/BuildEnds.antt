@@ -3,7 +3,7 @@ use Rattle.std.proofs.Common.{◌≡◌, ℕ, List, Option, Some, None, Result, 
 use Rattle.std.proofs.Common.{refl, sym, ap, ◌∙◌, subst, inl, inr}
 use Rattle.page_source.specs.Faults.{Rose}
 use Rattle.page_source.specs.Objects.{Store, IsFresh, GrowsBy, GrowsByPart}
-use Rattle.page_source.proofs.Told.{told1, told2}
+use Rattle.page_source.proofs.Told.{map_told, map_told2}
 use Rattle.schema_text.specs.TableDef.{TableDef}
 use Rattle.schema_text.specs.Grammar.{IsTextOf}
 use Rattle.schema_text.specs.declared.errors.SchemaWhy.{SchemaWhy}
@@ -90,7 +90,7 @@ module _ (once : BuildsOnce) {Q R O T : Type 0} (g : Meanings Q R O T) (old now 
 
   unread_ends : (stop : SchemaStop) → Unread stop → EndsBuild g old now (status_of_schema stop)
   unread_ends (Refused line why) unread =
-      (told1 (g.schema.left old.schema) (λ text reads. inl reads) unread.schema.reads, unread.rows, unread.nothing)
+      (map_told (g.schema.left old.schema) (λ text reads. inl reads) unread.schema.reads, unread.rows, unread.nothing)
   unread_ends Source unread = unread.nothing
   unread_ends Memory unread = (
     subst (λ (target : T). LacksHead (g.target.told target)) (sym unread.nothing.target)
@@ -136,7 +136,7 @@ module _ (once : BuildsOnce) {Q R O T : Type 0} (g : Meanings Q R O T) (old now 
 
     of_schema : (result : Result Built BuildStop) → Reached table result
         → IfSome (g.schema.left old.schema) (IsTextOf table)
-    of_schema result reached = told1 (g.schema.left old.schema) (λ text reads. reads.0) reached.has.reads
+    of_schema result reached = map_told (g.schema.left old.schema) (λ text reads. reads.0) reached.has.reads
 
     -- the answer where the roots are in order
     good_roots : (result : Result Built BuildStop) → Reached table result → RootOrderChecks table None
@@ -157,7 +157,7 @@ module _ (once : BuildsOnce) {Q R O T : Type 0} (g : Meanings Q R O T) (old now 
     stop_ends : (stop : BuildStop) → Reached table (Err stop) → now.out ≡ old.out
         → EndsBuild g old now (status_of_build stop)
     stop_ends (stops.RootPlace line) reached out = (
-      told1 (g.schema.left old.schema) (λ text is. inr (refl, (table, is, reached.builds.0)))
+      map_told (g.schema.left old.schema) (λ text is. inr (refl, (table, is, reached.builds.0)))
           (of_schema (Err (stops.RootPlace line)) reached),
       reached.reads,
       record { out = out; target = reached.untouched tt },
@@ -168,7 +168,7 @@ module _ (once : BuildsOnce) {Q R O T : Type 0} (g : Meanings Q R O T) (old now 
         of_schema (Err (stops.RowsRefused line why)) reached,
         (
           reached.builds.0,
-          told2 (g.rows.left old.rows) (λ text bad near. (bad, near)) reached.builds.1 reached.reads,
+          map_told2 (g.rows.left old.rows) (λ text bad near. (bad, near)) reached.builds.1 reached.reads,
         ),
       ),
       record { out = out; target = reached.untouched tt },
@@ -304,7 +304,7 @@ module _ (once : BuildsOnce) {Q R O T : Type 0} (g : Meanings Q R O T) (old now 
     read_to_ends : (built : Built) → Reached table (Ok built) → ReadsTexts g old now
     read_to_ends built reached =
         record {
-          schema = told1 (g.schema.left old.schema) (λ text reads. reads.1) reached.has.reads;
+          schema = map_told (g.schema.left old.schema) (λ text reads. reads.1) reached.has.reads;
           rows = reached.reads;
         }
 

@@ -8,7 +8,7 @@ use Rattle.page_source.specs.Faults.{Rose}
 use Rattle.page_source.specs.Objects.{GrowsBy, GrowsByPart}
 use Rattle.page_source.specs.Checks.{Stops}
 use Rattle.page_source.specs.Calls.{OfFile, StopsOver}
-use Rattle.page_source.proofs.Told.{told0, told1, told3}
+use Rattle.page_source.proofs.Told.{if_told, map_told, map_told3}
 use Rattle.schema_text.specs.TableDef.{TableDef}
 use Rattle.table_check.specs.declared.table.Checked.{Checked}
 use Rattle.table_check.specs.First.{First, IsChecked, TakesSteps, AsksAtMost, check_steps}
@@ -56,14 +56,14 @@ module _ {F O : Type 0} (key : List ℕ) (f : FileOf F) (o : SinkOf O) (file fil
       → StopsOver {A = Checked} f file file_now steps steps_now (Err stop)
       → ServesFile f o Check key file file_now table out out steps steps_now (status_of_stop stop)
   check_stopped stop told over = record {
-    ends = told1 (f.content file) (λ content stops. stop_ends key content table stop (o.written out) stops) told;
+    ends = map_told (f.content file) (λ content stops. stop_ends key content table stop (o.written out) stops) told;
     of_file = stop_of_file stop;
     unkeyed = λ is. absurd (never_keyed stop is);
     unsought = λ none. absurd none;
-    silent = told0 (f.content file) (λ content none. refl);
+    silent = if_told (f.content file) (λ content none. refl);
     unwritten = λ before. refl;
     some = λ is. absurd (never_done stop is);
-    few = told0 (f.content file) (λ content. tt);
+    few = if_told (f.content file) (λ content. tt);
     source = λ same. over.cause.source (ap Err (is_source stop same));
     sink = λ same. absurd (never_sink stop same);
     content = over.same;
@@ -78,21 +78,21 @@ module _ {F O : Type 0} (key : List ℕ) (f : FileOf F) (o : SinkOf O) (file fil
     -- no rule is broken, and the line of the numbers is the output
     has_line : OfFile f file (λ content. IsDone Check key content table (checked_line checked))
     has_line =
-        told3 (f.content file)
+        map_told3 (f.content file)
         (λ content first whole are.
         record { sound = first; valid = whole; written = (checked, are, refl) }) sound valid numbers
 
     pub check_done : GrowsBy (o.written out) (o.written out_now) (checked_line checked)
         → ServesFile f o Check key file file_now table out out_now steps steps_now statuses.Done
     check_done grows = record {
-      ends = told1 (f.content file) (λ content done. (checked_line checked, done, grows)) has_line;
+      ends = map_told (f.content file) (λ content done. (checked_line checked, done, grows)) has_line;
       of_file = tt;
       unkeyed = λ is. absurd (cc);
       unsought = λ none. absurd none;
-      silent = told1 (f.content file) (λ content done none. absurd (none (checked_line checked) done)) has_line;
+      silent = map_told (f.content file) (λ content done none. absurd (none (checked_line checked) done)) has_line;
       unwritten = λ before. absurd (before.0 refl);
       some = λ is. (checked, grows);
-      few = told0 (f.content file) (λ content. tt);
+      few = if_told (f.content file) (λ content. tt);
       source = λ is. absurd (cc);
       sink = λ is. absurd (cc);
       content = over.same;
@@ -104,14 +104,14 @@ module _ {F O : Type 0} (key : List ℕ) (f : FileOf F) (o : SinkOf O) (file fil
         → Rose (o.faults out) (o.faults out_now)
         → ServesFile f o Check key file file_now table out out_now steps steps_now statuses.SinkFault
     check_unput grows rose = record {
-      ends = told1 (f.content file) (λ content done. (checked_line checked, done, grows)) has_line;
+      ends = map_told (f.content file) (λ content done. (checked_line checked, done, grows)) has_line;
       of_file = tt;
       unkeyed = λ is. absurd (cc);
       unsought = λ none. absurd none;
-      silent = told1 (f.content file) (λ content done none. absurd (none (checked_line checked) done)) has_line;
+      silent = map_told (f.content file) (λ content done none. absurd (none (checked_line checked) done)) has_line;
       unwritten = λ before. absurd (before.1 refl);
       some = λ is. absurd (cc);
-      few = told0 (f.content file) (λ content. tt);
+      few = if_told (f.content file) (λ content. tt);
       source = λ is. absurd (cc);
       sink = λ is. rose;
       content = over.same;

@@ -5,7 +5,7 @@ use Rattle.page_source.specs.declared.objects.ByteSink.{Ghosts as SinkOf}
 use Rattle.page_source.specs.Faults.{Rose}
 use Rattle.page_source.specs.Objects.{GrowsBy, GrowsByPart}
 use Rattle.page_source.specs.Calls.{OfFile}
-use Rattle.page_source.proofs.Told.{told0, told1}
+use Rattle.page_source.proofs.Told.{if_told, map_told}
 use Rattle.schema_text.specs.TableDef.{TableDef}
 use Rattle.table_check.specs.First.{TakesSteps, AsksAtMost, dump_steps}
 use Rattle.table_check.specs.Laws.{ChecksAreValidity}
@@ -69,14 +69,15 @@ pub cross_stopped : {F O : Type 0} (key : List ℕ) (f : FileOf F) (o : SinkOf O
     → ServesFile f o Cross key file file_now table out out steps steps_now (status_of_cross stop)
 cross_stopped key f o file file_now table out steps steps_now stop told over cost fetches =
     record {
-      ends = told1 (f.content file) (λ content crosses. stop_ends key content table stop (o.written out) crosses) told;
+      ends = map_told (f.content file) (λ content crosses. stop_ends key content table stop (o.written out) crosses)
+      told;
       of_file = stop_of_file stop;
       unkeyed = λ is. absurd (never_keyed stop is);
       unsought = λ none. absurd none;
-      silent = told0 (f.content file) (λ content none. refl);
+      silent = if_told (f.content file) (λ content none. refl);
       unwritten = λ before. refl;
       some = λ is. absurd (never_done stop is);
-      few = told0 (f.content file) (λ content. tt);
+      few = if_told (f.content file) (λ content. tt);
       source = λ same. over.rose (ap Err (is_source stop same));
       sink = λ same. absurd (never_sink stop same);
       content = over.same;
@@ -92,7 +93,7 @@ module _ {F O : Type 0} (law : ChecksAreValidity) (key : List ℕ) (f : FileOf F
   -- the indexes have the keys of the rows, and the line of the numbers is the output
   has_line : OfFile f file (λ content. IsDone Cross key content table (crossed_line crossed))
   has_line =
-      told1 (f.content file) (λ content crosses. record {
+      map_told (f.content file) (λ content crosses. record {
         sound = (law content table).1 crosses.0.valid;
         valid = crosses.0.valid;
         written = record {
@@ -106,14 +107,14 @@ module _ {F O : Type 0} (law : ChecksAreValidity) (key : List ℕ) (f : FileOf F
   pub cross_done : GrowsBy (o.written out) (o.written out_now) (crossed_line crossed)
       → ServesFile f o Cross key file file_now table out out_now steps steps_now statuses.Done
   cross_done grows = record {
-    ends = told1 (f.content file) (λ content done. (crossed_line crossed, done, grows)) has_line;
+    ends = map_told (f.content file) (λ content done. (crossed_line crossed, done, grows)) has_line;
     of_file = tt;
     unkeyed = λ is. absurd (cc);
     unsought = λ none. absurd none;
-    silent = told1 (f.content file) (λ content done none. absurd (none (crossed_line crossed) done)) has_line;
+    silent = map_told (f.content file) (λ content done none. absurd (none (crossed_line crossed) done)) has_line;
     unwritten = λ before. absurd (before.0 refl);
     some = λ is. (crossed, grows);
-    few = told0 (f.content file) (λ content. tt);
+    few = if_told (f.content file) (λ content. tt);
     source = λ is. absurd (cc);
     sink = λ is. absurd (cc);
     content = over.same;
@@ -125,14 +126,14 @@ module _ {F O : Type 0} (law : ChecksAreValidity) (key : List ℕ) (f : FileOf F
       → Rose (o.faults out) (o.faults out_now)
       → ServesFile f o Cross key file file_now table out out_now steps steps_now statuses.SinkFault
   cross_unput grows rose = record {
-    ends = told1 (f.content file) (λ content done. (crossed_line crossed, done, grows)) has_line;
+    ends = map_told (f.content file) (λ content done. (crossed_line crossed, done, grows)) has_line;
     of_file = tt;
     unkeyed = λ is. absurd (cc);
     unsought = λ none. absurd none;
-    silent = told1 (f.content file) (λ content done none. absurd (none (crossed_line crossed) done)) has_line;
+    silent = map_told (f.content file) (λ content done none. absurd (none (crossed_line crossed) done)) has_line;
     unwritten = λ before. absurd (before.1 refl);
     some = λ is. absurd (cc);
-    few = told0 (f.content file) (λ content. tt);
+    few = if_told (f.content file) (λ content. tt);
     source = λ is. absurd (cc);
     sink = λ is. rose;
     content = over.same;

@@ -4,7 +4,7 @@ use Rattle.page_source.specs.declared.objects.PageSource.{Ghosts as FileOf}
 use Rattle.page_source.specs.declared.objects.ByteSink.{Ghosts as SinkOf}
 use Rattle.page_source.specs.Calls.{OfFile}
 use Rattle.page_source.specs.Pages.{page_count}
-use Rattle.page_source.proofs.Told.{told1}
+use Rattle.page_source.proofs.Told.{map_told}
 use Rattle.schema_text.specs.TableDef.{TableDef}
 use Rattle.table_check.specs.declared.table.Checked.{Checked}
 use Rattle.table_check.specs.First.{First, TakesSteps, AsksAtMost, check_steps, dump_steps}
@@ -97,13 +97,13 @@ pub dump_stopped : {F O : Type 0} (law : ChecksAreValidity) (key : List ℕ) (f 
     → ServesFile f o Dump key file file_now table out out_now steps steps_now (status_of_dump stop)
 dump_stopped law key f o file file_now table out out_now steps steps_now stop told over cost fetches again =
     record {
-      ends = told1 (f.content file)
+      ends = map_told (f.content file)
           (λ content dumps. stop_ends law key content table f o file file_now out out_now steps steps_now stop over
           dumps) told;
       of_file = stop_of_file stop;
       unkeyed = λ is. absurd (never_keyed stop is);
       unsought = λ none. absurd none;
-      silent = told1 (f.content file)
+      silent = map_told (f.content file)
           (λ content dumps. stop_silent law key content table f o file file_now out out_now steps steps_now stop over
           dumps) told;
       unwritten = λ before. over.unwritten (ap Err (is_memory stop before));
@@ -133,7 +133,7 @@ pub dump_done : {F O : Type 0} (key : List ℕ) (f : FileOf F) (o : SinkOf O) (f
     → ServesFile f o Dump key file file_now table out out_now steps steps_now statuses.Done
 dump_done key f o file file_now table out out_now steps steps_now checked told over lines cost fetches again =
     record {
-      ends = told1 (f.content file)
+      ends = map_told (f.content file)
           (λ content dumped. (
             dumped.written.0,
             is_done key content table checked (o.written out) (o.written out_now) dumped,
@@ -142,7 +142,7 @@ dump_done key f o file file_now table out out_now steps steps_now checked told o
       of_file = tt;
       unkeyed = λ is. absurd (cc);
       unsought = λ none. absurd none;
-      silent = told1 (f.content file)
+      silent = map_told (f.content file)
           (λ content dumped none. absurd (none dumped.written.0
           (is_done key content table checked (o.written out) (o.written out_now) dumped))) told;
       unwritten = λ before. absurd before;

@@ -4,7 +4,7 @@ use Rattle.std.proofs.Common.{arith}
 use Rattle.page_source.specs.declared.objects.PageSource.{Ghosts as FileOf}
 use Rattle.page_source.specs.declared.objects.ByteSink.{Ghosts as SinkOf}
 use Rattle.page_source.specs.Calls.{OfFile}
-use Rattle.page_source.proofs.Told.{told1}
+use Rattle.page_source.proofs.Told.{map_told}
 use Rattle.column_values.specs.Order.{Key}
 use Rattle.schema_text.specs.TableDef.{TableDef}
 use Rattle.table_check.specs.First.{TakesSteps, AsksAtMost}
@@ -141,19 +141,19 @@ module _ {F O : Type 0} (f : FileOf F) (o : SinkOf O) (key : List ℕ) (file fil
   got_few : (result : Result (Unit {0}) GetStop) → Got f o key file file_now table out out_now steps steps_now result
       → OfFile f file (λ content. TakesFew Get key content table (record { steps = steps; fetches = f.fetches file })
       (record { steps = steps_now; fetches = f.fetches file_now }))
-  got_few result got = told1 (f.content file) (λ content few sought spells.
+  got_few result got = map_told (f.content file) (λ content few sought spells.
       let most = few sought spells in
       let asked = got.over.asked in (most, omega arith)) got.few
 
   pub get_done : (done : Unit {0}) → Got f o key file file_now table out out_now steps steps_now (Ok done)
       → ServesFile f o Get key file file_now table out out_now steps steps_now statuses.Done
   get_done done got = record {
-    ends = told1 (f.content file)
+    ends = map_told (f.content file)
         (λ content gets. done_ends f o key file file_now table out out_now steps steps_now content done gets) got.told;
     of_file = tt;
     unkeyed = λ is. absurd (cc);
     unsought = λ none. absurd (done_unkeyed done (got.first none).ends);
-    silent = told1 (f.content file)
+    silent = map_told (f.content file)
         (λ content gets. done_silent f o key file file_now table out out_now steps steps_now content done gets)
         got.told;
     unwritten = λ before. absurd before;
@@ -179,14 +179,14 @@ module _ {F O : Type 0} (f : FileOf F) (o : SinkOf O) (key : List ℕ) (file fil
   pub get_stopped : (stop : GetStop) → Got f o key file file_now table out out_now steps steps_now (Err stop)
       → ServesFile f o Get key file file_now table out out_now steps steps_now (status_of_get stop)
   get_stopped stop got = record {
-    ends = told1 (f.content file)
+    ends = map_told (f.content file)
         (λ content gets. stop_ends f o key file file_now table out out_now steps steps_now content stop got gets)
         got.told;
     of_file = stop_of_file stop;
     unkeyed = λ is. got.refused (ap Err (is_refused stop is));
     unsought = λ none.
         let first = got.first none in (first.file, first.steps_same, stop_unkeyed stop first.ends);
-    silent = told1 (f.content file)
+    silent = map_told (f.content file)
         (λ content gets. stop_silent f o key file file_now table out out_now steps steps_now content stop got gets)
         got.told;
     unwritten = unwritten_at stop got;

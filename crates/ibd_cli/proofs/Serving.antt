@@ -7,7 +7,7 @@ use Rattle.page_source.specs.declared.objects.ByteSource.{Ghosts as SourceOf}
 use Rattle.page_source.specs.declared.objects.ByteSink.{Ghosts as SinkOf}
 use Rattle.page_source.specs.declared.rule.Fault.{Fault}
 use Rattle.page_source.specs.Objects.{GrowsByPart}
-use Rattle.page_source.proofs.Told.{told0, told1}
+use Rattle.page_source.proofs.Told.{if_told, map_told}
 use Rattle.schema_text.specs.TableDef.{TableDef}
 use Rattle.schema_text.specs.Grammar.{IsTextOf}
 use Rattle.schema_text.specs.declared.errors.SchemaWhy.{SchemaWhy}
@@ -108,7 +108,8 @@ inputs_stopped all f q task key file schema schema_now steps stop stopped =
     record {
       read = stopped.read;
       refused = λ line why is.
-          (told1 (q.left schema) (λ text reads. refused_as text left stop line why is reads) stopped.reads, refl, refl);
+          (map_told (q.left schema) (λ text reads. refused_as text left stop line why is reads) stopped.reads, refl,
+          refl);
       untouched = λ text told none. (refl, refl);
       alone = λ text line why told refused.
           stopped_alone text (all text) left stop (at_told _ (q.left schema) text told stopped.reads) line why refused;
@@ -124,8 +125,8 @@ inputs_stopped all f q task key file schema schema_now steps stop stopped =
           (at_told _ (q.left schema) told.schema tells.schema_text stopped.reads) given output gives;
       source = λ is. inr (stopped.cause (is_source stop is));
       content = refl;
-      cost = record { told = told0 (f.content file) (λ content. omega arith); always = omega arith };
-      fetches = record { told = told0 (f.content file) (λ content. omega arith); always = omega arith };
+      cost = record { told = if_told (f.content file) (λ content. omega arith); always = omega arith };
+      fetches = record { told = if_told (f.content file) (λ content. omega arith); always = omega arith };
     }
 
 -- what takes nothing takes few
@@ -206,12 +207,12 @@ inputs_served all once f q o task key file file_now schema schema_now out out_no
       unkeyed = λ is.
           let none = served.unkeyed is in
           let same = served.unsought none in
-          (told1 (q.left schema) (λ text reads. (table, reads.0, none)) has.reads, same.0, same.1);
+          (map_told (q.left schema) (λ text reads. (table, reads.0, none)) has.reads, same.0, same.1);
       unsought = λ text told none.
           let reads = at_told _ (q.left schema) text told has.reads in
           served.unsought (same_table text (all text) table reads.0 (IsNoKeyOf task key) none);
       broken = λ fault is.
-          told1 (f.content file)
+          map_told (f.content file)
           (λ content ends. (table, broken_as task key content table status old new fault is ends)) served.ends;
       complete = λ told given output tells gives.
           ends_as once task key told (all told.schema) table
@@ -314,7 +315,7 @@ serves_file all once f q o task key file file_now schema schema_now out out_now 
           at_told _ (f.content file) told.file tells.content served.silent
           (λ output done. none output (table, is, done));
       unwritten = served.unwritten;
-      some = λ is. (table, told1 (q.left schema) (λ text reads. reads.0) has.reads, served.some is);
+      some = λ is. (table, map_told (q.left schema) (λ text reads. reads.0) has.reads, served.some is);
       few = λ told tells other is.
           let spent : Spent = record { steps = steps; fetches = f.fetches file } in
           let now : Spent = record { steps = steps_now; fetches = f.fetches file_now } in

@@ -1,4 +1,3 @@
 pub mod WordForms
 pub mod OneForm
-pub mod StatusEnds
 pub mod Serving

@@ -3,7 +3,7 @@ use Rattle.std.proofs.Common.{◌≡◌, ◌≢◌, ℕ, List, [], Option, Some,
 use Rattle.page_source.specs.declared.objects.ByteSource.{Ghosts as SourceOf}
 use Rattle.page_source.specs.declared.rule.Fault.{Fault}
 use Rattle.page_source.specs.Calls.{OfFile}
-use Rattle.page_source.proofs.Told.{told0, told1}
+use Rattle.page_source.proofs.Told.{if_told, map_told}
 use Rattle.schema_text.specs.TableDef.{TableDef}
 use Rattle.schema_text.specs.Refusals.{BadLine}
 use Rattle.schema_text.specs.Grammar.{IsTextOf}
@@ -85,7 +85,7 @@ serves_stopped all g form file schema schema_now out err steps stop stopped =
       asked = never_usage stop;
       read = stopped.read;
       refused = λ line why is. (
-        told1 (g.schema.left schema) (λ text reads. refused_as text left stop line why is reads) stopped.reads,
+        map_told (g.schema.left schema) (λ text reads. refused_as text left stop line why is reads) stopped.reads,
         record { file = refl; out = refl; err = refl; uncounted = refl },
       );
       untouched = λ text told none. record { file = refl; out = refl; err = refl; uncounted = refl };
@@ -102,8 +102,8 @@ serves_stopped all g form file schema schema_now out err steps stop stopped =
       heard = omega arith;
       changed = λ fault is. absurd (never_changed stop fault is);
       content = refl;
-      cost = record { told = told0 (g.file.content file) (λ content. omega arith); always = omega arith };
-      fetches = record { told = told0 (g.file.content file) (λ content. omega arith); always = omega arith };
+      cost = record { told = if_told (g.file.content file) (λ content. omega arith); always = omega arith };
+      fetches = record { told = if_told (g.file.content file) (λ content. omega arith); always = omega arith };
     }
 
 not_usage : (status : SalvageStatus) → IsOfFile status → status ≢ statuses.Usage

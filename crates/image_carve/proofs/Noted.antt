@@ -115,9 +115,6 @@ pub some_known : (lsns : List (Option ℕ)) (n lsn : ℕ) → slice_index_or lsn
 some_known lsns n lsn is = λ none.
     let not : Some lsn ≡ None = sym is ∙ none_known lsns n none in cc
 
-pub tally_none : (lsns : List (Option ℕ)) → IsTally (known (take 0 lsns)) 0 0
-tally_none lsns = record { counts = refl; most = All-nil (λ (m : ℕ). m ≤ 0); among = inl (refl, refl) }
-
 -- the greatest so far and one number more
 greatest_more : (numbers : List ℕ) (lsn greatest : ℕ) → ((numbers ≡ []) × (greatest ≡ 0)) ⊎ Contains numbers greatest
     → Contains (numbers ++ lsn ∷ []) (max greatest lsn)

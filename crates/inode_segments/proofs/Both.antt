@@ -20,8 +20,8 @@ use Rattle.inode_segments.specs.InodeChecks.{InodeListChecks, InodeListsChecks, 
 use Rattle.inode_segments.specs.Kept.{InodesView, AreKept, none_kept}
 use Rattle.inode_segments.specs.Walk.{DescribesFile, Grew}
 use Rattle.inode_segments.proofs.Checked.{size_stated}
-use Rattle.inode_segments.proofs.Steps.{stepped_at, stepped_length}
-use Rattle.inode_segments.proofs.Sound.{list_holds}
+use Rattle.inode_segments.proofs.ListSteps.{stepped_at, stepped_length}
+use Rattle.inode_segments.proofs.SoundLists.{list_holds}
 
 unmarked_at : (n m : ℕ) → get_or (replicate n false) m false ≡ false
 unmarked_at n m = elim (cases_lt m n) [

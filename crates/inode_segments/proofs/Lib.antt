@@ -5,6 +5,6 @@ pub mod Checked
 pub mod Alongs
 pub mod Kept
 pub mod Ids
-pub mod Steps
-pub mod Sound
+pub mod ListSteps
+pub mod SoundLists
 pub mod Both

@@ -7,7 +7,7 @@ use Rattle.page_source.specs.declared.checks.Halt.TheVariants.{Broken, Source}
 use Rattle.page_source.specs.Checks.{HaltsAt, Stops, stop_of}
 use Rattle.page_source.specs.Calls.{OfFile}
 use Rattle.page_source.specs.Pages.{page_count}
-use Rattle.page_source.proofs.Told.{told1}
+use Rattle.page_source.proofs.Told.{map_told}
 use Rattle.column_values.specs.Types.{Fields}
 use Rattle.column_values.specs.Order.{Key}
 use Rattle.extent_map.specs.Head.{HeadChecks}
@@ -64,11 +64,3 @@ all_steps file table key index steps mid spent is one few =
       ap root_level is,
       ap (λ (i : Index). length (found_pages i (found_row i key))) is,
     )
-
-pub takes_steps : {S : Type 0} {g : FileOf S} {source : S} {size steps spent : ℕ}
-    → OfFile g source (λ file. size ≤ page_count file) → size ≤ 4194304 → spent ≤ steps + get_steps size
-    → TakesSteps g source get_steps steps spent
-takes_steps {g = g} {source = source} within most few = record {
-  told = told1 (g.content source) (λ file less. omega (arith, less, few)) within;
-  always = omega (arith, most, few);
-}

@@ -2,7 +2,7 @@
 use Rattle.std.proofs.Common.{◌≡◌, ℕ, List, Option, Result, Ok, Err, inl, inr, refl, sym, ap, ◌∙◌, arith}
 use Rattle.page_source.specs.declared.objects.PageSource.{Ghosts as FileOf}
 use Rattle.page_source.specs.declared.objects.ByteSink.{Ghosts as SinkOf}
-use Rattle.page_source.proofs.Told.{told0}
+use Rattle.page_source.proofs.Told.{if_told}
 use Rattle.column_values.specs.Order.{Key}
 use Rattle.schema_text.specs.TableDef.{TableDef}
 use Rattle.row_text.specs.declared.row.RowError.{RowError}
@@ -78,6 +78,6 @@ no_key table text errors.Memory none e = absurd (cc)
 
 pub no_steps : {S : Type 0} (g : FileOf S) (source : S) (steps : ℕ) → TakesSteps g source get_steps steps steps
 no_steps g source steps = record {
-  told = told0 (g.content source) (λ file. omega arith);
+  told = if_told (g.content source) (λ file. omega arith);
   always = omega arith;
 }

@@ -11,7 +11,7 @@ use Rattle.page_source.specs.declared.objects.ByteSink.{Ghosts as SinkOf}
 use Rattle.page_source.specs.Calls.{StopsOver}
 use Rattle.page_source.specs.Objects.{GrowsBy, GrowsByPart}
 use Rattle.page_source.specs.Pages.{page_count}
-use Rattle.page_source.proofs.Told.{told1}
+use Rattle.page_source.proofs.Told.{map_told}
 use Rattle.column_values.specs.declared.value.Value.{Value}
 use Rattle.column_values.specs.declared.value.Value.TheVariants.{Null}
 use Rattle.column_values.specs.Order.{Key}
@@ -30,7 +30,7 @@ use Rattle.sql_dump.specs.declared.stop.WriteStop.{WriteStop}
 use Rattle.sql_dump.specs.declared.stop.WriteStop.TheVariants as writes
 use Rattle.sql_dump.specs.Stops.{Writes, WritesOver}
 use Rattle.sql_dump.specs.Cells.{ReadsRow, CanReadRow, row_on}
-use Rattle.key_lookup.specs.declared.look_up.Found.{Found}
+use Rattle.key_lookup.specs.declared.checked_row.Found.{Found}
 use Rattle.key_lookup.specs.Record.{HasFoundValue, found_pages, IsFoundRow}
 use Rattle.key_lookup.specs.GetFirst.{FoundRecordChecks, FoundRowChecks, GetFirst}
 use Rattle.key_lookup.specs.declared.stop.GetStop.{GetStop}
@@ -153,7 +153,7 @@ module _ (file : List ℕ) (table : TableDef) (key : Key) (is : IsTable table) (
 pub takes_fewer : {S : Type 0} {g : FileOf S} {source : S} {steps more spent : ℕ} → spent ≤ more
     → TakesSteps g source get_steps steps more → TakesSteps g source get_steps steps spent
 takes_fewer {g = g} {source = source} less takes = record {
-  told = told1 (g.content source) (λ file few. omega (arith, less, few)) takes.told;
+  told = map_told (g.content source) (λ file few. omega (arith, less, few)) takes.told;
   always = let a = takes.always in omega (arith, less, a);
 }
 

@@ -157,16 +157,6 @@ key_whole columns row key i fits is all =
     let count : i ≡ length (cells columns row) = omega (arith, all, many, cells_count columns row many) in
     is ∙ ap (λ (n : ℕ). take n (cells columns row)) count ∙ take-length (cells columns row)
 
--- the columns of the clustered key can't be null
-pub held_key : (table : TableDef) → IsTable table → All (λ (c : Column). c.nullable ≡ false) (key_columns table)
-held_key table is = by_list table.indexes is.clustered is.not_null
-  where
-    by_list : (indexes : List IndexDef) → 1 ≤ length indexes
-        → All (λ x. All (λ (c : Column). c.nullable ≡ false) (index_columns table x)) (take 1 indexes)
-        → All (λ (c : Column). c.nullable ≡ false) (index_columns table (slice_index_or indexes 0 no_index))
-    by_list [] few all = absurd (omega (arith, few))
-    by_list (x ∷ xs) few all = all 0 x (omega arith)
-
 -- how many fields the clustered key has
 pub keys_of_id : (table : TableDef) → eqb (length (clustered_positions table)) 0 ≡ true
     → (leaf_fields table 0).keys ≡ 1

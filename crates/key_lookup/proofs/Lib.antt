@@ -13,10 +13,10 @@ mod WaySteps
 mod Lists
 mod Between
 mod Ways
-mod Rows
+mod RowOfKey
 mod Checks
 mod Values
-mod Sound
+mod LookUpLaw
 mod KeyCells
 mod GetKey
 mod OneLine

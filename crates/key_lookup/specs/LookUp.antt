@@ -4,7 +4,7 @@ use Rattle.column_values.specs.Order.{Key}
 use Rattle.schema_text.specs.TableDef.{TableDef}
 use Rattle.tree_walk.specs.Index.{Index, page_in}
 use Rattle.sql_dump.specs.Cells.{RowOnLeaf, row_on}
-use Rattle.key_lookup.specs.declared.look_up.Found.{Found}
+use Rattle.key_lookup.specs.declared.checked_row.Found.{Found}
 use Rattle.key_lookup.specs.Record.{found_row, found_pages}
 use Rattle.key_lookup.specs.Leaf.{row_at_origin}
 

@@ -16,11 +16,11 @@ ghost use Rattle.key_lookup.specs.KeyOfText.{SpellsKey, IsNoKey};
 ghost use Rattle.key_lookup.specs.LookUp.{row_found};
 ghost use Rattle.key_lookup.specs.Get.{GetsByKey, Gets, TouchesNothing, GetsOver, get_steps, steps_for};
 
-use crate::find::find;
+use crate::checked_row::Found;
+use crate::in_file::find_in_file;
 use crate::key::SearchKey;
 use crate::key_text::search_key;
 use crate::laws::{schema_is_table, text_spells_one_key};
-use crate::look_up::Found;
 use crate::room::Room;
 use crate::stop::GetStop;
 use page_source::{ByteSink, Page, PageSource, Steps};
@@ -85,7 +85,7 @@ pub(crate) fn get_by_key<S: PageSource, O: ByteSink, L: Ledger>(
         mut reader,
         mut chains,
     } = Room::new(alloc, schema)?;
-    let found = find(
+    let found = find_in_file(
         alloc,
         source,
         schema,

@@ -2,13 +2,13 @@
 #![tactic(auto)]
 
 mod by_key;
+mod checked_row;
 mod choose;
-mod find;
+mod in_file;
 mod key;
 mod key_text;
 pub mod laws;
 mod leaf;
-mod look_up;
 mod room;
 mod stop;
 mod tree;

@@ -279,7 +279,7 @@ pub(crate) fn find_leaf<S: PageSource, L: Ledger>(
         walk.new.child ≡ page_in index n)) }
     ensures facts { OnOk result (PageFacts walk.new.child tree.now.leaf.now) }
     ensures room { HasSameRoom walk.old walk.new }
-    ensures told { OfIndex S.PageSource source.old tree.now (λ index.
+    ensures steps_if_told { OfIndex S.PageSource source.old tree.now (λ index.
         steps.new ≤ steps.old + root_level index + 1) }
     ensures cost { steps.new ≤ steps.old + 51 }
     ensures over { HaltsOver S.PageSource source.old source.new steps.old steps.new result }

@@ -13,7 +13,7 @@ use Rattle.page_source.specs.declared.objects.PageStore.{Ghosts as StoreOf}
 use Rattle.page_source.specs.Faults.{Rose}
 use Rattle.page_source.specs.Lists.{AreDistinct}
 use Rattle.page_source.specs.Objects.{PageMap, KeepsSizes, HoldsPage, HoldsOthers}
-use Rattle.page_source.proofs.Told.{told0}
+use Rattle.page_source.proofs.Told.{if_told}
 use Rattle.page_source.proofs.Slots.{get-insert_at}
 use Rattle.page_source.proofs.Written.{with_bytes-next}
 use Rattle.offpage_chain.specs.ValuePage.{blob_part, part_body, value_page}
@@ -98,7 +98,7 @@ pub record ArePut {T : Type 0} (g : StoreOf T) (old now : T) (space : ℕ) (numb
 pub none_put : {T : Type 0} (g : StoreOf T) (old : T) (space : ℕ) (numbers bytes : List ℕ)
     → ArePut g old old space numbers bytes 0
 none_put g old space numbers bytes = record {
-  held = told0 (g.told old).held (λ held k below. absurd (omega (arith, below)));
+  held = if_told (g.told old).held (λ held k below. absurd (omega (arith, below)));
   others = record {
     sizes = record { size = refl; asked = refl };
     others = others_none numbers (g.told old).held;

@@ -93,7 +93,7 @@ fn check_pages<S: PageSource, L: Ledger>(
     ensures marked { StaysMarked marks.old marks.new }
     ensures cost { steps.new + unmarked marks.new ≤ steps.old + unmarked marks.old + 1 }
     ensures fewer { IfOk result (λ count. count + unmarked marks.new ≤ unmarked marks.old) }
-    ensures told { OfFile S.PageSource source.old (λ file.
+    ensures steps_if_told { OfFile S.PageSource source.old (λ file.
         steps.new ≤ steps.old + length (pages_in file chain.now)) }
     ensures exactly { IfOk result (λ count. steps.new ≡ steps.old + count) }
     ensures over { HaltsOver S.PageSource source.old source.new steps.old steps.new result }
@@ -141,7 +141,7 @@ pub fn check_chain_in<S: PageSource, L: Ledger>(
     ensures marked { StaysMarked marks.old marks.new }
     ensures cost { steps.new + unmarked marks.new ≤ steps.old + unmarked marks.old + 1 }
     ensures fewer { IfOk result (λ count. count + unmarked marks.new ≤ unmarked marks.old) }
-    ensures told { OfFile S.PageSource source.old (λ file.
+    ensures steps_if_told { OfFile S.PageSource source.old (λ file.
         steps.new ≤ steps.old + length (chain_pages file reference.now)) }
     ensures exactly { IfOk result (λ count. steps.new ≡ steps.old + count) }
     ensures over { HaltsOver S.PageSource source.old source.new steps.old steps.new result }

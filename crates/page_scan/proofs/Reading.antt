@@ -37,16 +37,6 @@ rest_more start (Some old) next window new after came k room within takes before
     (ap (λ (t : List ℕ). take k old ++ t) takes.2.rest ∙ take-append-drop k old) in
     told ∙ ap Some whole ∙ before
 
--- a read that takes nothing is at the end
-pub nothing_left : (ahead before : List ℕ) (start left next : Option (List ℕ)) (k : ℕ) (new : List ℕ)
-    → k ≡ 0 → TakesBytes {E = Failed} left next (Ok k) new → rest_of ahead left ≡ rest_of before start
-    → HasNothingLeft start next
-nothing_left ahead before None None next k new none takes same = takes
-nothing_left ahead before None (Some left) next k new none takes same = cc
-nothing_left ahead before (Some start) None next k new none takes same = cc
-nothing_left ahead before (Some start) (Some left) next k new none takes same =
-    takes.1 ∙ ap Some (takes.2.rest ∙ ap (λ (n : ℕ). drop n left) none ∙ takes.2.ends none)
-
 -- what came stands within the window
 pub room_more : (window new after : List ℕ) (came k : ℕ) → came ≤ length window → k ≤ length new
     → came + k ≤ length (take came window ++ (new ++ after))

@@ -124,12 +124,6 @@ num-with_bytes_at page at bytes i width inside written =
     let place : at + i + k ≡ at + (i + k) = omega arith in
     rw place (get_or-with_bytes_at page at bytes (i + k) 0 inside (omega arith)))
 
--- the same, where the place is known in other words
-pub num_in_written : (page : List ℕ) (at : ℕ) (bytes : List ℕ) (i place width : ℕ) → place ≡ at + i → at ≤ length page
-    → i + width ≤ length bytes → num (with_bytes page at bytes) place width ≡ num bytes i width
-num_in_written page at bytes i place width there inside written =
-    rw there (num-with_bytes_at page at bytes i width inside written)
-
 -- two writes, the second one right behind the first
 pub with_bytes-next : (page : List ℕ) (at next : ℕ) (xs ys : List ℕ) → next ≡ at + length xs
     → at + length xs ≤ length page

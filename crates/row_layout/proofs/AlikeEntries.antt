@@ -11,11 +11,6 @@ use Rattle.row_layout.specs.SecondaryEntries.{secondary_entries}
 use Rattle.row_layout.specs.EntryLaws.{EntriesAreAlike}
 use Rattle.row_layout.proofs.Short.{part_alike, zip_ranges}
 
--- entries are like themselves
-alike_part : (part : Part) → IsAlike part part
-alike_part Null = tt
-alike_part (Bytes bytes external) = (refl, refl)
-
 pub alike_law : EntriesAreAlike
 unfolding clustered_entries parts_of_row
 alike_law table rows stored n m j =

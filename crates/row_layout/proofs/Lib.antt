@@ -6,7 +6,7 @@ pub mod Columns
 pub mod Stored
 pub mod Fitting
 pub mod FittedRows
-pub mod Rows
+pub mod HeldRows
 pub mod Own
 pub mod Fits
 pub mod Short

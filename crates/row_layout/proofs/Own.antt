@@ -33,7 +33,7 @@ use Rattle.row_layout.specs.StoredRow.{Stored, stored_at}
 use Rattle.row_layout.specs.HoldsValues.{HoldsRows, IsValuePage, EachPart, stored_in}
 use Rattle.row_layout.specs.HoldsValues.{pages_of_stored, field_page_numbers, row_page_numbers, value_page_numbers}
 use Rattle.row_layout.specs.Laws.{HeldRowsAreRows, HeldValuesAreSound, NothingIsLeftOver}
-use Rattle.row_layout.proofs.Rows.{are_rows, sound_rows, pages_are}
+use Rattle.row_layout.proofs.HeldRows.{are_rows, sound_rows, pages_are}
 
 -- lists of numbers, one for each place, none of which has a number of another
 module _ (lists : ℕ → List ℕ) (n limit : ℕ) (once : (i : ℕ) → i < limit → times_in (lists i) n ≤ 1)

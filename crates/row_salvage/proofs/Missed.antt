@@ -120,13 +120,6 @@ under_then before middle after f g h First Second grew later first second =
     or_false true = refl
     or_false false = refl
 
--- nothing was marked yet
-pub grew_none : (marks : List Bool) → Grew marks marks
-grew_none marks n is = is
-
-pub grew_more : (before middle after : List Bool) → Grew before middle → Grew middle after → Grew before after
-grew_more before middle after first second n is = second n (first n is)
-
 -- a mark that was set
 pub newly_set : (before after : List Bool) (n : ℕ) → n < length before → is_set before n ≡ false
     → after ≡ set before n true → IsNewly before after n

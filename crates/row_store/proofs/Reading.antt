@@ -7,7 +7,7 @@ use Rattle.std.proofs.lemmas.List.Elements.{All-nil, All-cons, All-append}
 use Rattle.std.proofs.lemmas.List.Sums.{sum_by_push, sum_by-cons}
 use Rattle.std.proofs.lemmas.Bool.Decides.{eqb_tells}
 use Rattle.page_source.specs.declared.objects.ByteSource.{Ghosts as TextOf}
-use Rattle.page_source.proofs.Told.{told2}
+use Rattle.page_source.proofs.Told.{map_told2}
 use Rattle.schema_text.specs.TableDef.{TableDef}
 use Rattle.schema_text.specs.Grammar.{IsTable, line_feed}
 use Rattle.row_text.specs.Laws.{HasOneRow}
@@ -414,7 +414,7 @@ module _ {R : Type 0} (g : TextOf R) (one : HasOneRow) (table : TableDef) (is : 
 
   refused_near : (why : RowsWhy) → IsFewAhead ahead line.size → IfSome (g.left old) (Refuses why)
       → IfSome (g.left old) (RefusesNear why)
-  refused_near why few refused = told2 (g.left old) (λ text refuses stays. (refuses, stays)) refused (near few)
+  refused_near why few refused = map_told2 (g.left old) (λ text refuses stays. (refuses, stays)) refused (near few)
 
   -- what the reading stops at
   pub stops_by_bytes : (why : RowsWhy) → IsFewAhead ahead line.size → ChecksLine line taken (Err why)

@@ -188,13 +188,6 @@ pub span_read : (spans : List RowSpan) (r : ℕ) (span : RowSpan) (d : Span) →
     → span ≡ get_or spans r span → span_of span ≡ get_or (map span_of spans) r d
 span_read spans r span d within is = ap span_of is ∙ sym (get_or-map span_of spans r span d within)
 
-pub spot_read : (spots : List FieldSpot) (marks : List Mark) (i : ℕ) (d : Mark) → map spot_of marks ≡ spots
-    → i < length spots → spot_of (get_or marks i d) ≡ spot_at spots i
-spot_read spots marks i d are within =
-    let size = ap length are in
-    let long = length-map marks spot_of in
-    sym (get_or-map spot_of marks i d no_spot (omega arith)) ∙ ap (λ (s : List FieldSpot). spot_at s i) are
-
 pub marks_read : (marks : List Mark) (first width end : ℕ) → end ≡ first + width
     → map spot_of (take (end - first) (drop first marks)) ≡ take width (drop first (map spot_of marks))
 marks_read marks first width end is =

@@ -139,14 +139,6 @@ module _ (law : UsedPagesAreOfExtents) (one : HasOneChain) (leaves : IndexLeaves
   whole_tree : IsWhole tree (λ page. false) (λ segment. false)
   whole_tree = valid.trees.whole 0 is.clustered
 
-  in_file : (j : ℕ) → (index_in file table j).file ≡ file
-  unfolding index_in
-  in_file j = refl
-
-  in_fields : tree.leaf ≡ leaf_fields table 0
-  unfolding index_in
-  in_fields = refl
-
   -- a page of the trees is used, and has the id of its index
   pub record IsTreePage (j n : ℕ) : Type 0 where
     pub used : IsUsed file n

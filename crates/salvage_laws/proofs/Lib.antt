@@ -11,5 +11,5 @@ pub mod Owners
 pub mod Whole
 pub mod Nothing
 pub mod Gather
-pub mod Sound
+pub mod WholeSalvage
 pub mod SomeOutcome

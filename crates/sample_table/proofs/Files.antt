@@ -32,7 +32,7 @@ use Rattle.space_builder.proofs.Outcomes.{row_once}
 use Rattle.sample_table.specs.Sample.{sample_table, sample_rows}
 use Rattle.sample_table.specs.Answers.{IsSampleFile, bytes_of}
 use Rattle.sample_table.proofs.Table.{is_table, roots_in_order}
-use Rattle.sample_table.proofs.Rows.{length-rows, row_at, rise}
+use Rattle.sample_table.proofs.MadeRows.{length-rows, row_at, rise}
 use Rattle.sample_table.proofs.Lines.{bare_line, has_line, line_short, line_lacks}
 use Rattle.sample_table.proofs.Fits.{fitted_rows}
 use Rattle.sample_table.proofs.Texts.{HaveLines, rows_of_text, one_rows}

@@ -31,7 +31,7 @@ use Rattle.row_store.specs.StoredRows.{HaveFittedRows}
 use Rattle.sample_table.specs.Sample.{tag_column, note_column, sample_table, sample_tag, sample_note, sample_row}
 use Rattle.sample_table.specs.Sample.{sample_rows}
 use Rattle.sample_table.proofs.Letters.{IsPlainValue, tag_plain}
-use Rattle.sample_table.proofs.Rows.{length-rows, row_at}
+use Rattle.sample_table.proofs.MadeRows.{length-rows, row_at}
 
 -- a row as it is stored, by its id, its tag and its note
 abbrev stored_as : ℕ → Stored → Stored → List Stored

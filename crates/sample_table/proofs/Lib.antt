@@ -1,7 +1,7 @@
 pub mod Table
 pub mod Letters
-pub mod Rows
-pub mod Steps
+pub mod MadeRows
+pub mod MakingSteps
 pub mod Lines
 pub mod Texts
 pub mod Fits

@@ -17,7 +17,7 @@ use Rattle.row_text.specs.Line.{line_of, values_of, IsLineOf}
 use Rattle.sample_table.specs.Sample.{sample_table, sample_tag, sample_note, sample_row}
 use Rattle.sample_table.proofs.Letters.{IsPlainByte, IsPlainValue, tag_plain, note_plain, plain_text, plain_lacks}
 use Rattle.sample_table.proofs.Letters.{decimal_plain}
-use Rattle.sample_table.proofs.Rows.{table_row}
+use Rattle.sample_table.proofs.MadeRows.{table_row}
 
 -- at most so many bytes, and no LF
 record IsPiece (most : ℕ) (piece : List ℕ) : Type 0 where

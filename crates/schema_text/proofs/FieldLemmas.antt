@@ -372,12 +372,6 @@ node_listed t j is within =
           (rest_fields t j),
     ))
 
-not_first : (j : ℕ) → 0 < j → (j == 0) ≡ false
-not_first j h = grind (arith, nat_tests)
-
-pub key_first : (t : TableDef) (j : ℕ) → j ≡ 0 → key_fields t j ≡ clustered_key t
-key_first t j e = rw e refl
-
 -- the list of leaf records, and of node pointers, from its parts
 pub are_leaf : (t : TableDef) (j : ℕ) (key fields : List Field) (nullable keys : ℕ) → key ≡ key_fields t j
     → fields ≡ key ++ rest_fields t j → nullable ≡ nullable_count fields → keys ≡ length key

@@ -5,7 +5,7 @@ use Rattle.std.specs.List.{range_with_len}
 use Rattle.std.proofs.lemmas.List.{map-append, take_more, length-map}
 use Rattle.std.proofs.lemmas.List.FromFn.{fill_by_all}
 use Rattle.std.proofs.Math.Seq.{take-append_seam}
-use Rattle.page_source.proofs.Told.{told3}
+use Rattle.page_source.proofs.Told.{map_told3}
 use Rattle.page_source.specs.declared.rule.Fault.{Fault}
 use Rattle.page_source.specs.declared.checks.Stop.{Stop}
 use Rattle.page_source.specs.declared.checks.Stop.TheVariants as stops
@@ -82,12 +82,6 @@ pub holders_find : {A : Type 0} (file : List ℕ) (r : Result A Fault) → EachO
 unfolding UseChecks
 holders_find file (Ok x) a b h = (a, (b, h))
 holders_find file (Err fault) a b h = inr (a, inr (b, h))
-
--- one stage after the other
-pub lists_stop : (file : List ℕ) (stop : Stop) → Stops stop (ListChecks file) → Stops stop (OwnershipChecks file)
-lists_stop file (stops.Broken fault) h = inl h
-lists_stop file stops.Source h = tt
-lists_stop file stops.Memory h = tt
 
 pub inodes_stop : (file : List ℕ) (stop : Stop) → AllDescriptorChecks file None
     → Stops stop (AllInodeChecks file (is_fragment_page file)) → Stops stop (SpaceChecks file)
@@ -170,7 +164,8 @@ pub all_audited : (o : Option (List ℕ)) (flags : ℕ) (r : Result SpaceView St
     → IfSome o (λ file. HeadChecks file flags None)
     → IfSome o (λ file. Answers r (SpaceChecks file)) → IfOk r (λ space. IfSome o (λ file. IsSpaceOf file space))
     → IfOk r (λ space. IfSome o (λ file. IsAuditOf file space))
-all_audited o flags (Ok space) head answer is = told3 o (λ file a b d. audited file flags space a b d) head answer is
+all_audited o flags (Ok space) head answer is =
+    map_told3 o (λ file a b d. audited file flags space a b d) head answer is
 all_audited o flags (Err stop) head answer is = tt
 
 -- what a slice was made is what its vector holds

@@ -33,7 +33,7 @@ use Rattle.space_audit.proofs.ListSteps.{get_other}
 use Rattle.space_audit.proofs.Held.{claimed_pages, held_one}
 use Rattle.space_audit.proofs.HeldOwners.{fragment_times, whose}
 use Rattle.space_audit.proofs.ReadExtents.{extent_is}
-use Rattle.space_audit.proofs.Sound.{claims_sound}
+use Rattle.space_audit.proofs.SoundAudit.{claims_sound}
 
 position_few : (file : List ℕ) (id : ℕ) → segment_with_id file id ≤ length (segments file)
 position_few file id = prefix_len-le-length _ (segments file)

@@ -3,7 +3,7 @@ pub mod AtHome
 pub mod Claims
 pub mod OwnerFacts
 pub mod AllClaims
-pub mod Sound
+pub mod SoundAudit
 pub mod HomeNumbers
 pub mod ListSteps
 pub mod Held

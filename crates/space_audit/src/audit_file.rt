@@ -48,7 +48,8 @@ pub fn audit<S: PageSource, L: Ledger>(
 ) -> Result<Space, Stop>
     ensures exact { OfFile S.PageSource source.old (λ file. Answers result (AuditChecks file flags)) }
     ensures audited { IfOk result (λ space. OfFile S.PageSource source.old (λ file. IsAuditOf file space)) }
-    ensures told { OfFile S.PageSource source.old (λ file. steps.new ≤ steps.old + audit_steps (page_count file)) }
+    ensures steps_if_told { OfFile S.PageSource source.old (λ file.
+        steps.new ≤ steps.old + audit_steps (page_count file)) }
     ensures sized { IfOk result (λ space. steps.new ≤ steps.old + audit_steps space.size) }
     ensures fetches { IfOk result (λ space.
         S.fetches source.new ≤ S.fetches source.old + audit_fetches space.size space.used) }

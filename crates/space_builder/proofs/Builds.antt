@@ -7,7 +7,7 @@ use Rattle.std.specs.Ordering.{nat_cmp}
 use Rattle.page_source.specs.declared.objects.ByteSource.{Ghosts as TextOf}
 use Rattle.page_source.specs.declared.objects.PageStore.{Ghosts as StoreOf}
 use Rattle.page_source.specs.Objects.{PageMap, Store, IsFresh}
-use Rattle.page_source.proofs.Told.{told1}
+use Rattle.page_source.proofs.Told.{map_told}
 use Rattle.schema_text.specs.Grammar.{IsTable}
 use Rattle.schema_text.specs.TableDef.{TableDef}
 use Rattle.row_layout.specs.StoredRow.{Stored}
@@ -40,21 +40,21 @@ IsEnd result stop = result ≡ Err stop
 -- a fresh store lacks page 0
 pub fresh_lacks : (store : Store) → IsFresh store → LacksHead store
 fresh_lacks store fresh =
-    told1 store.held (λ held is. ap is_some (ap (λ (map : PageMap). get map 0) is ∙ get-empty nat_cmp 0)) fresh.held
+    map_told store.held (λ held is. ap is_some (ap (λ (map : PageMap). get map 0) is ∙ get-empty nat_cmp 0)) fresh.held
 
 module _ {R : Type 0} (g : TextOf R) (table : TableDef) (old new : R) where
   -- reading failed
   pub read_failed : (stop : RowsStop) (store : Store) → RootOrderChecks table None → IsFresh store
       → FindsRows g table old new (Err stop) → Builds table (g.left old) (Err (stop_of_rows stop)) store store
   read_failed (reads.Refused line why) store roots fresh finds =
-      (roots, told1 (g.left old) (λ text found. found.0) finds, refl)
+      (roots, map_told (g.left old) (λ text found. found.0) finds, refl)
   read_failed reads.Source store roots fresh finds = (roots, refl)
   read_failed reads.Memory store roots fresh finds = fresh_lacks store fresh
 
   -- and no more was read
   pub read_short : (stop : RowsStop) → FindsRows g table old new (Err stop)
       → ReadsText g.left old new (Err (stop_of_rows stop))
-  read_short (reads.Refused line why) finds = told1 (g.left old) (λ text found. found.1) finds
+  read_short (reads.Refused line why) finds = map_told (g.left old) (λ text found. found.1) finds
   read_short reads.Source finds = tt
   read_short reads.Memory finds = tt
 
@@ -87,7 +87,7 @@ module _ {R : Type 0} (g : TextOf R) (table : TableDef) (old new : R) where
     are_stored = record { is_table = is_table; good = read.good; same = read.same }
 
     rows_read : AreRowsRead table (g.left old) read.rows
-    rows_read = record { good = read.good; of_text = told1 (g.left old) (λ text of. of.0) read.of_text }
+    rows_read = record { good = read.good; of_text = map_told (g.left old) (λ text of. of.0) read.of_text }
 
     pub can_build : FitsSpace table read.rows → CanBuild table read.rows
     can_build fits = record {

@@ -5,7 +5,7 @@ use Rattle.page_source.specs.declared.objects.PageStore.{Ghosts as StoreOf}
 use Rattle.page_source.specs.Faults.{Rose}
 use Rattle.page_source.specs.Objects.{Store, CanPut, KeepsSizes, HoldsOthers}
 use Rattle.page_source.proofs.Members.{contains_none}
-use Rattle.page_source.proofs.Told.{told1}
+use Rattle.page_source.proofs.Told.{map_told}
 use Rattle.space_layout.specs.HeadPages.{bitmap_page, inode_page}
 use Rattle.space_layout.specs.NumberedPages.{Numbered}
 use Rattle.space_builder.specs.declared.built.PutStop.TheVariants as stops
@@ -16,7 +16,7 @@ use Rattle.space_builder.proofs.Puts.{ArePut, among_left, among_right, both_put,
 use Rattle.space_builder.proofs.SpacePuts.{only_member}
 
 pub heads_below : (store : Store) (sizes : List ℕ) (n : ℕ) → n < 3 → TakesPages store sizes → CanPut store n
-heads_below store sizes n few takes = told1 store.size (λ size most. omega arith) takes.below
+heads_below store sizes n few takes = map_told store.size (λ size most. omega arith) takes.below
 
 module _ {T : Type 0} (g : StoreOf T) (sizes : List ℕ) where
   abbrev second : Numbered

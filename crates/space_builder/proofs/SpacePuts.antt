@@ -15,7 +15,7 @@ use Rattle.page_source.specs.declared.objects.PageStore.{Ghosts as StoreOf}
 use Rattle.page_source.specs.Objects.{PageMap, Store, IsFresh, IsTold, Asks, KeepsSizes}
 use Rattle.page_source.proofs.Members.{contains_none, contains_here, contains_there, contains_cases}
 use Rattle.page_source.proofs.Slots.{get-insert_at}
-use Rattle.page_source.proofs.Told.{told1}
+use Rattle.page_source.proofs.Told.{map_told}
 use Rattle.offpage_chain.specs.Writing.{HoldsAllBut, KeepsAllBut}
 use Rattle.schema_text.specs.Formats.{flags_of}
 use Rattle.schema_text.specs.TableDef.{TableDef}
@@ -40,7 +40,7 @@ use Rattle.space_builder.proofs.PutSteps.{AreSome, has_page, some_among}
 pub same_put : {T : Type 0} (g : StoreOf T) (old now : T) (pages all : List Numbered) → AreSome pages all
     → AreSome all pages → ArePut g old now pages → ArePut g old now all
 same_put g old now pages all some every put = record {
-  held = told1 (g.told now).held
+  held = map_told (g.told now).held
       (λ held each k d below.
       All-contains (IsHeld held) pages (get_or all k d) each
       (every (get_or all k d) (Contains-get_or all k d below)))
@@ -133,7 +133,7 @@ takes_sized old now sizes pages shape is told = record { shape = shape; below = 
 pub lacks_head : (numbers : List ℕ) (old now : Option PageMap) → IfSome old (λ held. held ≡ empty)
     → HoldsAllBut numbers old now → ¬ (Contains numbers 0) → IfSome now (λ held. IsNone (get held 0))
 lacks_head numbers old now fresh kept other =
-    told1 now (λ held none. ap is_some (none 0 other)) (fresh_kept numbers old now fresh kept)
+    map_told now (λ held none. ap is_some (none 0 other)) (fresh_kept numbers old now fresh kept)
 
 pub only_member : {A : Type 0} (x y : A) → Contains (x ∷ []) y → x ≡ y
 only_member x y among =
@@ -315,7 +315,7 @@ module _ (laws : LowerLaws) (table : TableDef) (rows : Rows) (can : CanBuild tab
         → HoldsPart table rows (g.told old) (g.told new)
     part_behind new kept = record {
       asked = told_asked new kept.sizes;
-      held = told1 (g.told new).held (λ held none. inl none) (lacks_behind new kept);
+      held = map_told (g.told new).held (λ held none. inl none) (lacks_behind new kept);
     }
 
     pub sized_behind : (new : T) → IsTold (g.told old).size (g.told sized).size pages
@@ -374,7 +374,7 @@ module _ (laws : LowerLaws) (table : TableDef) (rows : Rows) (can : CanBuild tab
         → HoldsPart table rows (g.told old) (g.told new)
     part_head now new put kept = record {
       asked = told_asked new (both_kept now new put kept);
-      held = told1 (g.told new).held (λ held others. inr others)
+      held = map_told (g.told new).held (λ held others. inr others)
           (others_stay (g.told now).held (g.told new).held put.held kept.others);
     }
 

@@ -10,7 +10,7 @@ use Rattle.std.proofs.lemmas.List.FromFn.{get_or-map-range_with_len, length-map-
 use Rattle.page_source.specs.declared.objects.PageStore.{Ghosts as StoreOf}
 use Rattle.page_source.specs.Lists.{AreDistinct}
 use Rattle.page_source.specs.Objects.{PageMap, Store}
-use Rattle.page_source.proofs.Told.{told1}
+use Rattle.page_source.proofs.Told.{map_told}
 use Rattle.offpage_chain.specs.ValuePage.{pages_for}
 use Rattle.offpage_chain.specs.Writing.{AreBelow, HoldsParts, KeepsAllBut, WritesValue}
 use Rattle.schema_text.specs.declared.table.Format.{Format}
@@ -83,7 +83,7 @@ module _ {T : Type 0} (g : StoreOf T) (old new : T) (number : ℕ → ℕ) (byte
   pub chain_put : {E : Type 0} (u : Unit {0}) → WritesValue {E = E} g old new 1 chain_numbers bytes (Ok u)
       → ArePut g old new (pages_of_bytes number bytes)
   chain_put u writes = record {
-    held = told1 (g.told new).held
+    held = map_told (g.told new).held
         (λ held parts. parts_held held number bytes
         (λ k below. parts k (let size = length-map-range_with_len number 0 (pages_for (length bytes)) in omega arith)))
         writes.held;
@@ -130,7 +130,7 @@ module _ (sizes : List ℕ) (numbers : AreNumbers sizes) (at count : ℕ) (has :
 
   pub below_from : {T : Type 0} (g : StoreOf T) (store : T) → TakesPages (g.told store) sizes
       → AreBelow g store pages_from
-  below_from g store takes = told1 (g.told store).size below_all takes.below
+  below_from g store takes = map_told (g.told store).size below_all takes.below
 
 -- a store that keeps its size takes the pages as before
 pub takes_still : (old now : Store) (sizes : List ℕ) → now.size ≡ old.size → TakesPages old sizes → TakesPages now sizes

@@ -1,4 +1,4 @@
-pub mod Steps
+pub mod FollowingPieces
 pub mod PageNumbers
 pub mod RunLists
 pub mod Known
@@ -9,7 +9,7 @@ pub mod Inodes
 pub mod HomeLists
 pub mod SlotPages
 pub mod BuiltOwners
-pub mod Sound
+pub mod BuiltSpace
 pub mod Segments
 pub mod SameBytes
 pub mod Pieces

@@ -9,7 +9,7 @@ use Rattle.space_layout.specs.Numbers.{fragments_of, own_of, extents_of, fragmen
 use Rattle.space_layout.specs.Numbers.{used_fragments, extent_start, extents_needed, space_pages, roots}
 use Rattle.space_layout.specs.Numbers.{fragment_start, fragment_page, segment_page, size_at, IsShape}
 use Rattle.space_layout.specs.Numbers.{IsPlace, AreNumbers}
-use Rattle.space_layout.proofs.Steps.{FollowOn, start_rises, piece_before, one_place, some_place}
+use Rattle.space_layout.proofs.FollowingPieces.{FollowOn, start_rises, piece_before, one_place, some_place}
 
 -- how many pages are given out before each segment
 pub fragments_none : (sizes : List ℕ) → fragments_before sizes 0 ≡ 0

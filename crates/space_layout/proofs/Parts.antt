@@ -4,7 +4,7 @@ use Rattle.std.proofs.lemmas.List.{take_all}
 use Rattle.std.proofs.lemmas.List.Sums.{sum_by_more}
 use Rattle.space_layout.specs.ValuePlaces.{row_at, pages_before_row, pages_before_field}
 use Rattle.space_layout.specs.ValuePlaces.{IsPart, HavePlaces}
-use Rattle.space_layout.proofs.Steps.{FollowOn, piece_before, one_place, some_place}
+use Rattle.space_layout.proofs.FollowingPieces.{FollowOn, piece_before, one_place, some_place}
 
 abbrev row_total : List (List ℕ) → ℕ → ℕ
 row_total counts r = sum (row_at counts r)

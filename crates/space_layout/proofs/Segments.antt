@@ -29,7 +29,7 @@ use Rattle.space_layout.proofs.Spaces.{head_size, used_place}
 use Rattle.space_layout.proofs.Inodes.{segments_are, segments_count}
 use Rattle.space_layout.proofs.SlotPages.{fragment_use}
 use Rattle.space_layout.proofs.BuiltOwners.{page_used, page_owned, owned_place}
-use Rattle.space_layout.proofs.Sound.{has_claims, space_is}
+use Rattle.space_layout.proofs.BuiltSpace.{has_claims, space_is}
 
 -- the inode of a segment is the first one at its address
 place_found : (n s : ℕ) → s < n → segment_with_address (map inode_place (range_with_len 0 n)) (inode_place s) ≡ s

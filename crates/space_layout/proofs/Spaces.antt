@@ -13,7 +13,7 @@ use Rattle.space_layout.specs.declared.runs.Run.{Run}
 use Rattle.space_layout.specs.Fields.{full_fragments, open_fragments, full_of, open_of, fragment_descriptor}
 use Rattle.space_layout.specs.Fields.{own_descriptor, header}
 use Rattle.space_layout.proofs.Known.{KnownHeads}
-use Rattle.space_layout.proofs.Steps.{less_same, Place, some_place}
+use Rattle.space_layout.proofs.FollowingPieces.{less_same, Place, some_place}
 use Rattle.space_layout.proofs.PageNumbers.{extents_follow, extent_counts, own_below, extents_none, HasPlace}
 use Rattle.space_layout.proofs.PageNumbers.{fragment_place, own_place}
 use Rattle.space_layout.proofs.Given.{Given, given_used}

@@ -83,11 +83,6 @@ row_closes table a b d c so last close =
       subst (λ (cs : List Column). GrowsBy a d ((line_open table ++ joined_values cs so.row) ++ line_close)) all whole,
     )
 
--- a line in the buffer, and one that didn't fit there
-pub row_kept : (table : TableDef) (old now : List ℕ) → PutsSomeRow {A = Unit {0}} table (Ok tt) (Some old) (Some now)
-    → KeepsSomeRow table (Ok true) old now
-row_kept table old now puts = (puts.0, puts.1, ap (λ (o : Option (List ℕ)). unwrap_or o []) puts.2)
-
 -- a line behind what was held: in the buffer, or put behind it
 pub moves_kept : (table : TableDef) (o p : Option (List ℕ)) (held kept now : List ℕ) → IsSent o p held kept
     → KeepsSomeRow table (Ok true) kept now → MovesSomeRow table o p held now

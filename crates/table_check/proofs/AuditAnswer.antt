@@ -23,7 +23,7 @@ use Rattle.inode_segments.specs.InodeChecks.{InodeListsChecks, step_before}
 use Rattle.inode_segments.specs.Inodes.{segments, segment_id, inode_of, full_pages, step_address, used_places}
 use Rattle.inode_segments.specs.Inodes.{stepped_pages}
 use Rattle.inode_segments.specs.InodeChecks.{SegmentCheck, SegmentChecks, AllInodeChecks}
-use Rattle.inode_segments.proofs.Steps.{stepped_length}
+use Rattle.inode_segments.proofs.ListSteps.{stepped_length}
 use Rattle.space_audit.specs.Lists.{HomeList, HomeListChecks, ThreeChecks, SegmentListsCheck, HomeCheck, ListChecks}
 use Rattle.space_audit.specs.Audit.{HasFragmentCount, SlotCheck, SlotsCheck, CountCheck, CountChecks, ClaimCheck}
 use Rattle.space_audit.specs.Audit.{UseChecks, FrameCheck, FrameChecks, OwnerChecks, AuditChecks}

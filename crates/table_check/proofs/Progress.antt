@@ -11,7 +11,7 @@ use Rattle.page_source.specs.Lists.{unmarked}
 use Rattle.page_source.specs.Faults.{Rose}
 use Rattle.page_source.specs.Checks.{HaltsAt, HaltsWithCause}
 use Rattle.page_source.specs.Calls.{OfFile, HaltsOver, AsksNoMore}
-use Rattle.page_source.proofs.Told.{told0, told2, told3}
+use Rattle.page_source.proofs.Told.{if_told, map_told2, map_told3}
 use Rattle.space_audit.specs.Marks.{is_in, is_set, Marked}
 use Rattle.space_audit.proofs.Marking.{marked_none}
 use Rattle.table_check.specs.Marking.{ChecksPages}
@@ -44,8 +44,8 @@ none_marked g old marks steps pages none = record {
   members = refl;
   fewer = omega arith;
   exactly = omega arith;
-  counted = told0 (g.content old) (λ file. sym (ap length (none file)));
-  grew = told0 (g.content old) (λ file. subst (λ (list : List ℕ). Marked (is_set marks) marks list) (sym (none file))
+  counted = if_told (g.content old) (λ file. sym (ap length (none file)));
+  grew = if_told (g.content old) (λ file. subst (λ (list : List ℕ). Marked (is_set marks) marks list) (sym (none file))
       (marked_none marks));
 }
 
@@ -99,11 +99,11 @@ module _ {S : Type 0} (g : FileOf S) (first old new : S) (start before after : L
         fewer = omega (arith, has.fewer, fewer);
         exactly = omega (arith, has.exactly, exactly);
         counted =
-            told3 (g.content first)
+            map_told3 (g.content first)
             (λ file e a b. omega (arith, a, b, ap length e, length-append (pages file) (more file)))
             splits has.counted counted;
         grew =
-            told3 (g.content first)
+            map_told3 (g.content first)
             (λ file e a b. subst (λ (list : List ℕ). Marked (is_set start) after list) (sym e)
             (marked_more (is_set start) before after (pages file) (more file) a b))
             splits has.grew grew;
@@ -133,8 +133,8 @@ pub all_marked : {S : Type 0} (g : FileOf S) (old new : S) (before after : List 
     → ChecksPages g old new before after steps spent (Ok count) All all
 all_marked g old new before after steps spent count pages all All same holds has = record {
   exact = holds;
-  count = told2 (g.content old) (λ file e a. a ∙ sym (ap length e)) same has.counted;
-  grew = told2 (g.content old) (λ file e a. subst (λ (list : List ℕ). Marked (is_set before) after list) (sym e) a)
+  count = map_told2 (g.content old) (λ file e a. a ∙ sym (ap length e)) same has.counted;
+  grew = map_told2 (g.content old) (λ file e a. subst (λ (list : List ℕ). Marked (is_set before) after list) (sym e) a)
       same has.grew;
   members = has.members;
   fewer = has.fewer;

@@ -11,7 +11,7 @@ use Rattle.page_source.specs.declared.checks.Halt.TheVariants.{Broken, Source}
 use Rattle.page_source.specs.Verdict.{AllBelow}
 use Rattle.page_source.specs.Checks.{HaltsAt}
 use Rattle.page_source.specs.Calls.{OfFile}
-use Rattle.page_source.proofs.Told.{told0, told1, told2, told3}
+use Rattle.page_source.proofs.Told.{if_told, map_told, map_told2, map_told3}
 use Rattle.column_values.specs.declared.field.Field.{Field}
 use Rattle.column_values.specs.Types.{Fields, field_at}
 use Rattle.compact_record.specs.declared.places.Place.{Place}
@@ -55,7 +55,7 @@ pub none_held : {S : Type 0} {g : FileOf S} {first : S} {leaf : RowLeaf} {origin
     → FieldsHeld g first first start start steps steps 0 leaf origin 0
 none_held {g = g} {first = first} start steps = record {
   has = none_marked g first start steps _ (λ file. refl);
-  held = told0 (g.content first) (λ file. λ i below. absurd (omega (arith, below)));
+  held = if_told (g.content first) (λ file. λ i below. absurd (omega (arith, below)));
 }
 
 -- all were checked
@@ -70,10 +70,10 @@ all_held {g = g} {first = first} {now = now} {start = start} {marks = marks} {st
     let fields = leaf.fields.now in
     all_marked g first now start marks steps spent count (λ file. pages_of_part file page origin fields i)
     (λ file. pages_of_row_on file leaf origin) (λ file. RowChecksOn file leaf origin (is_set start))
-    (told0 (g.content first)
+    (if_told (g.content first)
     (λ file. whole_record file page origin fields
     ∙ ap (pages_of_part file page origin fields) (sym all)))
-    (told1 (g.content first)
+    (map_told (g.content first)
     (λ file below. record_holds file (place_on file leaf) leaf.number page origin fields (is_set start)
     (subst (AllBelow (FieldCheckBy file (place_on file leaf) leaf.number page origin fields (is_set start))) all below))
     have.held)
@@ -84,7 +84,7 @@ pub steps_held : {S : Type 0} (g : FileOf S) (first : S) (steps spent i : ℕ) (
     → i ≡ field_count leaf.fields.now
     → OfFile g first (λ file. spent ≤ steps + length (pages_of_row_on file leaf origin))
 steps_held g first steps spent i leaf origin few all =
-    told1 (g.content first)
+    map_told (g.content first)
     (λ file few. omega (
       arith,
       few,
@@ -142,7 +142,7 @@ module _ {S : Type 0} {g : FileOf S} {first old : S} {start before : List Bool} 
         in
         let three = subst (λ (o : Option (List ℕ)). IfSome o (λ file. spent ≤ mid + length (pages_here file)))
         have.has.same two in
-        told2 (g.content first)
+        map_told2 (g.content first)
         (λ file few last. omega (
           arith,
           few,
@@ -156,7 +156,7 @@ module _ {S : Type 0} {g : FileOf S} {first old : S} {start before : List Bool} 
         → OfFile g old (λ file. spent ≤ mid + length (pages_of_field_on file leaf field.kind place))
         → OfFile g first (λ file. spent ≤ steps + length (pages_of_row_on file leaf origin))
     all_steps before here =
-        told1 (g.content first)
+        map_told (g.content first)
         (λ file few. omega (
           arith,
           few,
@@ -175,7 +175,7 @@ module _ {S : Type 0} {g : FileOf S} {first old : S} {start before : List Bool} 
         breaks_off g first old new start before after steps mid spent count
         (λ file. pages_of_part file page origin fields i) pages_here Here have.has halt
         (λ file. RowChecksOn file leaf origin (is_set start)) (λ file. pages_of_row_on file leaf origin)
-        (told3 (g.content first)
+        (map_told3 (g.content first)
         (λ file marked below at. record_breaks file (place_on file leaf) leaf.number page origin fields
         (is_set start) i halt within
         below
@@ -194,10 +194,10 @@ module _ {S : Type 0} {g : FileOf S} {first old : S} {start before : List Bool} 
           has = more_marked g first old new start before after steps mid spent count
               (λ file. pages_of_part file page origin fields i)
               pages_here Here have.has n (λ file. pages_of_part file page origin fields (i + 1))
-              (told0 (g.content first)
+              (if_told (g.content first)
               (λ file. part_more file page origin fields i)) here;
           held =
-              told3 (g.content first)
+              map_told3 (g.content first)
               (λ file marked below check. below_more
               (FieldCheckBy file (place_on file leaf) leaf.number page origin fields (is_set start)) i below
               (here_as file None marked check))

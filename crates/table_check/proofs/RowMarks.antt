@@ -7,7 +7,7 @@ use Rattle.page_source.specs.declared.checks.Halt.{Halt}
 use Rattle.page_source.specs.Verdict.{AllBefore}
 use Rattle.page_source.specs.Checks.{HaltsAt}
 use Rattle.page_source.specs.Calls.{OfFile, HaltsOver}
-use Rattle.page_source.proofs.Told.{told0, told1, told2, told3, told5}
+use Rattle.page_source.proofs.Told.{if_told, map_told, map_told2, map_told3, map_told5}
 use Rattle.column_values.specs.Types.{Fields}
 use Rattle.schema_text.specs.TableDef.{TableDef}
 use Rattle.schema_text.specs.IndexFields.{leaf_fields}
@@ -52,8 +52,8 @@ pub none_held : {S : Type 0} {g : FileOf S} {first : S} {table : TableDef} {rows
 none_held {g = g} {first = first} {table = table} {rows = rows} segment start steps j none told = record {
   has = none_marked g first start steps (λ file. pages_before file table j)
       (λ file. ap (pages_before file table) none ∙ no_rows file table);
-  held = told0 (g.content first) (λ file. λ i d below. absurd (omega (arith, none, below)));
-  gives = told1 (g.content first)
+  held = if_told (g.content first) (λ file. λ i d below. absurd (omega (arith, none, below)));
+  gives = map_told (g.content first)
       (λ file t. subst (HasGivenLive (clustered_tree file table) rows) (sym none) t.start) told;
 }
 
@@ -78,7 +78,7 @@ searched {g = g} {first = first} {old = old} {new = new} {start = start} {marks 
           over have.has;
       held = have.held;
       at_row =
-          told3 (g.content first)
+          map_told3 (g.content first)
           (λ file t gives x. finds file table before after j (Ok found)
           (subst (λ (r : Option ℕ). NextExact file before (Ok r) after) is x) t.walked gives)
           told have.gives first_exact;
@@ -94,8 +94,8 @@ all_held {g = g} {first = first} {now = now} {start = start} {marks = marks} {st
     all_marked g first now start marks steps spent count
     (λ file. pages_before file table j) (λ file. all_chain_pages (clustered_tree file table))
     (λ file. RowChecks (clustered_tree file table) (is_set start))
-    (told1 (g.content first) (λ file all. all_pages file table j all) have.at_row)
-    (told2 (g.content first) (λ file all below. each_of_holds (live_rows (clustered_tree file table))
+    (map_told (g.content first) (λ file all. all_pages file table j all) have.at_row)
+    (map_told2 (g.content first) (λ file all below. each_of_holds (live_rows (clustered_tree file table))
     (RowCheck (clustered_tree file table) (is_set start)) j all below) have.at_row have.held)
     have.has
 
@@ -108,7 +108,7 @@ module _ {S : Type 0} {g : FileOf S} {first old : S} {start before : List Bool} 
   -- the row that was found can be read
   pub found_readable : RowsCanBeRead → OfFile g first (λ file. IsRecord page fields origin)
   found_readable can =
-      told2 (g.content first)
+      map_told2 (g.content first)
       (λ file t f. row_readable file table j origin segment number page view.leaf fields f.0 is_number is_page t.leaves
       is_list can t.walked)
       told have.at_row
@@ -146,7 +146,7 @@ module _ {S : Type 0} {g : FileOf S} {first old : S} {start before : List Bool} 
         here Here have.has halt
         (λ file. RowChecks (clustered_tree file table) (is_set start))
         (λ file. all_chain_pages (clustered_tree file table))
-        (told5 (g.content first)
+        (map_told5 (g.content first)
         (λ file t f marked below at. each_of_breaks (live_rows (clustered_tree file table))
         (RowCheck (clustered_tree file table) (is_set start)) j halt (f.0).within below
         (λ d. halts_as halt (Here file) _ (λ v check. checked file t f marked d v check) at))
@@ -164,16 +164,16 @@ module _ {S : Type 0} {g : FileOf S} {first old : S} {start before : List Bool} 
           has = more_marked g first old new start before after base (mid + left) (spent + left) count
               (λ file. pages_before file table j)
               here Here have.has n (λ file. pages_before file table (j + 1))
-              (told2 (g.content first)
+              (map_told2 (g.content first)
               (λ file t f. row_more file table j origin segment number page view.leaf fields f.0 is_number is_page
               t.leaves is_list)
               told have.at_row)
               (recounted (mid + left) (spent + left) call (omega arith));
           held =
-              told5 (g.content first)
+              map_told5 (g.content first)
               (λ file t f marked below check. before_more (live_rows (clustered_tree file table))
               (RowCheck (clustered_tree file table) (is_set start)) j below
               (λ d. checked file t f marked d None check))
               told have.at_row have.has.grew have.held exact;
-          gives = told1 (g.content first) (λ file f. f.1) have.at_row;
+          gives = map_told (g.content first) (λ file f. f.1) have.at_row;
         })

@@ -9,7 +9,7 @@ use Rattle.page_source.specs.declared.checks.Stop.TheVariants as stops
 use Rattle.page_source.specs.Pages.{page_count}
 use Rattle.page_source.specs.Checks.{Stops}
 use Rattle.page_source.specs.Calls.{OfFile}
-use Rattle.page_source.proofs.Told.{told1}
+use Rattle.page_source.proofs.Told.{map_told}
 use Rattle.schema_text.specs.Formats.{flags_of}
 use Rattle.schema_text.specs.TableDef.{TableDef}
 use Rattle.space_audit.specs.Audit.{AuditChecks}
@@ -66,6 +66,6 @@ pub takes_steps : {S : Type 0} {g : FileOf S} {source : S} {size steps spent : �
     → OfFile g source (λ file. size ≤ page_count file) → size ≤ 4194304 → spent ≤ steps + check_steps size
     → TakesSteps g source check_steps steps spent
 takes_steps {g = g} {source = source} within most few = record {
-  told = told1 (g.content source) (λ file less. omega (arith, less, few)) within;
+  told = map_told (g.content source) (λ file less. omega (arith, less, few)) within;
   always = omega (arith, most, few);
 }

@@ -35,7 +35,7 @@ fn check_field<S: PageSource, L: Ledger>(
         (λ file. FieldChecksOn file leaf.now kind place (is_set marks.old))
         (λ file. pages_of_field_on file leaf.now kind place) }
     ensures asked { AsksNoMore S.PageSource source.old source.new steps.old steps.new }
-    ensures told { OfFile S.PageSource source.old (λ file.
+    ensures steps_if_told { OfFile S.PageSource source.old (λ file.
         steps.new ≤ steps.old + length (pages_of_field_on file leaf.now kind place)) }
 {
     let FieldType::Column(kind) = kind else {
@@ -65,7 +65,7 @@ pub fn check_row_values<S: PageSource, L: Ledger>(
         (λ file. RowChecksOn file leaf.now located.now.origin (is_set marks.old))
         (λ file. pages_of_row_on file leaf.now located.now.origin) }
     ensures asked { AsksNoMore S.PageSource source.old source.new steps.old steps.new }
-    ensures told { OfFile S.PageSource source.old (λ file.
+    ensures steps_if_told { OfFile S.PageSource source.old (λ file.
         steps.new ≤ steps.old + length (pages_of_row_on file leaf.now located.now.origin)) }
 {
     let _size = leaf.pages.size();

@@ -66,7 +66,7 @@ fn check_external<S: PageSource, L: Ledger>(
         (λ file. ValueChecksBy file (place_on file leaf.now) leaf.now.number kind.now local.now true (is_set marks.old))
         (λ file. pages_of_value file local.now true) }
     ensures asked { AsksNoMore S.PageSource source.old source.new steps.old steps.new }
-    ensures told { OfFile S.PageSource source.old (λ file.
+    ensures steps_if_told { OfFile S.PageSource source.old (λ file.
         steps.new ≤ steps.old + length (pages_of_value file local.now true)) }
 {
     let (front, reference) = split_local(local);
@@ -105,7 +105,7 @@ pub(crate) fn check_value<S: PageSource, L: Ledger>(
         (λ file. ValueChecksOn file leaf.now kind.now place (is_set marks.old))
         (λ file. pages_of_value_on file leaf.now place) }
     ensures asked { AsksNoMore S.PageSource source.old source.new steps.old steps.new }
-    ensures told { OfFile S.PageSource source.old (λ file.
+    ensures steps_if_told { OfFile S.PageSource source.old (λ file.
         steps.new ≤ steps.old + length (pages_of_value_on file leaf.now place)) }
 {
     let local = &leaf.page.bytes()[place.from..place.until];

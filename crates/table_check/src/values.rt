@@ -19,10 +19,10 @@ ghost use Rattle.table_check.specs.Values.{RowChecks, all_chain_pages};
 ghost use Rattle.table_check.specs.Leaf.{RowChecksOn, pages_of_row_on};
 
 use crate::leaf::{Leaves, RowLeaf};
-use crate::no_look::need_no_look;
 use crate::pass::pass_leaves;
 use crate::record::check_row_values;
 use crate::rows::LiveRows;
+use crate::skipped::can_skip_values;
 use compact_record::Located;
 use offpage_chain::ChainPages;
 use page_source::{Halt, PAGE_SIZE, Page, PageSource, Rule, Steps, Stop};
@@ -135,7 +135,7 @@ pub(crate) fn check_values<S: PageSource, L: Ledger>(
     let _ = schema.indexes();
     let fields = schema.fields(alloc, 0, true)?;
     rows_can_be_read();
-    if need_no_look(clustered, &fields) {
+    if can_skip_values(clustered, &fields) {
         let mut cursor = LeafCursor::start(alloc, clustered)?;
         pass_leaves(source, &mut cursor, steps)?;
         return Ok(0);

@@ -4,7 +4,7 @@ use Rattle.std.proofs.lemmas.Bool.{false≢true, cases_Bool}
 use Rattle.page_source.specs.declared.objects.PageSource.{Ghosts as FileOf}
 use Rattle.page_source.specs.declared.objects.ByteSink.{Ghosts as SinkOf}
 use Rattle.page_source.specs.Calls.{AsksNoMore}
-use Rattle.page_source.proofs.Told.{told0, told1, told2}
+use Rattle.page_source.proofs.Told.{if_told, map_told, map_told2}
 use Rattle.salvage_model.specs.declared.stop.SalvageStop.{SalvageStop}
 use Rattle.salvage_model.specs.declared.stop.SalvageStop.TheVariants.{Root, Source, Sink, Losses, Memory, Changed}
 use Rattle.table_salvage.specs.declared.search.Search.{Search}
@@ -88,17 +88,13 @@ module _ {S O E : Type 0} (g : FileOf S) (o : SinkOf O) (e : SinkOf E) where
     asked = omega (arith, one.asked, two.asked);
   }
 
-  pub goes_none : (objects : S × O × E) (room : Room) (search : Search) (At : Stage)
-      → Goes g o e objects objects room room search done At At
-  goes_none objects room search At = record { told = told0 (g.content objects.0) (λ file. λ start met. met) }
-
   pub goes_then : {A : Type 0} {old middle new : S × O × E} {room between room_now : Room} {search : Search}
       {result : Result A SalvageStop} (From Middle To : Stage) → g.content middle.0 ≡ g.content old.0
       → Goes g o e old middle room between search done From Middle
       → Goes g o e middle new between room_now search result Middle To
       → Goes g o e old new room room_now search result From To
   goes_then {old = old} From Middle To same one two = record {
-    told = told2 (g.content old.0) (λ file one two. λ start met. two start (one start met)) one.told
+    told = map_told2 (g.content old.0) (λ file one two. λ start met. two start (one start met)) one.told
         (rw same at two.told);
   }
 
@@ -111,24 +107,10 @@ module _ {S O E : Type 0} (g : FileOf S) (o : SinkOf O) (e : SinkOf E) where
     held = rw (same, page) hand.held;
   }
 
-  -- all is ready for the next part
-  pub ready_on : {source later : S} {search : Search} {room room_now : Room} → g.content later ≡ g.content source
-      → length room_now.marks ≡ length room.marks → room_now.reader.table ≡ room.reader.table
-      → length room_now.losses ≡ length room.losses → room_now.scratch ≡ room.scratch
-      → IsReady g source search room → IsReady g later search room_now
-  ready_on same marks table losses scratch ready = record {
-    look = record { told = rw same ready.look.told; members = marks ∙ ready.look.members };
-    table = table ∙ ready.table;
-    columns = losses ∙ ready.columns;
-    fields = ready.fields;
-    keys = ready.keys;
-    scratch = omega (arith, scratch, ready.scratch);
-  }
-
   -- a part that was broken off led nowhere
   pub goes_off : {old new : S × O × E} {room room_now : Room} {search : Search} (stop : SalvageStop)
       (From To Other : Stage) → Goes {A = Unit {0}} g o e old new room room_now search (Err stop) From To
       → Goes {A = Unit {0}} g o e old new room room_now search (Err stop) From Other
   goes_off {old = old} stop From To Other goes = record {
-    told = told1 (g.content old.0) (λ file goes. λ start met. off stop _ _ _ _ (goes start met)) goes.told;
+    told = map_told (g.content old.0) (λ file goes. λ start met. off stop _ _ _ _ (goes start met)) goes.told;
   }

@@ -8,7 +8,7 @@ use Rattle.page_source.specs.declared.objects.ByteSink.{Ghosts as SinkOf}
 use Rattle.page_source.specs.declared.rule.Fault.{Fault}
 use Rattle.page_source.specs.Faults.{Rose}
 use Rattle.page_source.specs.Objects.{GrowsBy, GrowsByPart}
-use Rattle.page_source.proofs.Told.{told0, told1}
+use Rattle.page_source.proofs.Told.{if_told, map_told}
 use Rattle.page_source.proofs.Texts.{grows_whole}
 use Rattle.schema_text.specs.TableDef.{TableDef}
 use Rattle.sql_dump.proofs.SomeValues.{grows_none}
@@ -327,14 +327,14 @@ pub id_stops : (o : Option (List ℕ)) (heeds : Bool) (wanted : Wanted) (before 
     → IfSome o (λ file. SalvagesBy (told_of heeds wanted.table old new heard heard_now) file wanted before now
     (Err stop) old new)
 id_stops o heeds wanted before now heard heard_now old new Root same root asked sink losses changed =
-    told1 o (λ file none. (none, same)) (root refl)
+    map_told o (λ file none. (none, same)) (root refl)
 id_stops o heeds wanted before now heard heard_now old new Source same root asked sink losses changed =
-    told0 o (λ file. inl (record { asked = asked refl; same = same }))
+    if_told o (λ file. inl (record { asked = asked refl; same = same }))
 id_stops o heeds wanted before now heard heard_now old new Sink same root asked sink losses changed = absurd (sink refl)
 id_stops o heeds wanted before now heard heard_now old new Losses same root asked sink losses changed =
     absurd (losses refl)
 id_stops o heeds wanted before now heard heard_now old new Memory same root asked sink losses changed =
-    told0 o (λ file. same)
+    if_told o (λ file. same)
 id_stops o heeds wanted before now heard heard_now old new (Changed fault) same root asked sink losses changed =
     absurd (changed fault refl)
 

@@ -2,7 +2,7 @@ pub mod Offsets
 pub mod Rise
 pub mod Zips
 pub mod Records
-pub mod Rows
+pub mod TreeRows
 pub mod Whole
 pub mod Divided
 pub mod Alike

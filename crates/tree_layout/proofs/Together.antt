@@ -14,7 +14,7 @@ use Rattle.tree_layout.specs.Levels.{width_at, top_of, numbers_at}
 use Rattle.tree_layout.specs.Built.{HoldsTree, HoldsTrees}
 use Rattle.tree_layout.specs.TreeLaws.{BuiltTreesAreWhole, HasBuiltTrees, BuiltTreesAreApart}
 use Rattle.tree_walk.specs.Segments.{named_segments}
-use Rattle.tree_layout.proofs.Rows.{length-numbers, number_at, root_alone, pages_are, root_level_is}
+use Rattle.tree_layout.proofs.TreeRows.{length-numbers, number_at, root_alone, pages_are, root_level_is}
 
 -- the pages of a tree
 

@@ -35,9 +35,9 @@ use Rattle.tree_layout.specs.Levels.{level_at, width_at, page_entries, top_of, n
 use Rattle.tree_layout.specs.Built.{HoldsTree}
 use Rattle.tree_layout.proofs.Offsets.{pairs_across}
 use Rattle.tree_layout.proofs.Rise.{level_rises, count_above}
-use Rattle.tree_layout.proofs.Rows.{length-numbers, number_at, kinds_on, count_rows, count_records}
-use Rattle.tree_layout.proofs.Rows.{record_key_is, child_above, pointer_key, children_above, root_alone, pages_are}
-use Rattle.tree_layout.proofs.Rows.{root_level_is, rows_are, row_keys_are, rows_live}
+use Rattle.tree_layout.proofs.TreeRows.{length-numbers, number_at, kinds_on, count_rows, count_records}
+use Rattle.tree_layout.proofs.TreeRows.{record_key_is, child_above, pointer_key, children_above, root_alone, pages_are}
+use Rattle.tree_layout.proofs.TreeRows.{root_level_is, rows_are, row_keys_are, rows_live}
 use Rattle.tree_layout.specs.TreeLaws.{BuiltTreesAreWhole}
 
 pub not_in : (xs : List ℕ) (n : ℕ) → All (λ x. x ≢ n) xs → is_in xs n ≡ false

@@ -185,18 +185,6 @@ module _ (index : Index) (depth : ℕ) (cursor : Cursor) (page : List ℕ) (j : 
             omega arith
       ]
 
-  -- where the page ahead is due it can be fetched
-  pub ahead_within : (fields : Fields) → LevelFacts index fields depth → Stands index depth cursor page j →
-      (number : ℕ) → number ≡ next_page page → number ≢ fil_null
-      → (P : ℕ → Type 0) → ((i : ℕ) → i < length (pages_at index depth) → P
-      (get_or (pages_at index depth) i fil_null)) → P number
-  ahead_within fields facts (i, (k, s)) number en ne P f =
-      let n = en ∙ next_is fields facts i k s in
-      elim (cases_lt (i + 1) (length (pages_at index depth))) [
-        | inl h ↦ rw n (f (i + 1) h)
-        | inr h ↦ absurd (ne (n ∙ get_or_past (pages_at index depth) (i + 1) fil_null h))
-      ]
-
   within_places : (i k : ℕ) → StandsAt index depth cursor page j i k → j < length (places index depth)
   within_places i k s =
       let p = rows_more index (pages_at index depth) i s.within in
@@ -346,23 +334,6 @@ module _ (index : Index) (level depth : ℕ) (next : Next) (cursor : Cursor) (pa
       (stands_key index depth cursor page j s))
       (sym (follows_key index depth next page ahead j f)) (sym p)
       (sym (follows_child index depth next page ahead j f)) x
-
-  pub halts_placed : (halt : Halt)
-      → HaltsAt halt (PlaceAt index segment id (get_or marks (child_at page index.node cursor.origin) false)
-      cursor.number
-      (record {
-        page = child_at page index.node cursor.origin;
-        level = level;
-        low = held_key page index.node (cond (j == 0) None (Some cursor.origin));
-        high = held_key (page_after next page ahead) index.node (origin_after next);
-        root = false;
-        leftmost = j == 0;
-      })
-      previous (held_child (page_after next page ahead) index.node (origin_after next)))
-      → HaltsAt halt (PlaceWith index level (get_or marks (child_of index (row_at (places index depth) j)) false)
-      (places index depth) j)
-  halts_placed (Broken fault) x = placed (Some fault) x
-  halts_placed Source x = tt
 
 -- the same by what is in hand
 module _ (index : Index) (aim : Aim) (place : Place) (next : Next) (walk : Walk) (page ahead : List ℕ)

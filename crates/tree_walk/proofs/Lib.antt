@@ -6,7 +6,7 @@ pub mod States
 pub mod Audit
 pub mod Levels
 pub mod Cursors
-pub mod Steps
+pub mod LevelSteps
 pub mod Rooms
 pub mod Root
 pub mod Occurs

@@ -222,11 +222,6 @@ module _ (index : Index) (top : Top) (depth : ℕ) (start names marks : List Boo
     pub tree_marked : Marked (is_set start) marks (tree_pages index)
     tree_marked = rw (← at_top) t.marked
 
--- the two segments are named
-pub names_more : (index : Index) (top : Top) (names names' : List Bool) → IsTop index top → Marked (is_set names)
-    names' (top.leaf ∷ top.upper ∷ []) → Marked (is_set names) names' (named_segments index)
-names_more index top names names' t m = rw (← t.leaf, ← t.upper) m
-
 pub root_halts : (index : Index) (taken named : ℕ → Bool) (halt : Halt) → HaltsAt halt (RootCheck index taken named)
     → HaltsAt halt (TreeChecks index taken named)
 root_halts index taken named (Broken fault) x = inl x

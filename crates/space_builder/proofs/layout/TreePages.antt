@@ -22,7 +22,7 @@ use Rattle.tree_layout.specs.Built.{IsBuiltPage}
 use Rattle.space_builder.specs.layout.LowerLaws.{PageLaws}
 use Rattle.space_builder.specs.layout.TreePage.{heads_of, heads_on, fields_of_level, tree_body, tree_page}
 use Rattle.tree_layout.proofs.Zips.{zip_length}
-use Rattle.tree_layout.proofs.Rows.{length-numbers, number_at}
+use Rattle.tree_layout.proofs.TreeRows.{length-numbers, number_at}
 
 -- the neighbours' numbers fit
 beside_small : (xs : List ℕ) (k : ℕ) → ((i : ℕ) → i < length xs → get_or xs i fil_null < 2 ^ 32)

@@ -9,19 +9,19 @@ ghost use Rattle.tree_walk.specs.Tree.{OfIndex, IsReady, StaysReady};
 ghost use Rattle.tree_walk.specs.TreeChecks.{LevelCheck};
 ghost use Rattle.tree_walk.specs.Walk.{IsAtLevel, IsLevel};
 
-mod check;
-mod here;
+mod child;
 mod look;
+mod pointer;
 
 use crate::cursor::{Cursor, FIL_NULL};
 use crate::index::Tree;
 use crate::place::tally::{NONE, Tally};
 use crate::walk::Walk;
 use compact_record::next_origin;
-use here::check_here;
 use index_page::layout::INFIMUM;
 use look::{advance, read_low};
 use page_source::{Halt, PageSource, Steps};
+use pointer::check_pointer;
 use space_audit::Marks;
 use std::sync::ledger::Ledger;
 
@@ -114,7 +114,7 @@ pub(crate) fn walk_level<S: PageSource, L: Ledger>(
     'places: loop {
         read_low(walk, node, place.cursor)?;
         let at = walk.low.child(&walk.parent, node);
-        let found = check_here(walk, source, aim, place, marks, steps)?;
+        let found = check_pointer(walk, source, aim, place, marks, steps)?;
         tally = sum(tally, found.tally);
         let j = place.j + 1;
         match advance(walk, found.next) {

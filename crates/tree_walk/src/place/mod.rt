@@ -7,8 +7,8 @@ mod records;
 pub(crate) mod tally;
 
 pub(crate) use child_place::{is_place, is_root, is_used_by};
+pub(crate) use page::check_neighbours;
 pub use page::check_node;
-pub(crate) use page::check_spot;
 pub(crate) use records::read_record;
 
 /// Where a page stands in its tree, and between which neighbours.

@@ -72,7 +72,7 @@ fn has_mark_fault(page: &Page, fields: &FieldList, stand: Stand, unmarked: bool)
 }
 
 /// The checks of the page in hand at its level, and its tally where it is a leaf.
-fn check_page(
+fn check_level_and_records(
     walk: &mut Walk,
     fields: &FieldList,
     node: &FieldList,
@@ -133,13 +133,13 @@ pub fn check_node(
     } }
     ensures room { HasSameRoom walk.old walk.new }
 {
-    check_page(walk, fields, node, stand, low, next)?;
+    check_level_and_records(walk, fields, node, stand, low, next)?;
     Ok(())
 }
 
 /// The checks of the page in hand where it stands, and its tally where it is a leaf: the low separator is the key of
 /// the node pointer in hand, where there is one, and the high separator that of the next node pointer.
-pub(crate) fn check_spot(
+pub(crate) fn check_neighbours(
     walk: &mut Walk,
     fields: &FieldList,
     node: &FieldList,
@@ -168,5 +168,5 @@ pub(crate) fn check_spot(
     if !is_beside(&walk.child, stand.previous, stand.next) {
         return Err(Rule::Sibling.at(stand.page));
     }
-    check_page(walk, fields, node, stand, low, next)
+    check_level_and_records(walk, fields, node, stand, low, next)
 }

@@ -14,7 +14,7 @@ ghost use Rattle.tree_walk.specs.Walk.{IsTop};
 use crate::cursor::{FIL_NULL, Next};
 use crate::index::Tree;
 use crate::place::tally::Tally;
-use crate::place::{Stand, check_spot, is_root, is_used_by};
+use crate::place::{Stand, check_neighbours, is_root, is_used_by};
 use crate::walk::Walk;
 use index_page::layout::{INDEX_ID, LEVEL};
 use page_source::{Halt, Page, PageSource, Rule, Steps, read_be};
@@ -129,7 +129,7 @@ pub(crate) fn check_root<S: PageSource, L: Ledger>(
         next: FIL_NULL,
     };
     let fields = tree.fields_on(level);
-    let tally = check_spot(walk, fields, tree.node, stand, None, Next::End)?;
+    let tally = check_neighbours(walk, fields, tree.node, stand, None, Next::End)?;
     marks.mark(root);
     named.mark(lowest);
     named.mark(upper);

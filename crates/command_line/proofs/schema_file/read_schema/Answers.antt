@@ -1,6 +1,6 @@
 use Rattle.std.proofs.Common.{◌≡◌, length, ◌∙◌, arith}
 use Rattle.std.proofs.lemmas.List.{take_at}
-use Rattle.page_source.proofs.Told.{told1}
+use Rattle.page_source.proofs.Told.{map_told}
 use Rattle.command_line.proofs.SchemaReading.{schema_halts}
 use Rattle.command_line.proofs.schema_file.read_schema.Goals as goal
 
@@ -11,7 +11,7 @@ returns-in_err-read-clause-exact g c =
     omega (arith, c.read_up_to.auto.buffer, c.deref_mut.ensures.len) in
     let size : length buffer ≡ 65537 = omega (arith, len, c.in_ok-buffer.ensures) in
     let same : c.deref.result.now ≡ buffer = c.deref.ensures.value ∙ take_at buffer _ _ len in
-    told1 (g.Q.ByteSource.left c.args.source.now)
+    map_told (g.Q.ByteSource.left c.args.source.now)
     (λ text came. schema_halts text buffer c.deref.result.now _ c.in_ok-count.count _ _ size
     c.in_ok-count.ensures.within same
     c.in_err-read.ensures c.from_residual-in_err-read.ensures.1 came) c.in_ok-count.ensures.came

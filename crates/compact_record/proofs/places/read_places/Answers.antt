@@ -1,6 +1,6 @@
 use Rattle.std.proofs.Common.{ap, sym, ◌∙◌, arith, length}
 use Rattle.std.proofs.lemmas.Bool.{not-true}
-use Rattle.compact_record.proofs.Steps.{fixed_facts, local_more, place_here, places_more, spelled_more}
+use Rattle.compact_record.proofs.FieldSteps.{fixed_facts, local_more, place_here, places_more, spelled_more}
 use Rattle.compact_record.proofs.places.read_places.Goals as goal
 
 pub loop-i-preserved : goal.loop-i-preserved

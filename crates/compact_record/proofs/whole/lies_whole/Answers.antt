@@ -2,7 +2,7 @@ use Rattle.std.proofs.Common.{ap, sym, ◌∙◌, arith, length, below_more}
 use Rattle.std.proofs.lemmas.Bool.{not-true}
 use Rattle.column_values.specs.declared.field.Storage.{Storage}
 use Rattle.compact_record.specs.Whole.{FieldLiesWhole}
-use Rattle.compact_record.proofs.Steps.{fixed_facts}
+use Rattle.compact_record.proofs.FieldSteps.{fixed_facts}
 use Rattle.compact_record.proofs.whole.lies_whole.Goals as goal
 
 pub loop-i-preserved-then-not-stored-2 : goal.loop-i-preserved-then-not-stored-2

@@ -1,6 +1,6 @@
 use Rattle.std.proofs.Common.{ℕ, arith}
 use Rattle.std.proofs.lemmas.Result.{err_from_is_err_and}
-use Rattle.page_source.proofs.Told.{told1}
+use Rattle.page_source.proofs.Told.{map_told}
 use Rattle.cross_index.proofs.AllSteps.{all_cost, takes_steps}
 use Rattle.cross_index.specs.declared.crossed.Crossed.{Crossed}
 use Rattle.cross_index.specs.declared.gathered.Gathered.{Gathered}
@@ -13,7 +13,7 @@ pub returns-in_err-entries-clause-steps : goal.returns-in_err-entries-clause-ste
 returns-in_err-entries-clause-steps g c =
     let whole = c.in_ok-whole.ensures in
     takes_steps
-    (told1 (g.S.PageSource.content c.args.source.now) (λ file is. is.checked.within) whole.whole) whole.leaves.pages
+    (map_told (g.S.PageSource.content c.args.source.now) (λ file is. is.checked.within) whole.whole) whole.leaves.pages
     (all_cost c.in_ok-whole.whole.ends c.items.result.now _ c.args.steps.now c.check_whole.new.steps c.gather.new.steps
     c.compare_indexes.new.steps c.in_ok-whole.whole.table.checked.pages c.in_ok-whole.whole.table.chain_pages
     c.items.ensures (omega (arith, whole.count, c.indexes.ensures.table.clustered)) whole.leaves.rows
@@ -23,7 +23,7 @@ pub returns-clause-steps : goal.returns-clause-steps
 returns-clause-steps g c =
     let whole = c.in_ok-whole.ensures in
     takes_steps
-    (told1 (g.S.PageSource.content c.args.source.now) (λ file is. is.checked.within) whole.whole) whole.leaves.pages
+    (map_told (g.S.PageSource.content c.args.source.now) (λ file is. is.checked.within) whole.whole) whole.leaves.pages
     (all_cost c.in_ok-whole.whole.ends c.items.result.now _ c.args.steps.now c.check_whole.new.steps c.gather.new.steps
     c.compare_indexes.new.steps c.in_ok-whole.whole.table.checked.pages c.in_ok-whole.whole.table.chain_pages
     c.items.ensures (omega (arith, whole.count, c.indexes.ensures.table.clustered)) whole.leaves.rows
@@ -37,7 +37,7 @@ returns-clause-sized g c =
     c.in_ok-whole.whole.table.chain_pages c.items.ensures
     (omega (arith, whole.count, c.indexes.ensures.table.clustered)) whole.leaves.rows c.in_ok-found.ensures.cost
     c.in_ok-entries.ensures.cost in
-    told1 (g.S.PageSource.content c.args.source.now)
+    map_told (g.S.PageSource.content c.args.source.now)
     (λ file is. omega (arith, cost, is.checked.is_checked.has_pages)) whole.whole
 
 pub returns-in_err-entries-clause-fetches : goal.returns-in_err-entries-clause-fetches

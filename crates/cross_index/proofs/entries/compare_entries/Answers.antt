@@ -2,7 +2,7 @@ use Rattle.std.proofs.Common.{List, ℕ, Ok, Err, Some, None, ◌∙◌, sym, su
 use Rattle.std.proofs.Common.{arith}
 use Rattle.std.proofs.lemmas.Result.{err_from_is_err_and}
 use Rattle.std.proofs.lemmas.Bool.{true≢false}
-use Rattle.page_source.proofs.Told.{told2, told3}
+use Rattle.page_source.proofs.Told.{map_told2, map_told3}
 use Rattle.column_values.specs.Types.{Fields}
 use Rattle.compact_record.specs.Reading.{key_kinds}
 use Rattle.schema_text.specs.IndexFields.{leaf_fields}
@@ -16,7 +16,7 @@ use Rattle.cross_index.proofs.entries.compare_entries.Goals as goal
 pub next-requires-clause-reads : goal.next-requires-clause-reads
 next-requires-clause-reads g c =
     rw c.loop-origin.invariant.same
-    (told2 (g.S.PageSource.content c.args.source.now)
+    (map_told2 (g.S.PageSource.content c.args.source.now)
     (λ file can has. can_give file c.args.schema.now c.args.asked.now.index c.loop-origin.entries c.args.entries.now _ _
     c.loop-origin.next can has)
     c.requires.told c.loop-origin.invariant.told)
@@ -27,7 +27,7 @@ returns-in_err-origin-clause-exact g c =
     let found = rw i.same at c.in_err-origin.ensures.exact in
     let r = err_from_is_err_and c.from_residual.result c.from_residual.ensures.1 in
     rw (r.1, r.2)
-    (told3 (g.S.PageSource.content c.args.source.now)
+    (map_told3 (g.S.PageSource.content c.args.source.now)
     (λ file can has exact.
     halts_so file c.args.schema.now c.args.asked.now.index c.loop-origin.next c.next.new.self c.in_err-origin.field-0.0
     (finds file c.args.schema.now c.args.asked.now.index c.loop-origin.entries c.next.new.self c.args.entries.now _ _
@@ -38,7 +38,7 @@ pub returns-then-not-read_entry-clause-exact : goal.returns-then-not-read_entry-
 returns-then-not-read_entry-clause-exact g c =
     let i = c.loop-origin.invariant in
     let found = rw (c.in-Some.is, i.same) at c.in_ok-origin.ensures.exact in
-    told3 (g.S.PageSource.content c.args.source.now)
+    map_told3 (g.S.PageSource.content c.args.source.now)
     (λ file can has exact.
     let hand = (finds file c.args.schema.now c.args.asked.now.index c.loop-origin.entries c.next.new.self
     c.args.entries.now _ _ c.loop-origin.next (Ok (Some c.in-Some.origin)) exact can has).0 in
@@ -62,7 +62,7 @@ returns-in_err-meet-clause-exact g c =
     let read = c.read_entry.ensures.read c.if-not-read_entry.false in
     let r = err_from_is_err_and c.from_residual-in_err-meet.result c.from_residual-in_err-meet.ensures.1 in
     rw (r.1, r.2)
-    (told3 (g.S.PageSource.content c.args.source.now)
+    (map_told3 (g.S.PageSource.content c.args.source.now)
     (λ file can has exact.
     let given = finds file c.args.schema.now index c.loop-origin.entries c.next.new.self
     c.args.entries.now _ _ c.loop-origin.next (Ok (Some c.in-Some.origin)) exact can has in
@@ -91,7 +91,7 @@ loop-origin-preserved g c =
       spent = c.in_ok-origin.ensures.steps ∙ i.spent;
       few = omega (arith, c.in_ok-meet.ensures.0);
       told =
-          told3 (g.S.PageSource.content c.args.source.now)
+          map_told3 (g.S.PageSource.content c.args.source.now)
           (λ file can has exact.
           let given = finds file c.args.schema.now index c.loop-origin.entries c.next.new.self
           c.args.entries.now _ _ c.loop-origin.next (Ok (Some c.in-Some.origin)) exact can has in
@@ -113,7 +113,7 @@ pub returns-clause-exact : goal.returns-clause-exact
 returns-clause-exact g c =
     let i = c.loop-origin.invariant in
     let found = rw (c.in_default.is, i.same) at c.in_ok-origin.ensures.exact in
-    told3 (g.S.PageSource.content c.args.source.now)
+    map_told3 (g.S.PageSource.content c.args.source.now)
     (λ file can has exact.
     ends_so file c.args.schema.now c.args.asked.now.index c.args.asked.now.keys.fields.now _ c.args.asked.now.order.now
     c.args.entries.now c.loop-origin.entries c.loop-origin.next c.requires.list c.requires.order

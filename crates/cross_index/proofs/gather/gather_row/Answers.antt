@@ -1,5 +1,5 @@
 use Rattle.std.proofs.Common.{◌∙◌, refl, arith}
-use Rattle.page_source.proofs.Told.{told0, told1, told2, told3}
+use Rattle.page_source.proofs.Told.{if_told, map_told, map_told2, map_told3}
 use Rattle.cross_index.proofs.RowSteps.{row_start, row_follow, row_few, row_more}
 use Rattle.cross_index.proofs.gather.gather_row.Goals as goal
 
@@ -9,14 +9,14 @@ loop-k-init g c = record {
   later = omega arith;
   asked = omega arith;
   cost = refl;
-  told = told0 (g.S.PageSource.content c.args.source.now)
+  told = if_told (g.S.PageSource.content c.args.source.now)
       (λ file. row_start file c.args.page.now c.args.places.now c.args.kept.now c.args.cells.now c.args.room.now.left);
 }
 
 pub gather_field-requires-clause-follow : goal.gather_field-requires-clause-follow
 gather_field-requires-clause-follow g c =
     rw c.loop-k.invariant.same
-    (told1 (g.S.PageSource.content c.args.source.now)
+    (map_told (g.S.PageSource.content c.args.source.now)
     (λ file can. row_follow file c.args.page.now c.args.places.now c.args.kept.now c.loop-k.k-index _ c.place_of.result
     c.loop-k-test.true c.place_of.ensures.same c.args.room.now.left can)
     c.requires.told)
@@ -24,7 +24,7 @@ gather_field-requires-clause-follow g c =
 pub gather_field-requires-clause-few : goal.gather_field-requires-clause-few
 gather_field-requires-clause-few g c =
     rw c.loop-k.invariant.same
-    (told2 (g.S.PageSource.content c.args.source.now)
+    (map_told2 (g.S.PageSource.content c.args.source.now)
     (λ file can so. row_few file c.args.page.now c.args.places.now c.args.kept.now c.loop-k.k-index _ c.place_of.result
     c.loop-k-test.true c.place_of.ensures.same c.args.cells.now c.loop-k.cells c.args.room.now.left c.loop-k.room.left
     can so)
@@ -40,7 +40,7 @@ loop-k-preserved g c =
       later = omega (arith, i.later, c.in_ok-gather_field.ensures.over.later);
       asked = omega (arith, i.asked, c.in_ok-gather_field.ensures.over.asked);
       cost = c.in_ok-gather_field.ensures.cost ∙ i.cost;
-      told = told3 (g.S.PageSource.content c.args.source.now)
+      told = map_told3 (g.S.PageSource.content c.args.source.now)
           (λ file so value left. row_more file c.args.page.now c.args.places.now c.args.kept.now c.loop-k.k-index _
           c.place_of.result
           c.loop-k-test.true c.place_of.ensures.same c.args.cells.now c.loop-k.cells c.gather_field.new.cells

@@ -3,7 +3,7 @@ use Rattle.std.proofs.Common.{arith}
 use Rattle.std.specs.Prelude.{⊤}
 use Rattle.std.proofs.lemmas.Result.{err_from_is_err_and}
 use Rattle.std.proofs.lemmas.Bool.{true≢false}
-use Rattle.page_source.proofs.Told.{told1, told2, told3, told4, told5}
+use Rattle.page_source.proofs.Told.{map_told, map_told2, map_told3, map_told4, map_told5}
 use Rattle.column_values.specs.Types.{Fields, AreFields}
 use Rattle.compact_record.specs.declared.places.Place.{Place}
 use Rattle.compact_record.specs.Reading.{places_of, field_count}
@@ -25,7 +25,7 @@ loop-origin-init g c = record {
   members = refl;
   spent = refl;
   counted = omega arith;
-  told = told1 (g.S.PageSource.content c.args.source.now)
+  told = map_told (g.S.PageSource.content c.args.source.now)
       (λ file can. gather_start file c.args.schema.now c.args.rows.now c.args.cells.now c.args.room.now.left
       c.requires.empty can)
       c.requires.told;
@@ -34,7 +34,7 @@ loop-origin-init g c = record {
 pub next-requires-clause-reads : goal.next-requires-clause-reads
 next-requires-clause-reads g c =
     rw c.loop-origin.invariant.same
-    (told2 (g.S.PageSource.content c.args.source.now)
+    (map_told2 (g.S.PageSource.content c.args.source.now)
     (λ file can so. can_give file c.args.schema.now c.loop-origin.rows c.args.rows.now c.loop-origin.cells
     c.args.room.now.left c.loop-origin.room.left c.loop-origin.count can so)
     c.requires.told c.loop-origin.invariant.told)
@@ -45,7 +45,7 @@ returns-in_err-origin-clause-exact g c =
     let found = rw i.same at c.in_err-origin.ensures.exact in
     let r = err_from_is_err_and c.from_residual.result c.from_residual.ensures.1 in
     rw (r.1, r.2)
-    (told3 (g.S.PageSource.content c.args.source.now)
+    (map_told3 (g.S.PageSource.content c.args.source.now)
     (λ file can so exact. halts_so file c.args.schema.now c.loop-origin.count c.next.new.self c.in_err-origin.field-0.0
     (finds file c.args.schema.now c.loop-origin.rows c.next.new.self c.args.rows.now c.loop-origin.cells
     c.args.room.now.left c.loop-origin.room.left c.loop-origin.count (Err c.in_err-origin.field-0.0) exact can so))
@@ -55,7 +55,7 @@ pub returns-then-not-read_row-clause-exact : goal.returns-then-not-read_row-clau
 returns-then-not-read_row-clause-exact g c =
     let i = c.loop-origin.invariant in
     let found = rw (c.in-Some.is, i.same) at c.in_ok-origin.ensures.exact in
-    told3 (g.S.PageSource.content c.args.source.now)
+    map_told3 (g.S.PageSource.content c.args.source.now)
     (λ file can so exact.
     let given = finds file c.args.schema.now c.loop-origin.rows c.next.new.self c.args.rows.now c.loop-origin.cells
     c.args.room.now.left c.loop-origin.room.left c.loop-origin.count (Ok (Some c.in-Some.origin)) exact can so in
@@ -83,7 +83,7 @@ gather_row-requires-clause-told g c =
     c.places.ensures ∙ c.read_row.ensures.places c.if-not-read_row.false
     ∙ ap (places_of c.page-page.result.now c.in-Some.origin) c.requires.list in
     rw (c.in_ok-origin.ensures.over.same ∙ i.same)
-    (told4 (g.S.PageSource.content c.args.source.now)
+    (map_told4 (g.S.PageSource.content c.args.source.now)
     (λ file can few so exact.
     let given = finds file c.args.schema.now c.loop-origin.rows c.next.new.self c.args.rows.now c.loop-origin.cells
     c.args.room.now.left c.loop-origin.room.left c.loop-origin.count (Ok (Some c.in-Some.origin)) exact can so in
@@ -124,7 +124,7 @@ loop-origin-preserved g c =
       spent = omega (arith, i.spent, c.in_ok-origin.ensures.steps, c.in_ok-gather_row.ensures.cost);
       counted = omega (arith, fewer, i.counted);
       told =
-          told5 (g.S.PageSource.content c.args.source.now)
+          map_told5 (g.S.PageSource.content c.args.source.now)
           (λ file can so exact row_values left.
           let given = finds file c.args.schema.now c.loop-origin.rows c.next.new.self c.args.rows.now
           c.loop-origin.cells
@@ -147,7 +147,7 @@ pub returns-clause-gathered : goal.returns-clause-gathered
 returns-clause-gathered g c =
     let i = c.loop-origin.invariant in
     let found = rw (c.in_default.is, i.same) at c.in_ok-origin.ensures.exact in
-    told3 (g.S.PageSource.content c.args.source.now)
+    map_told3 (g.S.PageSource.content c.args.source.now)
     (λ file can so exact.
     let past = finds file c.args.schema.now c.loop-origin.rows c.next.new.self c.args.rows.now c.loop-origin.cells
     c.args.room.now.left c.loop-origin.room.left c.loop-origin.count (Ok None) exact can so in

@@ -1,5 +1,5 @@
 use Rattle.std.proofs.Common.{◌≡◌, ℕ, List, length, sym, ap, ◌∙◌, arith}
-use Rattle.page_source.proofs.Told.{told1, told2}
+use Rattle.page_source.proofs.Told.{map_told, map_told2}
 use Rattle.column_values.specs.Types.{Fields}
 use Rattle.compact_record.specs.Reading.{key_kinds}
 use Rattle.schema_text.specs.IndexFields.{entry_fields}
@@ -44,7 +44,7 @@ compare_entries-requires-clause-told g c =
     (c.deref-2.ensures.value ∙ c.requires.fields.fields)
     (c.deref-3.ensures.value ∙ c.in_ok-own.ensures) (rw (sym c.deref-4.ensures.value) at c.in_ok-slots.ensures.each) in
     rw (width, c.deref-5.ensures.value)
-    (told1 (g.S.PageSource.content c.args.source.now)
+    (map_told (g.S.PageSource.content c.args.source.now)
     (λ file can. can_compare (record {
       rise = c.live_rows_rise.ensures;
       read = c.rows_can_be_read.ensures;
@@ -56,7 +56,7 @@ compare_entries-requires-clause-told g c =
 
 pub returns-clause-few : goal.returns-clause-few
 returns-clause-few g c =
-    told2 (g.S.PageSource.content c.args.source.now)
+    map_told2 (g.S.PageSource.content c.args.source.now)
     (λ file can compares. few_counted c.trees_are_walked.ensures c.leaves_are_sound.ensures file c.args.schema.now
     c.args.index c.args.ends.now
     c.args.found.now c.compare_entries.result c.requires.index c.has_32_bits.ensures can compares)

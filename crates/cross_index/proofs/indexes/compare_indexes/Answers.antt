@@ -1,6 +1,6 @@
 use Rattle.std.proofs.Common.{◌≡◌, ℕ, ◌<◌, length, ap, ◌∙◌, arith}
 use Rattle.std.proofs.lemmas.Result.{err_from_is_err_and}
-use Rattle.page_source.proofs.Told.{told1, told2, told3}
+use Rattle.page_source.proofs.Told.{map_told, map_told2, map_told3}
 use Rattle.table_check.specs.Trees.{index_count}
 use Rattle.cross_index.proofs.AllSteps.{cost_more, matched_more, ends_here, all_matched}
 use Rattle.cross_index.proofs.Named.{secondary_named}
@@ -14,7 +14,7 @@ returns-in_err-here-clause-exact g c =
     let here = rw i.same at c.in_err-here.ensures.exact in
     let r = err_from_is_err_and c.from_residual.result c.from_residual.ensures.1 in
     rw (r.1, r.2)
-    (told2 (g.S.PageSource.content c.args.source.now)
+    (map_told2 (g.S.PageSource.content c.args.source.now)
     (λ file so exact. ends_here file c.args.schema.now c.loop-index.index c.loop-index.entries c.in_err-here.field-0.0
     i.some inside so exact)
     i.told here)
@@ -36,7 +36,7 @@ loop-index-preserved g c =
           c.compare_index.new.steps c.items-all.ensures (omega (arith, inside, c.requires.count)) i.cost
           c.in_ok-here.ensures.cost;
       told =
-          told3 (g.S.PageSource.content c.args.source.now)
+          map_told3 (g.S.PageSource.content c.args.source.now)
           (λ file so compares few. matched_more file c.args.schema.now c.loop-index.index c.loop-index.entries
           c.in_ok-here.here c.saturating_add-entries.result i.some (omega (arith, inside, most)) so compares few
           c.saturating_add-entries.ensures)
@@ -53,7 +53,7 @@ returns-clause-exact g c =
       ap length c.indexes-index-end.ensures.same,
       c.indexes-index-end.ensures.table.clustered,
     ) in
-    told1 (g.S.PageSource.content c.args.source.now)
+    map_told (g.S.PageSource.content c.args.source.now)
     (λ file so. all_matched file c.args.schema.now c.loop-index.index c.loop-index.entries all so)
     c.loop-index.invariant.told
 

@@ -1,7 +1,7 @@
 use Rattle.std.proofs.Common.{◌+◌, ap, ◌∙◌, arith, refl, slice_range, List, ℕ, ◌++◌}
 use Rattle.std.specs.Prelude.{⊤}
 use Rattle.std.proofs.lemmas.Result.{err_from_is_err_and}
-use Rattle.page_source.proofs.Told.{told1, told2, told3}
+use Rattle.page_source.proofs.Told.{map_told, map_told2, map_told3}
 use Rattle.cross_index.proofs.ChainSteps.{chain_start, chain_reads, chain_ends, chain_more}
 use Rattle.page_source.specs.declared.rule.Fault.{Fault}
 use Rattle.cross_index.proofs.Named.{chain_names}
@@ -13,7 +13,7 @@ loop-length-init g c = record {
   later = omega arith;
   asked = omega arith;
   cost = refl;
-  told = told1 (g.S.PageSource.content c.args.source.now)
+  told = map_told (g.S.PageSource.content c.args.source.now)
       (λ file can. chain_start file c.args.reference.now c.new-reader.result c.args.room.now.value.items
       c.args.room.now.left c.new-reader.ensures can)
       c.requires.told;
@@ -25,7 +25,7 @@ returns-in_err-length-clause-exact g c =
     let never = rw i.same at c.in_err-length.ensures.never in
     let r = err_from_is_err_and c.from_residual.result c.from_residual.ensures.1 in
     rw (r.1, r.2)
-    (told3 (g.S.PageSource.content c.args.source.now)
+    (map_told3 (g.S.PageSource.content c.args.source.now)
     (λ file can so never. chain_reads file c.args.reference.now c.loop-length.reader c.args.room.now.value.items
     c.loop-length.room.value.items c.args.room.now.left c.loop-length.room.left c.in_err-length.field-0.0 so can.few
     (λ pages fault goes few e. never pages fault goes few (cc)))
@@ -41,7 +41,7 @@ loop-length-preserved g c =
       later = omega (arith, i.later, c.in_ok-length.ensures.over.cause.later);
       asked = omega (arith, i.asked, c.in_ok-length.ensures.over.asked);
       cost = c.in_ok-length.ensures.cost ∙ i.cost;
-      told = told2 (g.S.PageSource.content c.args.source.now)
+      told = map_told2 (g.S.PageSource.content c.args.source.now)
           (λ file so next. chain_more file c.args.reference.now c.loop-length.reader c.part.new.self
           c.args.room.now.value.items c.loop-length.room.value.items c.append.new.value.items c.args.room.now.left
           c.loop-length.room.left c.part.new.left c.in-Some.length c.part.new.page so next
@@ -55,7 +55,7 @@ pub returns-clause-value : goal.returns-clause-value
 returns-clause-value g c =
     let i = c.loop-length.invariant in
     let next = rw (c.in_default.is, i.same) at c.in_ok-length.ensures.next in
-    told2 (g.S.PageSource.content c.args.source.now)
+    map_told2 (g.S.PageSource.content c.args.source.now)
     (λ file so next. (chain_ends file c.args.reference.now c.loop-length.reader c.part.new.self
     c.args.room.now.value.items c.loop-length.room.value.items c.args.room.now.left c.loop-length.room.left
     c.part.new.page so next).0)

@@ -1,4 +1,4 @@
-use Rattle.extent_map.proofs.Sound.{head_sound, head_checks}
+use Rattle.extent_map.proofs.SoundDescriptors.{head_sound, head_checks}
 use Rattle.extent_map.proofs.laws.head_checks_are_sound.Goals as goal
 
 pub returns : goal.returns

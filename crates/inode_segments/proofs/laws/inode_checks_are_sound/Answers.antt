@@ -1,4 +1,4 @@
-use Rattle.inode_segments.proofs.Sound.{inodes_sound, inode_checks}
+use Rattle.inode_segments.proofs.SoundLists.{inodes_sound, inode_checks}
 use Rattle.inode_segments.proofs.laws.inode_checks_are_sound.Goals as goal
 
 pub returns : goal.returns

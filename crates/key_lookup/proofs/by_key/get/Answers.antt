@@ -1,6 +1,6 @@
 use Rattle.std.proofs.Common.{◌≤◌, ◌+◌, subst, arith}
 use Rattle.std.proofs.lemmas.Result.{err_from_is_err_and}
-use Rattle.page_source.proofs.Told.{told0, told1}
+use Rattle.page_source.proofs.Told.{if_told, map_told}
 use Rattle.column_values.specs.Order.{Key}
 use Rattle.table_check.proofs.Asked.{asks_at_most}
 use Rattle.key_lookup.specs.Get.{steps_for}
@@ -10,7 +10,7 @@ use Rattle.key_lookup.proofs.by_key.get.Goals as goal
 pub returns-in_err-sought-clause-told : goal.returns-in_err-sought-clause-told
 returns-in_err-sought-clause-told g c =
     let r = err_from_is_err_and c.from_residual.result c.from_residual.ensures.1 in
-    rw (r.1, r.2) (told0 (g.S.PageSource.content c.args.source.now)
+    rw (r.1, r.2) (if_told (g.S.PageSource.content c.args.source.now)
     (λ file. gets_none g.O.ByteSink file c.args.schema.now c.args.key.now c.in_err-sought.field-0.0 c.args.sink.now
     c.in_err-sought.ensures.found))
 
@@ -27,7 +27,7 @@ returns-in_err-sought-clause-over g c =
 
 pub returns-in_err-sought-clause-few : goal.returns-in_err-sought-clause-few
 returns-in_err-sought-clause-few g c =
-    told0 (g.S.PageSource.content c.args.source.now) (λ file sought spells. omega arith)
+    if_told (g.S.PageSource.content c.args.source.now) (λ file sought spells. omega arith)
 
 pub returns-in_err-sought-clause-steps : goal.returns-in_err-sought-clause-steps
 returns-in_err-sought-clause-steps g c = no_steps g.S.PageSource c.args.source.now c.args.steps.now
@@ -38,7 +38,7 @@ returns-in_err-sought-clause-fetches g c =
 
 pub returns-clause-told : goal.returns-clause-told
 returns-clause-told g c =
-    told1 (g.S.PageSource.content c.args.source.now)
+    map_told (g.S.PageSource.content c.args.source.now)
     (λ file x. gets_of g.O.ByteSink file c.args.schema.now c.args.key.now c.in_ok-sought.sought c.get_by_key.result
     c.args.sink.now c.get_by_key.new.sink c.in_ok-sought.ensures.found x) c.get_by_key.ensures.told
 
@@ -55,7 +55,7 @@ returns-clause-first g c = λ none. absurd (none c.in_ok-sought.sought c.in_ok-s
 
 pub returns-clause-few : goal.returns-clause-few
 returns-clause-few g c =
-    told1 (g.S.PageSource.content c.args.source.now)
+    map_told (g.S.PageSource.content c.args.source.now)
     (λ file few sought spells.
     let same = c.text_spells_one_key.ensures c.args.schema.now c.args.key.now c.in_ok-sought.sought sought
     c.schema_is_table.ensures c.in_ok-sought.ensures.found spells in

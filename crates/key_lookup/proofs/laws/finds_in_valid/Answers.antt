@@ -1,4 +1,4 @@
-use Rattle.key_lookup.proofs.Sound.{HasLaws, finds_in_valid}
+use Rattle.key_lookup.proofs.LookUpLaw.{HasLaws, finds_in_valid}
 use Rattle.key_lookup.proofs.laws.finds_in_valid.Goals as goal
 
 pub returns : goal.returns

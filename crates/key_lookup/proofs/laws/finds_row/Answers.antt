@@ -1,4 +1,4 @@
-use Rattle.key_lookup.proofs.Rows.{finds_row}
+use Rattle.key_lookup.proofs.RowOfKey.{finds_row}
 use Rattle.key_lookup.proofs.laws.finds_row.Goals as goal
 
 pub returns : goal.returns

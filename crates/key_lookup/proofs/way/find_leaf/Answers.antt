@@ -1,5 +1,5 @@
 use Rattle.std.proofs.Common.{refl, ◌∙◌, arith}
-use Rattle.page_source.proofs.Told.{told0, told1, told3, told4}
+use Rattle.page_source.proofs.Told.{if_told, map_told, map_told3, map_told4}
 use Rattle.tree_walk.proofs.Rooms.{room_join}
 use Rattle.key_lookup.specs.Tree.{index_in}
 use Rattle.key_lookup.proofs.OnWay.{level_most, facts_above, facts_leaf, some_pointer, on_root, on_next, all_hold}
@@ -18,10 +18,10 @@ loop-due-init g c =
       room = e.room;
       held = e.held;
       most = omega (arith, most, e.cost);
-      told = told3 (g.S.PageSource.content c.args.source.now)
+      told = map_told3 (g.S.PageSource.content c.args.source.now)
           (λ file exact due page. on_root (index_in file c.args.tree.now) c.args.key.now c.check_root.new.walk
           c.in_ok-due.due (due c.args.key.now) page (exact c.args.key.now)) e.exact e.due e.page;
-      spent = told1 (g.S.PageSource.content c.args.source.now)
+      spent = map_told (g.S.PageSource.content c.args.source.now)
           (λ file due. let l = (due c.args.key.now).level in omega (arith, l, e.cost)) e.due;
     }
 
@@ -51,35 +51,35 @@ loop-due-preserved g c =
           (room_join c.args.walk.now c.loop-due.walk c.step_down-due.new.walk inv.room down.room) e.room;
       held = e.held;
       most = omega (arith, inv.most, e.cost, down.level);
-      told = told4 (g.S.PageSource.content c.args.source.now)
+      told = map_told4 (g.S.PageSource.content c.args.source.now)
           (λ file on exact due page.
           let index = index_in file c.args.tree.now in
           let is = down.due index on.depth refl on.page on.is_due in
           on_next index c.args.key.now c.loop-due.walk c.check_next.new.walk c.loop-due.due c.step_down-due.result on
           (due c.args.key.now _ is) page (exact c.args.key.now _ is)) inv.told exact due page;
-      spent = told1 (g.S.PageSource.content c.args.source.now)
+      spent = map_told (g.S.PageSource.content c.args.source.now)
           (λ file spent. omega (arith, spent, e.cost, down.level)) inv.spent;
     }
 
-pub returns-in_err-due-clause-told : goal.returns-in_err-due-clause-told
-returns-in_err-due-clause-told g c =
-    told0 (g.S.PageSource.content c.args.source.now) (λ file. omega (arith, c.check_root.ensures.cost))
+pub returns-in_err-due-clause-steps_if_told : goal.returns-in_err-due-clause-steps_if_told
+returns-in_err-due-clause-steps_if_told g c =
+    if_told (g.S.PageSource.content c.args.source.now) (λ file. omega (arith, c.check_root.ensures.cost))
 
-pub returns-in_err-check_next-clause-told : goal.returns-in_err-check_next-clause-told
-returns-in_err-check_next-clause-told g c =
-    told1 (g.S.PageSource.content c.args.source.now)
+pub returns-in_err-check_next-clause-steps_if_told : goal.returns-in_err-check_next-clause-steps_if_told
+returns-in_err-check_next-clause-steps_if_told g c =
+    map_told (g.S.PageSource.content c.args.source.now)
     (λ file spent. omega (arith, spent, c.check_next.ensures.cost, c.loop-due-test.true)) c.loop-due.invariant.spent
 
 pub returns-clause-exact : goal.returns-clause-exact
 returns-clause-exact g c =
-    told1 (g.S.PageSource.content c.args.source.now)
+    map_told (g.S.PageSource.content c.args.source.now)
     (λ file on. all_hold (index_in file c.args.tree.now) c.args.key.now c.loop-due.walk c.loop-due.due on
     (omega (arith, c.loop-due-test.false)))
     c.loop-due.invariant.told
 
 pub returns-clause-leaf : goal.returns-clause-leaf
 returns-clause-leaf g c =
-    told1 (g.S.PageSource.content c.args.source.now)
+    map_told (g.S.PageSource.content c.args.source.now)
     (λ file on. leaf_is (index_in file c.args.tree.now) c.args.key.now c.loop-due.walk c.loop-due.due on
     (omega (arith, c.loop-due-test.false)))
     c.loop-due.invariant.told

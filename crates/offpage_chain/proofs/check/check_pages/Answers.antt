@@ -1,6 +1,6 @@
 use Rattle.std.proofs.Common.{refl, ℕ, List, ◌≤◌, ◌+◌, ◌-◌, ◌++◌, sym, ◌∙◌, subst, arith}
 use Rattle.std.proofs.lemmas.Result.{err_from_is_err_and}
-use Rattle.page_source.proofs.Told.{told0, told1, told2, told3}
+use Rattle.page_source.proofs.Told.{if_told, map_told, map_told2, map_told3}
 use Rattle.column_values.specs.Utf8Reader.{CountsUpTo, IsFed}
 use Rattle.space_audit.specs.Marks.{is_set}
 use Rattle.space_audit.proofs.Marking.{marked_none}
@@ -22,7 +22,7 @@ loop-due-init g c =
       few = omega arith;
       marked = omega arith;
       counts = subst (λ (most : ℕ). CountsUpTo most c.args.text.now) (omega arith) c.requires.count;
-      told = told0 (g.S.PageSource.content c.args.source.now)
+      told = if_told (g.S.PageSource.content c.args.source.now)
           (λ file. along_start (walk_of file c.args.chain.now c.args.marks.now)
           c.args.marks.now c.args.text.now (fed_none c.args.text.now) (marked_none c.args.marks.now));
     }
@@ -31,15 +31,15 @@ pub returns-in_err-length-clause-exact : goal.returns-in_err-length-clause-exact
 returns-in_err-length-clause-exact g c =
     let r = err_from_is_err_and c.from_residual.result c.from_residual.ensures.1 in
     let check = rw c.loop-due.invariant.same at c.in_err-length.ensures.exact in
-    rw (r.1, r.2) (told2 (g.S.PageSource.content c.args.source.now)
+    rw (r.1, r.2) (map_told2 (g.S.PageSource.content c.args.source.now)
     (λ file along check. along_halts (walk_of file c.args.chain.now c.args.marks.now)
     c.loop-due.marks c.args.text.now c.loop-due.text c.loop-due.due c.loop-due.count c.in_err-length.field-0.0 along
     c.loop-due-test.true check)
     c.loop-due.invariant.told check)
 
-pub returns-in_err-length-clause-told : goal.returns-in_err-length-clause-told
-returns-in_err-length-clause-told g c =
-    told1 (g.S.PageSource.content c.args.source.now)
+pub returns-in_err-length-clause-steps_if_told : goal.returns-in_err-length-clause-steps_if_told
+returns-in_err-length-clause-steps_if_told g c =
+    map_told (g.S.PageSource.content c.args.source.now)
     (λ file along.
     let within = along_within (walk_of file c.args.chain.now c.args.marks.now)
     c.loop-due.marks c.args.text.now c.loop-due.text c.loop-due.due c.loop-due.count along c.loop-due-test.true in
@@ -68,7 +68,7 @@ loop-due-preserved g c =
           (subst (λ (n : ℕ). CountsUpTo (16384 + (whole - c.loop-due.due.left) + n) c.feed.new.self)
           (c.part_bytes.ensures.length ∙ sym part.0)
           (c.feed.ensures.counts (16384 + (whole - c.loop-due.due.left)) inv.counts));
-      told = told3 (g.S.PageSource.content c.args.source.now)
+      told = map_told3 (g.S.PageSource.content c.args.source.now)
           (λ file along check here.
           subst (λ (n : ℕ). IsAlong (walk_of file c.args.chain.now c.args.marks.now)
           c.mark.new.self c.args.text.now c.feed.new.self
@@ -88,7 +88,7 @@ loop-due-preserved g c =
 
 pub returns-clause-exact : goal.returns-clause-exact
 returns-clause-exact g c =
-    told1 (g.S.PageSource.content c.args.source.now)
+    map_told (g.S.PageSource.content c.args.source.now)
     (λ file along. along_holds (walk_of file c.args.chain.now c.args.marks.now)
     c.loop-due.marks c.args.text.now c.loop-due.text c.loop-due.due c.loop-due.count
     (omega (arith, c.loop-due-test.false)) along)
@@ -96,15 +96,15 @@ returns-clause-exact g c =
 
 pub returns-clause-count : goal.returns-clause-count
 returns-clause-count g c =
-    told1 (g.S.PageSource.content c.args.source.now)
+    map_told (g.S.PageSource.content c.args.source.now)
     (λ file along. along_count (walk_of file c.args.chain.now c.args.marks.now)
     c.loop-due.marks c.args.text.now c.loop-due.text c.loop-due.due c.loop-due.count
     (omega (arith, c.loop-due-test.false)) along)
     c.loop-due.invariant.told
 
-pub returns-clause-told : goal.returns-clause-told
-returns-clause-told g c =
-    told1 (g.S.PageSource.content c.args.source.now)
+pub returns-clause-steps_if_told : goal.returns-clause-steps_if_told
+returns-clause-steps_if_told g c =
+    map_told (g.S.PageSource.content c.args.source.now)
     (λ file along.
     let count = along_count (walk_of file c.args.chain.now c.args.marks.now)
     c.loop-due.marks c.args.text.now c.loop-due.text c.loop-due.due c.loop-due.count
@@ -114,7 +114,7 @@ returns-clause-told g c =
 
 pub returns-clause-grew : goal.returns-clause-grew
 returns-clause-grew g c =
-    told1 (g.S.PageSource.content c.args.source.now)
+    map_told (g.S.PageSource.content c.args.source.now)
     (λ file along. along_marked (walk_of file c.args.chain.now c.args.marks.now)
     c.loop-due.marks c.args.text.now c.loop-due.text c.loop-due.due c.loop-due.count
     (omega (arith, c.loop-due-test.false)) along)
@@ -122,7 +122,7 @@ returns-clause-grew g c =
 
 pub returns-clause-fed : goal.returns-clause-fed
 returns-clause-fed g c =
-    told1 (g.S.PageSource.content c.args.source.now)
+    map_told (g.S.PageSource.content c.args.source.now)
     (λ file along. along_fed (walk_of file c.args.chain.now c.args.marks.now)
     c.loop-due.marks c.args.text.now c.loop-due.text c.loop-due.due c.loop-due.count
     (omega (arith, c.loop-due-test.false)) along)

@@ -1,6 +1,6 @@
 use Rattle.std.proofs.Common.{◌<◌, ◌≡◌, false, length, sym, ◌∙◌, refl, arith}
 use Rattle.std.proofs.lemmas.Bool.{false≢true}
-use Rattle.page_source.proofs.Told.{told1, told2}
+use Rattle.page_source.proofs.Told.{map_told, map_told2}
 use Rattle.space_audit.specs.Marks.{is_set}
 use Rattle.row_salvage.proofs.Missed.{newly_set}
 use Rattle.row_salvage.proofs.PartVerdict.{where_ok, where_err, part_taken, part_unread, part_unframed, part_kind}
@@ -17,12 +17,12 @@ returns-then-due-chain-clause-answers g c =
     let due = c.args.due in
     elim c.then-due-chain.branch [
       | then-due-chain-via-then-due-chain w ↦
-          told1 content
+          map_told content
           (λ file reach. part_taken file marks marks faults faults c.args.chain.space due.holder due.left due.page
           c.at.result refl (omega arith) (λ part. omega (arith, reach, part.below, w.if-due-chain.true)) c.at.ensures)
           c.requires.ready.told
       | then-due-chain-via-else-due-chain+then-has w ↦
-          told1 content
+          map_told content
           (λ file reach. part_taken file marks marks faults faults c.args.chain.space due.holder due.left due.page
           c.at.result refl (omega arith)
           (λ part. false≢true (sym part.new ∙ sym w.has.ensures ∙ w.if-has.true)) c.at.ensures)
@@ -36,7 +36,7 @@ returns-then-is_err-clause-answers g c =
     let none : is_set marks due.page ≡ false = sym c.has.ensures ∙ c.if-has.false in
     let below : due.page < length marks = omega (arith, c.requires.ready.members, c.if-due-chain.false) in
     let newly = newly_set marks c.mark.new.self due.page below none c.mark.ensures.exact in
-    told1 (g.S.PageSource.content c.args.source.now)
+    map_told (g.S.PageSource.content c.args.source.now)
     (λ file reach. part_unread file marks c.mark.new.self (g.S.PageSource.faults c.args.source.now)
     (g.S.PageSource.faults c.fetch.new.self) c.args.chain.space due.holder due.left due.page
     (record { below = omega (arith, reach, c.if-due-chain.false); new = none }) newly
@@ -50,7 +50,7 @@ returns-then-frame_fault-clause-answers g c =
     let none : is_set marks due.page ≡ false = sym c.has.ensures ∙ c.if-has.false in
     let below : due.page < length marks = omega (arith, c.requires.ready.members, c.if-due-chain.false) in
     let newly = newly_set marks c.mark.new.self due.page below none c.mark.ensures.exact in
-    told2 (g.S.PageSource.content c.args.source.now)
+    map_told2 (g.S.PageSource.content c.args.source.now)
     (λ file reach is. part_unframed file marks c.mark.new.self (g.S.PageSource.faults c.args.source.now)
     (g.S.PageSource.faults c.fetch.new.self) c.args.chain.space due.holder due.left due.page
     (record { below = omega (arith, reach, c.if-due-chain.false); new = none }) newly
@@ -65,7 +65,7 @@ returns-then-kind-ne-FIL_PAGE_TYPE_BLOB-clause-answers g c =
     let none : is_set marks due.page ≡ false = sym c.has.ensures ∙ c.if-has.false in
     let below : due.page < length marks = omega (arith, c.requires.ready.members, c.if-due-chain.false) in
     let newly = newly_set marks c.mark.new.self due.page below none c.mark.ensures.exact in
-    told2 (g.S.PageSource.content c.args.source.now)
+    map_told2 (g.S.PageSource.content c.args.source.now)
     (λ file reach is. part_kind file marks c.mark.new.self (g.S.PageSource.faults c.args.source.now)
     (g.S.PageSource.faults c.fetch.new.self) c.args.chain.space due.holder due.left due.page
     (record { below = omega (arith, reach, c.if-due-chain.false); new = none }) newly
@@ -82,7 +82,7 @@ returns-then-not-is_part-clause-answers g c =
     let none : is_set marks due.page ≡ false = sym c.has.ensures ∙ c.if-has.false in
     let below : due.page < length marks = omega (arith, c.requires.ready.members, c.if-due-chain.false) in
     let newly = newly_set marks c.mark.new.self due.page below none c.mark.ensures.exact in
-    told2 (g.S.PageSource.content c.args.source.now)
+    map_told2 (g.S.PageSource.content c.args.source.now)
     (λ file reach is. part_short file marks c.mark.new.self (g.S.PageSource.faults c.args.source.now)
     (g.S.PageSource.faults c.fetch.new.self) c.args.chain.space due.holder due.left due.page
     (record { below = omega (arith, reach, c.if-due-chain.false); new = none }) newly
@@ -98,7 +98,7 @@ returns-clause-answers g c =
     let none : is_set marks due.page ≡ false = sym c.has.ensures ∙ c.if-has.false in
     let below : due.page < length marks = omega (arith, c.requires.ready.members, c.if-due-chain.false) in
     let newly = newly_set marks c.mark.new.self due.page below none c.mark.ensures.exact in
-    told2 (g.S.PageSource.content c.args.source.now)
+    map_told2 (g.S.PageSource.content c.args.source.now)
     (λ file reach is. part_holds file marks c.mark.new.self (g.S.PageSource.faults c.args.source.now)
     (g.S.PageSource.faults c.fetch.new.self) c.args.chain.space due.holder due.left due.page
     (record { below = omega (arith, reach, c.if-due-chain.false); new = none }) newly

@@ -1,7 +1,7 @@
 use Rattle.std.proofs.Common.{◌≤◌, ◌++◌, ◌+◌, ◌-◌, ℕ, List, refl, sym, ◌∙◌, subst, arith}
 use Rattle.std.proofs.lemmas.Bool.{iff_false}
 use Rattle.std.proofs.lemmas.Result.{err_from_is_err_and}
-use Rattle.page_source.proofs.Told.{told0, told1, told2, told3}
+use Rattle.page_source.proofs.Told.{if_told, map_told, map_told2, map_told3}
 use Rattle.column_values.specs.Utf8Reader.{CountsUpTo, IsFed, TakesText}
 use Rattle.space_audit.specs.Marks.{is_set}
 use Rattle.offpage_chain.proofs.Feeds.{fed_none, fed_more, counts_more}
@@ -19,7 +19,7 @@ pub returns-then-reference-eq0-clause-answers : goal.returns-then-reference-eq0-
 returns-then-reference-eq0-clause-answers g c =
     let chain = c.args.chain in
     let marks = c.args.marks.now in
-    told0 (g.S.PageSource.content c.args.source.now)
+    if_told (g.S.PageSource.content c.args.source.now)
     (λ file fed was. answer_early (walk_of file chain marks) (λ bytes. TakesText c.args.text.now (fed ++ bytes))
     (g.S.PageSource.faults c.args.source.now) (Broken c.at.result)
     (λ missed. parts_empty file missed chain.space chain.leaf chain.reference (is_set marks)
@@ -32,14 +32,14 @@ returns-then-reference-chain-clause-answers g c =
     let some : 1 ≤ chain.reference.length = omega (arith, c.if-reference-eq0.false) in
     elim c.then-reference-chain.branch [
       | then-reference-chain-via-then-reference-chain w ↦
-          told0 (g.S.PageSource.content c.args.source.now)
+          if_told (g.S.PageSource.content c.args.source.now)
           (λ file fed was. answer_early (walk_of file chain marks) (λ bytes. TakesText c.args.text.now (fed ++ bytes))
           (g.S.PageSource.faults c.args.source.now) (Broken c.at-then-reference-chain.result)
           (λ missed. parts_elsewhere file missed chain.space chain.leaf chain.reference (is_set marks)
           (λ bytes. TakesText c.args.text.now (fed ++ bytes)) some c.at-then-reference-chain.result
           (λ refers. w.if-reference-chain.true refers.has_space) c.at-then-reference-chain.ensures))
       | then-reference-chain-via-else-reference-chain+then-reference-ne-PART_HEADER w ↦
-          told0 (g.S.PageSource.content c.args.source.now)
+          if_told (g.S.PageSource.content c.args.source.now)
           (λ file fed was. answer_early (walk_of file chain marks) (λ bytes. TakesText c.args.text.now (fed ++ bytes))
           (g.S.PageSource.faults c.args.source.now) (Broken c.at-then-reference-chain.result)
           (λ missed. parts_elsewhere file missed chain.space chain.leaf chain.reference (is_set marks)
@@ -58,7 +58,7 @@ loop-due-init g c =
       few = omega arith;
       marked = omega arith;
       counts = subst (λ (most : ℕ). CountsUpTo most c.args.text.now) (omega arith) c.requires.count;
-      told = told0 (g.S.PageSource.content c.args.source.now)
+      told = if_told (g.S.PageSource.content c.args.source.now)
           (λ file. reached_start (walk_of file c.args.chain c.args.marks.now) c.args.text.now
           (g.S.PageSource.faults c.args.source.now) (fed_none c.args.text.now));
     }
@@ -70,7 +70,7 @@ returns-in_err-length-clause-answers g c =
     let marks = c.args.marks.now in
     let r = err_from_is_err_and c.from_residual.result c.from_residual.ensures.1 in
     let check = rw i.same at c.in_err-length.ensures.answers in
-    rw (r.1, r.2) (told2 (g.S.PageSource.content c.args.source.now)
+    rw (r.1, r.2) (map_told2 (g.S.PageSource.content c.args.source.now)
     (λ file reached check fed was. answer_break (walk_of file chain marks)
     (λ bytes. TakesText c.args.text.now (fed ++ bytes)) (omega (arith, c.if-reference-eq0.false))
     (record { has_space = c.if-reference-chain.false; has_offset = c.if-reference-ne-PART_HEADER.false })
@@ -101,7 +101,7 @@ loop-due-preserved g c =
           (subst (λ (n : ℕ). CountsUpTo (16384 + (whole - c.loop-due.due.left) + n) c.feed.new.self)
           (c.part_bytes.ensures.length ∙ sym part.0)
           (c.feed.ensures.counts (16384 + (whole - c.loop-due.due.left)) i.counts));
-      told = told3 (g.S.PageSource.content c.args.source.now)
+      told = map_told3 (g.S.PageSource.content c.args.source.now)
           (λ file reached check here.
           subst (λ (n : ℕ). IsReached (walk_of file c.args.chain c.args.marks.now)
           c.check_part.new.marks c.args.text.now c.feed.new.self
@@ -125,7 +125,7 @@ pub returns-then-not-is_text-clause-answers : goal.returns-then-not-is_text-clau
 returns-then-not-is_text-clause-answers g c =
     let f = g.S.PageSource.faults c.args.source.now in
     let h = g.S.PageSource.faults c.loop-due.source in
-    told1 (g.S.PageSource.content c.args.source.now)
+    map_told (g.S.PageSource.content c.args.source.now)
     (λ file reached fed was.
     let w = walk_of file c.args.chain c.args.marks.now in
     let passed = reached_end w c.loop-due.marks c.args.text.now c.loop-due.text c.loop-due.due c.loop-due.count f h
@@ -141,7 +141,7 @@ pub returns-clause-answers : goal.returns-clause-answers
 returns-clause-answers g c =
     let f = g.S.PageSource.faults c.args.source.now in
     let h = g.S.PageSource.faults c.loop-due.source in
-    told1 (g.S.PageSource.content c.args.source.now)
+    map_told (g.S.PageSource.content c.args.source.now)
     (λ file reached fed was.
     let w = walk_of file c.args.chain c.args.marks.now in
     let passed = reached_end w c.loop-due.marks c.args.text.now c.loop-due.text c.loop-due.due c.loop-due.count f h
@@ -155,7 +155,7 @@ returns-clause-answers g c =
 
 pub returns-clause-count : goal.returns-clause-count
 returns-clause-count g c =
-    told1 (g.S.PageSource.content c.args.source.now)
+    map_told (g.S.PageSource.content c.args.source.now)
     (λ file reached. (reached_end (walk_of file c.args.chain c.args.marks.now) c.loop-due.marks c.args.text.now
     c.loop-due.text c.loop-due.due c.loop-due.count (g.S.PageSource.faults c.args.source.now)
     (g.S.PageSource.faults c.loop-due.source) (omega (arith, c.loop-due-test.false)) reached).counted)

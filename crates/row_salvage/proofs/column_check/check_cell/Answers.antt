@@ -1,6 +1,6 @@
 use Rattle.std.proofs.Common.{◌↔◌, ◌++◌, ℕ, List, Result, [], sym, ap, ◌∙◌, refl, subst, inl, inr, arith}
 use Rattle.std.proofs.lemmas.Bool.{false≢true}
-use Rattle.page_source.proofs.Told.{told0, told1}
+use Rattle.page_source.proofs.Told.{if_told, map_told}
 use Rattle.fil_frame.specs.Frame.{space_of}
 use Rattle.column_values.specs.declared.kind.ColumnType.{ColumnType}
 use Rattle.column_values.specs.Characters.{IsTextOfKind}
@@ -20,7 +20,7 @@ use Rattle.row_salvage.proofs.column_check.check_cell.Goals.{then-cell-via-else-
 
 pub returns-then-not-is_sound-clause-answers : goal.returns-then-not-is_sound-clause-answers
 returns-then-not-is_sound-clause-answers g c =
-    told0 (g.S.PageSource.content c.args.source.now)
+    if_told (g.S.PageSource.content c.args.source.now)
     (λ file. cell_unsound file c.args.leaf c.args.cell.now c.args.marks.now (g.S.PageSource.faults c.args.source.now)
     c.at.result (λ sound. false≢true (c.if-not-is_sound.ensures.1 sound)) c.at.ensures)
 
@@ -28,7 +28,7 @@ pub returns-then-cell-clause-answers : goal.returns-then-cell-clause-answers
 returns-then-cell-clause-answers g c =
     let cell = c.args.cell.now in
     let sound = c.if-not-is_sound.ensures.0 refl in
-    told0 (g.S.PageSource.content c.args.source.now)
+    if_told (g.S.PageSource.content c.args.source.now)
     (λ file.
     let here : StaysHere file c.args.leaf cell = elim c.then-cell.branch [
       | then-cell-via-then-cell w ↦ inl (sym (ap (λ (v : CellView). v.place.null) c.cell.view_is) ∙ w.if-cell.true)
@@ -41,7 +41,7 @@ pub returns-then-cell-clause-reads : goal.returns-then-cell-clause-reads
 returns-then-cell-clause-reads g c =
     let cell = c.args.cell.now in
     let sound = c.if-not-is_sound.ensures.0 refl in
-    told0 (g.S.PageSource.content c.args.source.now)
+    if_told (g.S.PageSource.content c.args.source.now)
     (λ file.
     let here : StaysHere file c.args.leaf cell = elim c.then-cell.branch [
       | then-cell-via-then-cell w ↦ inl (sym (ap (λ (v : CellView). v.place.null) c.cell.view_is) ∙ w.if-cell.true)
@@ -71,7 +71,7 @@ returns-clause-answers g c =
     ↔ IsTextOfKind kind (front ++ bytes)) (ap (λ (v : CellView). v.kind) c.cell.view_is)
     (c.text_of-text.ensures.takes (front ++ bytes)) in
     ((λ t. j.0 (i.0 t)), (λ t. i.1 (j.1 t))) in
-    told1 (g.S.PageSource.content c.args.source.now)
+    map_told (g.S.PageSource.content c.args.source.now)
     (λ file answers. cell_long file c.args.leaf cell sound goes c.args.marks.now c.check_parts.new.marks
     (g.S.PageSource.faults c.args.source.now) (g.S.PageSource.faults c.check_parts.new.source) text front
     c.space_id.result c.split_local.result.1
@@ -105,7 +105,7 @@ returns-clause-reads g c =
     let reference_is = c.split_local.ensures.reference ∙ ap reference_of c.local.ensures.bytes in
     let front_is = c.split_local.ensures.front ∙ ap front_of c.local.ensures.bytes in
     if_ok c.check_parts.result _
-    (λ count is. told1 (g.S.PageSource.content c.args.source.now)
+    (λ count is. map_told (g.S.PageSource.content c.args.source.now)
     (λ file answers. long_reads file c.args.leaf cell sound goes before after f h text front
     c.space_id.result c.split_local.result.1 space_is reference_is front_is takes
     (subst (λ (r : Result ℕ Loss). UnderMissed before after f h (ChainAnswers file c.args.leaf cell sound goes before

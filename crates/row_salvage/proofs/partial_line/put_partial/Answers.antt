@@ -2,7 +2,7 @@ use Rattle.std.proofs.Common.{◌≡◌, ◌<◌, true, false, length, get_or, r
 use Rattle.std.proofs.Common.{Some, None, is_some, arith}
 use Rattle.std.proofs.lemmas.Bool.{false≢true}
 use Rattle.std.proofs.lemmas.Result.{err_from_is_err_and}
-use Rattle.page_source.proofs.Told.{told0, told1, told2}
+use Rattle.page_source.proofs.Told.{if_told, map_told, map_told2}
 use Rattle.schema_text.specs.TableDef.{column_at}
 use Rattle.schema_text.specs.Grammar.{IsTable}
 use Rattle.row_text.specs.Writer.{Writer}
@@ -20,7 +20,7 @@ returns-in_err-put-clause-puts g c =
     let row = c.args.row.now.row in
     let r = err_from_is_err_and c.from_residual.result c.from_residual.ensures.1 in
     rw (r.1, r.2)
-    (told0 (g.S.PageSource.content c.args.source.now)
+    (if_told (g.S.PageSource.content c.args.source.now)
     (λ file row_values saves. open_cut row.table row_values (g.O.ByteSink.written c.args.sink.now)
     (g.O.ByteSink.written c.put.new.self)
     (is_partial file row c.args.losses.now row_values c.requires.all c.requires.some saves)
@@ -32,7 +32,7 @@ returns-in_err-writer-clause-puts g c =
     let part = rw (ap (λ (on : RowOnLeaf). on.row.table) c.row.view_is) at c.in_err-writer.ensures.puts.failed in
     let r = err_from_is_err_and c.from_residual-in_err-writer.result c.from_residual-in_err-writer.ensures.1 in
     rw (r.1, r.2)
-    (told0 (g.S.PageSource.content c.args.source.now)
+    (if_told (g.S.PageSource.content c.args.source.now)
     (λ file row_values saves. begin_cut row.table row_values (g.O.ByteSink.written c.args.sink.now)
     (g.O.ByteSink.written c.put.new.self) (g.O.ByteSink.written c.begin.new.sink)
     (is_partial file row c.args.losses.now row_values c.requires.all c.requires.some saves)
@@ -50,9 +50,9 @@ loop-c-init g c =
       cost = refl;
       fewer = omega arith;
       came = ap (λ (w : Writer). w.came) c.in_ok-writer.ensures.fresh;
-      used = told0 (g.S.PageSource.content c.args.source.now)
+      used = if_told (g.S.PageSource.content c.args.source.now)
           (λ file. omega (arith, first_none file row c.args.losses.now));
-      text = told0 (g.S.PageSource.content c.args.source.now)
+      text = if_told (g.S.PageSource.content c.args.source.now)
           (λ file row_values saves. partial_begins row.table row_values (g.O.ByteSink.written c.args.sink.now)
           (g.O.ByteSink.written c.put.new.self) (g.O.ByteSink.written c.begin.new.sink) c.in_ok-put.ensures.ok grown);
     }
@@ -73,7 +73,7 @@ returns-in_err-default-clause-puts g c =
     ∙ sym c.is_some.ensures ∙ c.if-is_some.true in
     let r = err_from_is_err_and c.from_residual-in_err-default.result c.from_residual-in_err-default.ensures.1 in
     rw (r.1, r.2)
-    (told1 (g.S.PageSource.content c.args.source.now)
+    (map_told (g.S.PageSource.content c.args.source.now)
     (λ file text row_values saves. partial_ends row.table row_values c.loop-c.c c.loop-c.writer.came
     (column_at row.table c.loop-c.c).kind None (g.O.ByteSink.written c.args.sink.now)
     (g.O.ByteSink.written c.loop-c.sink) (g.O.ByteSink.written c.default.new.sink) Sink
@@ -104,7 +104,7 @@ loop-c-preserved-then-is_some g c =
       cost = i.cost;
       fewer = i.fewer;
       came = omega (arith, ap (λ (w : Writer). w.came) c.in_ok-default.ensures.counts, i.came);
-      used = told1 (g.S.PageSource.content c.args.source.now)
+      used = map_told (g.S.PageSource.content c.args.source.now)
           (λ file used. omega (
             arith,
             used,
@@ -112,7 +112,7 @@ loop-c-preserved-then-is_some g c =
             kept_lost file row losses c.loop-c.c lost,
           ))
           i.used;
-      text = told1 (g.S.PageSource.content c.args.source.now)
+      text = map_told (g.S.PageSource.content c.args.source.now)
           (λ file text row_values saves. partial_more row.table row_values c.loop-c.c c.loop-c.writer.came
           (column_at row.table c.loop-c.c).kind None (g.O.ByteSink.written c.args.sink.now)
           (g.O.ByteSink.written c.loop-c.sink) (g.O.ByteSink.written c.default.new.sink) i.came refl
@@ -134,7 +134,7 @@ returns-then-not-is_sound-clause-puts g c =
     let whole : is_some (get_or losses c.loop-c.c None) ≡ false =
     ap (λ (xs : List (Option Loss)). is_some (get_or xs c.loop-c.c None)) (sym c.items.ensures)
     ∙ sym c.is_some.ensures ∙ c.if-is_some.false in
-    told0 (g.S.PageSource.content c.args.source.now)
+    if_told (g.S.PageSource.content c.args.source.now)
     (λ file row_values saves.
     let read = value_whole file row losses row_values c.loop-c.c c.cell-cell.result saves within whole
     c.cell-cell.ensures in
@@ -155,7 +155,7 @@ put_value-requires-clause-told g c =
     ap (λ (xs : List (Option Loss)). is_some (get_or xs c.loop-c.c None)) (sym c.items.ensures)
     ∙ sym c.is_some.ensures ∙ c.if-is_some.false in
     rw i.same
-    (told2 (g.S.PageSource.content c.args.source.now)
+    (map_told2 (g.S.PageSource.content c.args.source.now)
     (λ file can used.
     let read = value_whole file row losses can.row_values c.loop-c.c c.cell-cell.result can.saves within whole
     c.cell-cell.ensures in
@@ -182,7 +182,7 @@ returns-in_err-put_value-clause-puts g c =
     let puts = rw i.same at c.in_err-put_value.ensures.puts in
     let r = err_from_is_err_and c.from_residual-in_err-put_value.result c.from_residual-in_err-put_value.ensures.1 in
     rw (r.1, r.2)
-    (told2 (g.S.PageSource.content c.args.source.now)
+    (map_told2 (g.S.PageSource.content c.args.source.now)
     (λ file text puts row_values saves.
     let read = value_whole file row losses row_values c.loop-c.c cell saves within whole c.cell-cell.ensures in
     partial_ends row.table row_values c.loop-c.c c.loop-c.writer.came cell.kind (Some read.value)
@@ -239,7 +239,7 @@ loop-c-preserved g c =
       cost = c.in_ok-put_value.ensures.cost ∙ i.cost;
       fewer = omega (arith, i.fewer, c.in_ok-put_value.ensures.fewer);
       came = omega (arith, c.in_ok-put_value.ensures.came, i.came);
-      used = told2 (g.S.PageSource.content c.args.source.now)
+      used = map_told2 (g.S.PageSource.content c.args.source.now)
           (λ file used left. omega (
             arith,
             used,
@@ -248,7 +248,7 @@ loop-c-preserved g c =
             kept_whole file row losses c.loop-c.c cell whole c.cell-cell.ensures,
           ))
           i.used left;
-      text = told2 (g.S.PageSource.content c.args.source.now)
+      text = map_told2 (g.S.PageSource.content c.args.source.now)
           (λ file text puts row_values saves.
           let read = value_whole file row losses row_values c.loop-c.c cell saves within whole c.cell-cell.ensures in
           partial_more row.table row_values c.loop-c.c c.loop-c.writer.came cell.kind (Some read.value)
@@ -272,7 +272,7 @@ returns-in_err-end-clause-puts g c =
     ) in
     let r = err_from_is_err_and c.from_residual-in_err-end.result c.from_residual-in_err-end.ensures.1 in
     rw (r.1, r.2)
-    (told1 (g.S.PageSource.content c.args.source.now)
+    (map_told (g.S.PageSource.content c.args.source.now)
     (λ file text row_values saves. close_cut row.table row_values c.loop-c.c (g.O.ByteSink.written c.args.sink.now)
     (g.O.ByteSink.written c.loop-c.sink) (g.O.ByteSink.written c.end.new.sink)
     (is_partial file row losses row_values c.requires.all c.requires.some saves) last (text row_values saves)
@@ -291,7 +291,7 @@ returns-clause-puts g c =
       c.loop-c-test.false,
       c.loop-c.auto.c-end,
     ) in
-    told1 (g.S.PageSource.content c.args.source.now)
+    map_told (g.S.PageSource.content c.args.source.now)
     (λ file text row_values saves. partial_closes row.table row_values c.loop-c.c
     (g.O.ByteSink.written c.args.sink.now) (g.O.ByteSink.written c.loop-c.sink) (g.O.ByteSink.written c.end.new.sink)
     (is_partial file row losses row_values c.requires.all c.requires.some saves) last (text row_values saves)
@@ -310,5 +310,5 @@ returns-clause-left g c =
       c.loop-c-test.false,
       c.loop-c.auto.c-end,
     ) in
-    told1 (g.S.PageSource.content c.args.source.now)
+    map_told (g.S.PageSource.content c.args.source.now)
     (λ file used. omega (arith, used, ap length (first_all file row losses c.loop-c.c last))) i.used

@@ -1,6 +1,6 @@
 use Rattle.std.proofs.Common.{◌≡◌, ◌<◌, ◌+◌, ℕ, length, set, refl, sym, ap, ◌∙◌, subst, Option, Some, None, arith}
 use Rattle.std.proofs.Common.{length-set}
-use Rattle.page_source.proofs.Told.{told0, told1, told2, told3}
+use Rattle.page_source.proofs.Told.{if_told, map_told, map_told2, map_told3}
 use Rattle.sql_dump.specs.Cells.{RowOnLeaf}
 use Rattle.sql_dump.proofs.Cells.{column_count}
 use Rattle.salvage_model.specs.declared.loss.Loss.{Loss}
@@ -19,10 +19,10 @@ loop-c-init g c = record {
   cost = omega arith;
   fewer = omega arith;
   room = ap length c.losses.view_is;
-  judged = told0 (g.S.PageSource.content c.args.source.now)
+  judged = if_told (g.S.PageSource.content c.args.source.now)
       (λ file. judged_none file c.args.row.now c.args.marks.now (g.S.PageSource.faults c.args.source.now)
       c.losses.inside.losses.items);
-  saves = told0 (g.S.PageSource.content c.args.source.now)
+  saves = if_told (g.S.PageSource.content c.args.source.now)
       (λ file. saves_none file c.args.row.now.row c.losses.inside.losses.items);
 }
 
@@ -51,12 +51,12 @@ loop-c-preserved g c =
             cost = omega (arith, i.cost, c.check_cell.ensures.over.cost);
             fewer = omega (arith, i.fewer, w.in-Ok.ensures.fewer, w.count-is);
             room = ap (length {A = Option Loss}) set_is ∙ length-set old c.loop-c.c None ∙ i.room;
-            judged = told2 (g.S.PageSource.content c.args.source.now)
+            judged = map_told2 (g.S.PageSource.content c.args.source.now)
                 (λ file judged answers. judged_more file row c.args.marks.now c.loop-c.marks c.check_cell.new.marks
                 (faults c.args.source.now) (faults c.loop-c.source) (faults c.check_cell.new.source) old new c.loop-c.c
                 None c.cell-cell.result c.row.inside.number within c.cell-cell.ensures leaf set_is judged answers)
                 i.judged answers;
-            saves = told3 (g.S.PageSource.content c.args.source.now)
+            saves = map_told3 (g.S.PageSource.content c.args.source.now)
                 (λ file saves reads pages.
                 subst (λ (n : ℕ). SavesFirst file row.row new (c.loop-c.c + 1) n) (sym w.count-is)
                 (saves_whole file row.row old new c.loop-c.c c.loop-c.count w.in-Ok.parts c.cell-cell.result within
@@ -75,13 +75,13 @@ loop-c-preserved g c =
             cost = omega (arith, i.cost, c.check_cell.ensures.over.cost);
             fewer = omega (arith, i.fewer, c.check_cell.ensures.over.fewer, w.count-is);
             room = ap (length {A = Option Loss}) set_is ∙ length-set old c.loop-c.c (Some w.in-Err.loss) ∙ i.room;
-            judged = told2 (g.S.PageSource.content c.args.source.now)
+            judged = map_told2 (g.S.PageSource.content c.args.source.now)
                 (λ file judged answers. judged_more file row c.args.marks.now c.loop-c.marks c.check_cell.new.marks
                 (faults c.args.source.now) (faults c.loop-c.source) (faults c.check_cell.new.source) old new c.loop-c.c
                 (Some w.in-Err.loss) c.cell-cell.result c.row.inside.number within c.cell-cell.ensures
                 leaf set_is judged answers)
                 i.judged answers;
-            saves = told1 (g.S.PageSource.content c.args.source.now)
+            saves = map_told (g.S.PageSource.content c.args.source.now)
                 (λ file saves.
                 subst (λ (n : ℕ). SavesFirst file row.row new (c.loop-c.c + 1) n) (sym w.count-is)
                 (saves_lost file row.row old new c.loop-c.c c.loop-c.count w.in-Err.loss within set_is saves))
@@ -94,7 +94,7 @@ returns-clause-answers g c =
     let row = c.args.row.now.row in
     let count = column_count (ap (λ (on : RowOnLeaf). on.row) c.row.view_is) c.columns-c-end.ensures.same in
     let last : c.loop-c.c ≡ length row.table.columns = omega (arith, count, c.loop-c-test.false, c.loop-c.auto.c-end) in
-    told1 (g.S.PageSource.content c.args.source.now)
+    map_told (g.S.PageSource.content c.args.source.now)
     (λ file judged. judged_all file c.args.row.now c.args.marks.now c.loop-c.marks
     (g.S.PageSource.faults c.args.source.now) (g.S.PageSource.faults c.loop-c.source)
     c.loop-c.losses-inside.losses.items c.loop-c.c last (c.loop-c.invariant.room ∙ c.requires.room) judged)
@@ -105,7 +105,7 @@ returns-clause-saves g c =
     let row = c.args.row.now.row in
     let count = column_count (ap (λ (on : RowOnLeaf). on.row) c.row.view_is) c.columns-c-end.ensures.same in
     let last : c.loop-c.c ≡ length row.table.columns = omega (arith, count, c.loop-c-test.false, c.loop-c.auto.c-end) in
-    told1 (g.S.PageSource.content c.args.source.now)
+    map_told (g.S.PageSource.content c.args.source.now)
     (λ file saves. saves_all file row c.loop-c.losses-inside.losses.items c.loop-c.c c.loop-c.count last saves)
     c.loop-c.invariant.saves
 
@@ -114,6 +114,6 @@ returns-clause-count g c =
     let row = c.args.row.now.row in
     let count = column_count (ap (λ (on : RowOnLeaf). on.row) c.row.view_is) c.columns-c-end.ensures.same in
     let last : c.loop-c.c ≡ length row.table.columns = omega (arith, count, c.loop-c-test.false, c.loop-c.auto.c-end) in
-    told1 (g.S.PageSource.content c.args.source.now)
+    map_told (g.S.PageSource.content c.args.source.now)
     (λ file saves. saves_count file row c.loop-c.losses-inside.losses.items c.loop-c.c c.loop-c.count last saves)
     c.loop-c.invariant.saves

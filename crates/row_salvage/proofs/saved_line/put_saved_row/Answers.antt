@@ -1,5 +1,5 @@
 use Rattle.std.proofs.Common.{◌≡◌, true, ℕ, List, sym, ◌∙◌, subst, arith}
-use Rattle.page_source.proofs.Told.{told1}
+use Rattle.page_source.proofs.Told.{map_told}
 use Rattle.sql_dump.specs.Buffer.{Moves}
 use Rattle.salvage_model.specs.SavedRow.{is_whole_row}
 use Rattle.row_salvage.proofs.WholeLine.{whole_pages, whole_reads, whole_line, line_after, ok_more}
@@ -11,7 +11,7 @@ put_line-requires g c =
     let losses = c.args.losses.now in
     let whole : is_whole_row losses ≡ true = sym c.is_whole.ensures ∙ c.if-is_whole.true in
     record {
-      told = told1 (g.S.PageSource.content c.args.source.now)
+      told = map_told (g.S.PageSource.content c.args.source.now)
           (λ file can. whole_reads c.whole_rows_are_read.ensures file row losses c.args.room.now.left whole can)
           c.requires.told;
     }
@@ -21,7 +21,7 @@ returns-then-is_whole-clause-moves g c =
     let row = c.args.row.now.row in
     let losses = c.args.losses.now in
     let whole : is_whole_row losses ≡ true = sym c.is_whole.ensures ∙ c.if-is_whole.true in
-    told1 (g.S.PageSource.content c.args.source.now)
+    map_told (g.S.PageSource.content c.args.source.now)
     (λ file moves row_values saves.
     let read = c.whole_rows_are_read.ensures file row losses row_values whole saves in
     subst (λ (line : List ℕ). Moves c.put_line.result (g.O.ByteSink.written c.args.sink.now)
@@ -35,13 +35,13 @@ returns-then-is_whole-clause-left g c =
     let losses = c.args.losses.now in
     let whole : is_whole_row losses ≡ true = sym c.is_whole.ensures ∙ c.if-is_whole.true in
     ok_more c.put_line.result
-    (told1 (g.S.PageSource.content c.args.source.now)
+    (map_told (g.S.PageSource.content c.args.source.now)
     (λ file left. omega (arith, left, whole_pages file row losses whole)))
     c.put_line.ensures.left
 
 pub returns-clause-moves : goal.returns-clause-moves
 returns-clause-moves g c =
-    told1 (g.S.PageSource.content c.args.source.now)
+    map_told (g.S.PageSource.content c.args.source.now)
     (λ file puts row_values saves. line_after (g.O.ByteSink.written c.args.sink.now)
     (g.O.ByteSink.written c.flush.new.sink) (g.O.ByteSink.written c.put_partial.new.sink) c.args.buffer.now.bytes
     c.flush.new.self.bytes _ c.put_partial.result c.in_ok-flush.ensures.puts.ok c.in_ok-flush.ensures.empty

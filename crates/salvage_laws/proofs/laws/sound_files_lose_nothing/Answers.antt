@@ -1,5 +1,5 @@
 use Rattle.sql_dump.proofs.Dumps.{sound_table}
-use Rattle.salvage_laws.proofs.Sound.{loses_nothing}
+use Rattle.salvage_laws.proofs.WholeSalvage.{loses_nothing}
 use Rattle.salvage_laws.proofs.laws.sound_files_lose_nothing.Goals as goal
 
 pub returns : goal.returns

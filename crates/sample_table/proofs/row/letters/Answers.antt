@@ -1,5 +1,5 @@
 use Rattle.std.proofs.Common.{◌∙◌, sym, ap, List, ℕ, [], ◌∷◌, ◌++◌}
-use Rattle.sample_table.proofs.Steps.{letters_none, letters_more}
+use Rattle.sample_table.proofs.MakingSteps.{letters_none, letters_more}
 use Rattle.sample_table.proofs.row.letters.Goals as goal
 
 pub loop-i-init : goal.loop-i-init

@@ -1,4 +1,4 @@
-use Rattle.sample_table.proofs.Steps.{long_note, null_note, some_note}
+use Rattle.sample_table.proofs.MakingSteps.{long_note, null_note, some_note}
 use Rattle.sample_table.proofs.row.note.Goals as goal
 
 pub returns-then-i-eq0 : goal.returns-then-i-eq0

@@ -1,6 +1,6 @@
 use Rattle.std.proofs.Common.{ap}
 use Rattle.column_values.specs.declared.value.Value.TheVariants.{Unsigned}
-use Rattle.sample_table.proofs.Steps.{three_values}
+use Rattle.sample_table.proofs.MakingSteps.{three_values}
 use Rattle.sample_table.proofs.row.row_of.Goals as goal
 
 pub returns : goal.returns

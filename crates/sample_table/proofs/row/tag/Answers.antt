@@ -1,5 +1,5 @@
 use Rattle.std.proofs.Common.{◌∙◌}
-use Rattle.sample_table.proofs.Steps.{null_tag, some_tag}
+use Rattle.sample_table.proofs.MakingSteps.{null_tag, some_tag}
 use Rattle.sample_table.proofs.row.tag.Goals as goal
 
 pub returns-then-number-eq0 : goal.returns-then-number-eq0

@@ -2,8 +2,8 @@ use Rattle.std.proofs.Common.{◌∙◌, ◌+◌, sym, ap, ap₂, subst, arith, 
 use Rattle.schema_text.specs.TableDef.{TableDef}
 use Rattle.row_text.specs.Line.{line_of, IsTableRow}
 use Rattle.sample_table.specs.Sample.{sample_table}
-use Rattle.sample_table.proofs.Rows.{table_row}
-use Rattle.sample_table.proofs.Steps.{text_none, text_more}
+use Rattle.sample_table.proofs.MadeRows.{table_row}
+use Rattle.sample_table.proofs.MakingSteps.{text_none, text_more}
 use Rattle.sample_table.proofs.text.text_of.Goals as goal
 
 pub loop-i-init : goal.loop-i-init

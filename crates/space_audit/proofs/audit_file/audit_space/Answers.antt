@@ -2,7 +2,7 @@ use Rattle.std.proofs.Common.{◌≡◌, List, ℕ, None, ◌∙◌, ap, subst}
 use Rattle.std.proofs.lemmas.Result.{err_from_is_err_and}
 use Rattle.page_source.specs.Lists.{flag_in}
 use Rattle.page_source.specs.Checks.{Stops}
-use Rattle.page_source.proofs.Told.{told3, told4, told5}
+use Rattle.page_source.proofs.Told.{map_told3, map_told4, map_told5}
 use Rattle.extent_map.specs.Extents.{AreExtents, is_fragment_page}
 use mathlib.Core.Path.{fun_ext}
 use Rattle.inode_segments.specs.InodeChecks.{AllInodeChecks}
@@ -18,7 +18,7 @@ returns-in_err-inodes-clause-exact g c =
     λ file are. ap flag_in (c.flags.ensures ∙ c.in_ok-fragments.ensures file are)
     ∙ fun_ext (c.flags_are_fragment_pages.ensures file) in
     let found = rw c.in_ok-extents.ensures.over.same at c.in_err-inodes.ensures.exact in
-    rw (r.1, r.2) (told3 o (λ file extents are stop.
+    rw (r.1, r.2) (map_told3 o (λ file extents are stop.
     inodes_stop file c.in_err-inodes.field-0.0 extents
     (subst (λ f. Stops c.in_err-inodes.field-0.0 (AllInodeChecks file f)) (flags file are) stop))
     c.in_ok-extents.ensures.exact c.in_ok-extents.ensures.read found)
@@ -33,7 +33,7 @@ audit_pages-requires-clause-read g c =
     let found = rw c.in_ok-extents.ensures.over.same at c.in_ok-inodes.ensures.exact in
     let kept = rw c.in_ok-extents.ensures.over.same at c.in_ok-inodes.ensures.kept in
     rw (c.in_ok-inodes.ensures.over.same, c.in_ok-extents.ensures.over.same)
-    (told5 o (λ file has extents are inodes are_kept.
+    (map_told5 o (λ file has extents are inodes are_kept.
     is_read c.descriptor_checks_are_sound.ensures c.inode_checks_are_sound.ensures file c.args.header.now
     c.in_ok-extents.extents c.in_ok-inodes.inodes
     has c.requires.bounds.most are are_kept extents
@@ -50,7 +50,7 @@ returns-clause-exact g c =
     let found = rw c.in_ok-extents.ensures.over.same at c.in_ok-inodes.ensures.exact in
     let same = c.in_ok-inodes.ensures.over.same ∙ c.in_ok-extents.ensures.over.same in
     let pages = rw same at c.audit_pages.ensures.exact in
-    told4 o (λ file extents are inodes answer.
+    map_told4 o (λ file extents are inodes answer.
     pages_answer file c.audit_pages.result extents (subst (λ f. AllInodeChecks file f None) (flags file are) inodes)
     answer)
     c.in_ok-extents.ensures.exact c.in_ok-extents.ensures.read found pages

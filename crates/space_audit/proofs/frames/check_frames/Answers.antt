@@ -1,7 +1,7 @@
 use Rattle.std.proofs.Common.{◌+◌, ◌<◌, length, is_some, ◌∷◌, [], ap, length-append, None, Ok, ◌∙◌, arith, below_more}
 use Rattle.std.proofs.lemmas.Result.{err_from_is_err_and}
 use Rattle.std.specs.Option.{unwrap_or}
-use Rattle.page_source.proofs.Told.{told2}
+use Rattle.page_source.proofs.Told.{map_told2}
 use Rattle.space_audit.specs.Audit.{FrameCheck}
 use Rattle.space_audit.proofs.PageFrames.{frame_stops, cost_more, cost_used, cost_all, kinds_more, frames_hold}
 use Rattle.space_audit.proofs.PageFrames.{one_at_most}
@@ -11,7 +11,7 @@ pub returns-in_err-kind-clause-exact : goal.returns-in_err-kind-clause-exact
 returns-in_err-kind-clause-exact g c =
     let r = err_from_is_err_and c.from_residual-in_err-kind.result c.from_residual-in_err-kind.ensures.1 in
     let here = rw c.loop-n.invariant.same at c.in_err-kind.ensures.exact in
-    rw (r.1, r.2) (told2 (g.S.PageSource.content c.args.source.now)
+    rw (r.1, r.2) (map_told2 (g.S.PageSource.content c.args.source.now)
     (λ file below broken. frame_stops file c.loop-n.n c.in_err-kind.field-0.0 below broken)
     c.loop-n.invariant.checks here)
 
@@ -54,15 +54,15 @@ loop-n-preserved g c =
             (λ none. c.in_ok-kind.ensures.unused (ap Ok none)) c.in_ok-kind.ensures.listed,
       );
       few = omega (arith, c.in_ok-push.ensures.used, one_at_most (is_some c.in_ok-kind.kind), i.few);
-      checks = told2 o (λ file below here. below_more (λ j. FrameCheck file j None) n below here) i.checks checked;
-      kinds = told2 o (λ file so_far here. rw (c.in_ok-push.ensures.kinds, c.in_ok-push.ensures.used)
+      checks = map_told2 o (λ file below here. below_more (λ j. FrameCheck file j None) n below here) i.checks checked;
+      kinds = map_told2 o (λ file so_far here. rw (c.in_ok-push.ensures.kinds, c.in_ok-push.ensures.used)
           (kinds_more file n c.loop-n.kinds.kinds.items c.loop-n.kinds.used c.in_ok-kind.kind i.count so_far here))
           i.kinds kind;
     }
 
 pub returns-clause-exact : goal.returns-clause-exact
 returns-clause-exact g c =
-    told2 (g.S.PageSource.content c.args.source.now)
+    map_told2 (g.S.PageSource.content c.args.source.now)
     (λ file h below. frames_hold file c.used_pages_are_of_extents.ensures c.args.space c.args.extents.now
     c.args.inodes.now c.args.owners.now h
     (λ j l. below j (omega (arith, l, c.loop-n-test.false))))

@@ -1,4 +1,4 @@
-use Rattle.space_audit.proofs.Sound.{HasLaws, audit_sound, audit_checks}
+use Rattle.space_audit.proofs.SoundAudit.{HasLaws, audit_sound, audit_checks}
 use Rattle.space_audit.proofs.laws.audit_is_soundness.Goals as goal
 
 pub returns : goal.returns

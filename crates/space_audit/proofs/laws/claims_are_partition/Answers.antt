@@ -1,4 +1,4 @@
-use Rattle.space_audit.proofs.Sound.{HasLaws, claims_are_partition}
+use Rattle.space_audit.proofs.SoundAudit.{HasLaws, claims_are_partition}
 use Rattle.space_audit.proofs.laws.claims_are_partition.Goals as goal
 
 pub returns : goal.returns

@@ -1,4 +1,4 @@
-use Rattle.space_audit.proofs.Sound.{HasLaws, owners_are_claims}
+use Rattle.space_audit.proofs.SoundAudit.{HasLaws, owners_are_claims}
 use Rattle.space_audit.proofs.laws.owners_are_claims.Goals as goal
 
 pub returns : goal.returns

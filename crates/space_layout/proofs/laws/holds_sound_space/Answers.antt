@@ -1,5 +1,5 @@
 use Rattle.space_layout.proofs.Known.{known}
-use Rattle.space_layout.proofs.Sound.{is_sound}
+use Rattle.space_layout.proofs.BuiltSpace.{is_sound}
 use Rattle.space_layout.proofs.laws.holds_sound_space.Goals as goal
 
 pub returns : goal.returns

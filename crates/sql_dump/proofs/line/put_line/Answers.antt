@@ -1,5 +1,5 @@
 use Rattle.std.proofs.lemmas.Result.{err_from_is_err_and}
-use Rattle.page_source.proofs.Told.{told1, told2}
+use Rattle.page_source.proofs.Told.{map_told, map_told2}
 use Rattle.row_text.specs.Line.{line_of}
 use Rattle.sql_dump.proofs.Sends.{keep_ends, flush_ends, flushed_line}
 use Rattle.sql_dump.proofs.SomeRows.{moves_kept, moves_flushed}
@@ -9,7 +9,7 @@ pub returns-in_err-keep_line-clause-moves : goal.returns-in_err-keep_line-clause
 returns-in_err-keep_line-clause-moves g c =
     let r = err_from_is_err_and c.from_residual-in_err-keep_line.result c.from_residual-in_err-keep_line.ensures.1 in
     rw (r.1, r.2)
-    (told1 (g.S.PageSource.content c.args.source.now)
+    (map_told (g.S.PageSource.content c.args.source.now)
     (λ file keeps row reads. keep_ends (g.O.ByteSink.written c.args.sink.now) (g.O.ByteSink.written
     c.make_room.new.sink) c.args.buffer.now.bytes c.make_room.new.buffer.bytes c.keep_line.new.buffer.bytes (line_of
     c.args.row.now.row.table row) c.in_err-keep_line.field-0.0
@@ -21,7 +21,7 @@ returns-in_err-flush-clause-moves g c =
     let keeps = rw c.if-branch.false at c.in_ok-keep_line.ensures.keeps in
     let r = err_from_is_err_and c.from_residual-in_err-flush.result c.from_residual-in_err-flush.ensures.1 in
     rw (r.1, r.2)
-    (told1 (g.S.PageSource.content c.args.source.now)
+    (map_told (g.S.PageSource.content c.args.source.now)
     (λ file keeps row reads. flush_ends (g.O.ByteSink.written c.args.sink.now) (g.O.ByteSink.written
     c.make_room.new.sink) (g.O.ByteSink.written c.flush.new.sink) c.args.buffer.now.bytes
     c.make_room.new.buffer.bytes c.keep_line.new.buffer.bytes c.flush.new.self.bytes
@@ -33,7 +33,7 @@ pub returns-clause-moves : goal.returns-clause-moves
 returns-clause-moves g c =
     let keeps = rw c.if-branch.false at c.in_ok-keep_line.ensures.keeps in
     let puts = rw c.in_ok-keep_line.ensures.same at c.put_row.ensures.puts in
-    told2 (g.S.PageSource.content c.args.source.now)
+    map_told2 (g.S.PageSource.content c.args.source.now)
     (λ file keeps puts row reads. flushed_line (g.O.ByteSink.written c.args.sink.now) (g.O.ByteSink.written
     c.make_room.new.sink) (g.O.ByteSink.written c.flush.new.sink) (g.O.ByteSink.written c.put_row.new.sink)
     c.args.buffer.now.bytes c.make_room.new.buffer.bytes c.keep_line.new.buffer.bytes c.flush.new.self.bytes (line_of

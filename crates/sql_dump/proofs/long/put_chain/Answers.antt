@@ -1,6 +1,6 @@
 use Rattle.std.proofs.Common.{◌+◌, slice_range, ap, ◌∙◌, arith, refl, sym, subst}
 use Rattle.std.proofs.lemmas.Result.{err_from_is_err_and}
-use Rattle.page_source.proofs.Told.{told1, told2, told3}
+use Rattle.page_source.proofs.Told.{map_told, map_told2, map_told3}
 use Rattle.page_source.specs.Objects.{GrowsBy, GrowsByPart}
 use Rattle.row_text.specs.Writer.{Writer, long_part}
 use Rattle.offpage_chain.specs.Reader.{ChainRest}
@@ -20,7 +20,7 @@ loop-length-init g c = record {
   some = no_bytes c.args.kind.now (g.O.ByteSink.written c.args.sink.now) c.args.reference.now.length
       c.args.writer.now.lacks c.parts_are_the_value.ensures.none c.requires.lacks;
   lacks = c.requires.lacks ∙ sym (ap (λ (r : ChainRest). r.lacks) c.new-reader.ensures);
-  told = told1 (g.S.PageSource.content c.args.source.now)
+  told = map_told (g.S.PageSource.content c.args.source.now)
       (λ file can. chain_start file c.args.reference.now c.args.kind.now c.new-reader.result
       (g.O.ByteSink.written c.args.sink.now) c.args.room.now.left c.parts_are_the_value.ensures.none
       c.new-reader.ensures can)
@@ -33,7 +33,7 @@ returns-in_err-length-clause-puts g c =
     let never = rw i.same at c.in_err-length.ensures.never in
     let r = err_from_is_err_and c.from_residual.result c.from_residual.ensures.1 in
     rw (r.1, r.2)
-    (told3 (g.S.PageSource.content c.args.source.now)
+    (map_told3 (g.S.PageSource.content c.args.source.now)
     (λ file can so never. chain_breaks file c.args.reference.now c.args.kind.now c.loop-length.reader
     (g.O.ByteSink.written c.args.sink.now) (g.O.ByteSink.written c.loop-length.sink) c.args.room.now.left
     c.loop-length.room.left c.in_err-length.field-0.0 c.parts_are_the_value.ensures.join so can.few
@@ -78,7 +78,7 @@ loop-length-preserved g c =
         gives.0,
         ap (λ (r : ChainRest). r.lacks) gives.2,
       );
-      told = told2 (g.S.PageSource.content c.args.source.now)
+      told = map_told2 (g.S.PageSource.content c.args.source.now)
           (λ file so next. chain_more file c.args.reference.now c.args.kind.now c.loop-length.reader c.part.new.self
           (g.O.ByteSink.written c.args.sink.now) (g.O.ByteSink.written c.loop-length.sink)
           (g.O.ByteSink.written c.put_part.new.sink) c.args.room.now.left c.loop-length.room.left c.part.new.left
@@ -97,7 +97,7 @@ returns-in_err-put_part-clause-puts g c =
     let next = rw (c.in-Some.is, i.same) at c.in_ok-length.ensures.next in
     let r = err_from_is_err_and c.from_residual-in_err-put_part.result c.from_residual-in_err-put_part.ensures.1 in
     rw (r.1, r.2)
-    (told2 (g.S.PageSource.content c.args.source.now)
+    (map_told2 (g.S.PageSource.content c.args.source.now)
     (λ file so next. chain_cut file c.args.reference.now c.args.kind.now c.loop-length.reader c.part.new.self
     (g.O.ByteSink.written c.args.sink.now) (g.O.ByteSink.written c.loop-length.sink)
     (g.O.ByteSink.written c.put_part.new.sink) c.args.room.now.left c.loop-length.room.left
@@ -111,7 +111,7 @@ pub returns-clause-puts : goal.returns-clause-puts
 returns-clause-puts g c =
     let i = c.loop-length.invariant in
     let next = rw (c.in_default.is, i.same) at c.in_ok-length.ensures.next in
-    told2 (g.S.PageSource.content c.args.source.now)
+    map_told2 (g.S.PageSource.content c.args.source.now)
     (λ file so next. (chain_ends file c.args.reference.now c.args.kind.now c.loop-length.reader c.part.new.self
     (g.O.ByteSink.written c.args.sink.now) (g.O.ByteSink.written c.loop-length.sink) c.args.room.now.left
     c.loop-length.room.left c.part.new.page so next).0)

@@ -1,5 +1,5 @@
 use Rattle.std.proofs.lemmas.Result.{err_from_is_err_and}
-use Rattle.page_source.proofs.Told.{told0, told1}
+use Rattle.page_source.proofs.Told.{if_told, map_told}
 use Rattle.row_text.specs.Writer.{before_value}
 use Rattle.sql_dump.proofs.Longs.{long_in_four, first_cut, second_cut, third_ends, last_cut, all_four}
 use Rattle.sql_dump.proofs.SomeValues.{part_grows, grows_more, long_value}
@@ -9,7 +9,7 @@ pub returns-in_err-start_long-clause-puts : goal.returns-in_err-start_long-claus
 returns-in_err-start_long-clause-puts g c =
     let r = err_from_is_err_and c.from_residual.result c.from_residual.ensures.1 in
     rw (r.1, r.2)
-    (told0 (g.S.PageSource.content c.args.source.now)
+    (if_told (g.S.PageSource.content c.args.source.now)
     (λ file. first_cut (g.O.ByteSink.written c.args.sink.now) (g.O.ByteSink.written c.start_long.new.sink)
     (long_in_four file c.args.kind.now (before_value c.args.writer.now.came) c.parts_are_the_value.ensures.join
     c.local_parts-value.ensures)
@@ -19,7 +19,7 @@ pub returns-in_err-put_part-clause-puts : goal.returns-in_err-put_part-clause-pu
 returns-in_err-put_part-clause-puts g c =
     let r = err_from_is_err_and c.from_residual-in_err-put_part.result c.from_residual-in_err-put_part.ensures.1 in
     rw (r.1, r.2)
-    (told0 (g.S.PageSource.content c.args.source.now)
+    (if_told (g.S.PageSource.content c.args.source.now)
     (λ file. second_cut (g.O.ByteSink.written c.args.sink.now) (g.O.ByteSink.written c.start_long.new.sink)
     (g.O.ByteSink.written c.put_part.new.sink)
     (long_in_four file c.args.kind.now (before_value c.args.writer.now.came) c.parts_are_the_value.ensures.join
@@ -30,7 +30,7 @@ pub returns-in_err-put_chain-clause-puts : goal.returns-in_err-put_chain-clause-
 returns-in_err-put_chain-clause-puts g c =
     let r = err_from_is_err_and c.from_residual-in_err-put_chain.result c.from_residual-in_err-put_chain.ensures.1 in
     rw (r.1, r.2)
-    (told1 (g.S.PageSource.content c.args.source.now)
+    (map_told (g.S.PageSource.content c.args.source.now)
     (λ file ends. third_ends (g.O.ByteSink.written c.args.sink.now) (g.O.ByteSink.written c.start_long.new.sink)
     (g.O.ByteSink.written c.put_part.new.sink) (g.O.ByteSink.written c.put_chain.new.sink)
     c.in_err-put_chain.field-0.0
@@ -43,7 +43,7 @@ pub returns-in_err-end_long-clause-puts : goal.returns-in_err-end_long-clause-pu
 returns-in_err-end_long-clause-puts g c =
     let r = err_from_is_err_and c.from_residual-in_err-end_long.result c.from_residual-in_err-end_long.ensures.1 in
     rw (r.1, r.2)
-    (told1 (g.S.PageSource.content c.args.source.now)
+    (map_told (g.S.PageSource.content c.args.source.now)
     (λ file chain. last_cut (g.O.ByteSink.written c.args.sink.now) (g.O.ByteSink.written c.start_long.new.sink)
     (g.O.ByteSink.written c.put_part.new.sink) (g.O.ByteSink.written c.put_chain.new.sink)
     (g.O.ByteSink.written c.end_long.new.sink)
@@ -54,7 +54,7 @@ returns-in_err-end_long-clause-puts g c =
 
 pub returns-clause-puts : goal.returns-clause-puts
 returns-clause-puts g c =
-    told1 (g.S.PageSource.content c.args.source.now)
+    map_told (g.S.PageSource.content c.args.source.now)
     (λ file chain. all_four (g.O.ByteSink.written c.args.sink.now) (g.O.ByteSink.written c.start_long.new.sink)
     (g.O.ByteSink.written c.put_part.new.sink) (g.O.ByteSink.written c.put_chain.new.sink)
     (g.O.ByteSink.written c.end_long.new.sink)

@@ -1,7 +1,7 @@
 use Rattle.std.proofs.Common.{◌≡◌, ◌<◌, length, get_or, refl, ap, sym, ◌∙◌, subst, inr, arith}
 use Rattle.std.proofs.lemmas.Bool.{false≢true}
 use Rattle.std.proofs.lemmas.Result.{err_from_is_err_and}
-use Rattle.page_source.proofs.Told.{told0, told1, told2}
+use Rattle.page_source.proofs.Told.{if_told, map_told, map_told2}
 use Rattle.column_values.specs.declared.value.Value.TheVariants.{Null}
 use Rattle.schema_text.specs.Grammar.{IsTable}
 use Rattle.row_text.specs.Writer.{Writer}
@@ -18,7 +18,7 @@ returns-in_err-writer-clause-puts g c =
     let part = rw (ap (λ (on : RowOnLeaf). on.row.table) c.row.view_is) at c.in_err-writer.ensures.puts.failed in
     let r = err_from_is_err_and c.from_residual.result c.from_residual.ensures.1 in
     rw (r.1, r.2)
-    (told0 (g.S.PageSource.content c.args.source.now)
+    (if_told (g.S.PageSource.content c.args.source.now)
     (λ file row_values reads. line_cut c.args.row.now.row.table row_values (g.O.ByteSink.written c.args.sink.now)
     (g.O.ByteSink.written c.begin.new.sink) reads.count part))
 
@@ -71,8 +71,8 @@ loop-c-init g c =
       came = ap (λ (w : Writer). w.came) c.in_ok-writer.ensures.fresh;
       some = row_begins row.table (g.O.ByteSink.written c.args.sink.now) (g.O.ByteSink.written c.begin.new.sink) grown;
       near = λ _. refl;
-      used = told0 (g.S.PageSource.content c.args.source.now) (λ file. omega (arith, pages_none file row));
-      text = told0 (g.S.PageSource.content c.args.source.now)
+      used = if_told (g.S.PageSource.content c.args.source.now) (λ file. omega (arith, pages_none file row));
+      text = if_told (g.S.PageSource.content c.args.source.now)
           (λ file row_values reads. line_begins row.table row_values (g.O.ByteSink.written c.args.sink.now)
           (g.O.ByteSink.written c.begin.new.sink) grown);
     }
@@ -94,7 +94,7 @@ returns-then-not-is_sound-clause-puts g c =
       column_count (ap (λ (on : RowOnLeaf). on.row) c.row.view_is) c.columns-c-end.ensures.same,
       c.loop-c-test.true,
     ) in
-    told0 (g.S.PageSource.content c.args.source.now)
+    if_told (g.S.PageSource.content c.args.source.now)
     (λ file row_values reads. absurd (false≢true (c.if-not-is_sound.ensures.1 (sound_value file c.cell-cell.result _
     (cell_reads file row c.loop-c.c c.cell-cell.result row_values c.cell-cell.ensures within reads)))))
 
@@ -109,7 +109,7 @@ put_value-requires-clause-told g c =
       c.loop-c-test.true,
     ) in
     rw i.same
-    (told2 (g.S.PageSource.content c.args.source.now)
+    (map_told2 (g.S.PageSource.content c.args.source.now)
     (λ file can used.
     let pages = pages_within file row c.loop-c.c (length row.table.columns) within in
     let here = cell_pages file row c.loop-c.c c.cell-cell.result c.cell-cell.ensures in
@@ -134,7 +134,7 @@ returns-in_err-put_value-clause-puts g c =
     let puts = rw i.same at c.in_err-put_value.ensures.puts in
     let r = err_from_is_err_and c.from_residual-in_err-put_value.result c.from_residual-in_err-put_value.ensures.1 in
     rw (r.1, r.2)
-    (told2 (g.S.PageSource.content c.args.source.now)
+    (map_told2 (g.S.PageSource.content c.args.source.now)
     (λ file text puts row_values reads. line_ends row.table row_values c.loop-c.c c.loop-c.writer.came cell.kind
     (g.O.ByteSink.written c.args.sink.now) (g.O.ByteSink.written c.loop-c.sink) (g.O.ByteSink.written
     c.put_value.new.sink) c.in_err-put_value.field-0.0 reads.count within i.came
@@ -187,7 +187,7 @@ loop-c-preserved g c =
           (ap (λ (x : CellView). x.kind) c.cell-cell.ensures) c.in_ok-put_value.ensures.some;
       near = λ all. c.in_ok-put_value.ensures.near (cell_near row c.loop-c.c cell table placed c.cell-cell.ensures
           within all) ∙ i.near all;
-      used = told2 (g.S.PageSource.content c.args.source.now)
+      used = map_told2 (g.S.PageSource.content c.args.source.now)
           (λ file used left. omega (
             arith,
             used,
@@ -196,7 +196,7 @@ loop-c-preserved g c =
             cell_pages file row c.loop-c.c cell c.cell-cell.ensures,
           ))
           i.used left;
-      text = told2 (g.S.PageSource.content c.args.source.now)
+      text = map_told2 (g.S.PageSource.content c.args.source.now)
           (λ file text puts row_values reads. line_more row.table row_values c.loop-c.c c.loop-c.writer.came cell.kind
           (g.O.ByteSink.written c.args.sink.now) (g.O.ByteSink.written c.loop-c.sink) (g.O.ByteSink.written
           c.put_value.new.sink) i.came (ap (λ (x : CellView). x.kind) c.cell-cell.ensures) (text row_values reads)
@@ -218,7 +218,7 @@ returns-in_err-end-clause-puts g c =
     ) in
     let r = err_from_is_err_and c.from_residual-in_err-end.result c.from_residual-in_err-end.ensures.1 in
     rw (r.1, r.2)
-    (told1 (g.S.PageSource.content c.args.source.now)
+    (map_told (g.S.PageSource.content c.args.source.now)
     (λ file text row_values reads. close_cut table row_values c.loop-c.c (g.O.ByteSink.written c.args.sink.now)
     (g.O.ByteSink.written c.loop-c.sink)
     (g.O.ByteSink.written c.end.new.sink) reads.count last (text row_values reads) c.in_err-end.ensures.failed)
@@ -235,7 +235,7 @@ returns-clause-puts g c =
       c.loop-c-test.false,
       c.loop-c.auto.c-end,
     ) in
-    told1 (g.S.PageSource.content c.args.source.now)
+    map_told (g.S.PageSource.content c.args.source.now)
     (λ file text row_values reads. line_closes table row_values c.loop-c.c (g.O.ByteSink.written c.args.sink.now)
     (g.O.ByteSink.written c.loop-c.sink)
     (g.O.ByteSink.written c.end.new.sink) reads.count last (text row_values reads) c.in_ok-end.ensures.ok)

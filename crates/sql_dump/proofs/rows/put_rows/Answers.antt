@@ -1,6 +1,6 @@
 use Rattle.std.proofs.Common.{◌≡◌, ◌∙◌, Some, None, Ok, Err, refl, ap, arith}
 use Rattle.std.proofs.lemmas.Result.{err_from_is_err_and}
-use Rattle.page_source.proofs.Told.{told2, told3, told4, told5}
+use Rattle.page_source.proofs.Told.{map_told2, map_told3, map_told4, map_told5}
 use Rattle.sql_dump.specs.Cells.{RowOnLeaf, row_on}
 use Rattle.sql_dump.proofs.TableLines.{can_give, found_here, rows_halt, rows_more, rows_end, rows_last, row_here}
 use Rattle.sql_dump.proofs.TableLines.{can_read_row, pages_here, row_given}
@@ -12,7 +12,8 @@ pub next-requires-clause-reads : goal.next-requires-clause-reads
 next-requires-clause-reads g c =
     let i = c.loop-origin.invariant in
     rw i.same
-    (told2 (g.S.PageSource.content c.args.source.now) (λ file can so. can_give can.walked so) c.requires.told i.told)
+    (map_told2 (g.S.PageSource.content c.args.source.now) (λ file can so. can_give can.walked so) c.requires.told
+    i.told)
 
 pub returns-in_err-origin-clause-puts : goal.returns-in_err-origin-clause-puts
 returns-in_err-origin-clause-puts g c =
@@ -20,7 +21,7 @@ returns-in_err-origin-clause-puts g c =
     let finds = rw i.same at c.in_err-origin.ensures.exact in
     let r = err_from_is_err_and c.from_residual.result c.from_residual.ensures.1 in
     rw (r.1, r.2)
-    (told3 (g.S.PageSource.content c.args.source.now)
+    (map_told3 (g.S.PageSource.content c.args.source.now)
     (λ file can so finds all reads. rows_halt c.next.new.self c.in_err-origin.field-0.0 all so
     (found_here (Err c.in_err-origin.field-0.0) c.next.new.self can.walked so finds) reads)
     c.requires.told i.told finds)
@@ -31,7 +32,7 @@ returns-in_err-read-clause-puts g c =
     let table = c.args.reader.now.table in
     let finds = rw (c.in-Some.is, i.same) at c.in_ok-origin.ensures.exact in
     let readable = rw (c.page-page.ensures, i.table) at c.in_err-read.ensures.readable in
-    told3 (g.S.PageSource.content c.args.source.now)
+    map_told3 (g.S.PageSource.content c.args.source.now)
     (λ file can so finds all reads.
     let hand = found_here (Ok (Some c.in-Some.origin)) c.next.new.self can.walked so finds in
     let here = row_here file table c.next.new.self so.j c.in-Some.origin all hand.0 reads in
@@ -50,7 +51,7 @@ put_line-requires g c =
     let same = c.in_ok-origin.ensures.over.same ∙ i.same in
     record {
       told = rw (same, row)
-          (told3 (g.S.PageSource.content c.args.source.now)
+          (map_told3 (g.S.PageSource.content c.args.source.now)
           (λ file can so finds.
           let hand = found_here (Ok (Some c.in-Some.origin)) c.next.new.self can.walked so finds in
           can_read_row c.next.new.self c.in-Some.origin can.all c.requires.table can.reads so hand.0)
@@ -87,7 +88,7 @@ loop-origin-preserved g c =
           (g.O.ByteSink.written c.put_line.new.sink) c.loop-origin.buffer.bytes c.put_line.new.buffer.bytes
           c.args.rows.now.live c.loop-origin.rows.live c.next.new.self.live i.some
           (rw row at c.in_ok-put_line.ensures.some) (rw c.in-Some.is at c.in_ok-origin.ensures.fewer);
-      told = told5 (g.S.PageSource.content c.args.source.now)
+      told = map_told5 (g.S.PageSource.content c.args.source.now)
           (λ file can so finds puts left.
           let hand = found_here (Ok (Some c.in-Some.origin)) c.next.new.self can.walked so finds in
           rows_more c.next.new.self c.put_line.new.room.left _ (g.O.ByteSink.written c.put_line.new.sink)
@@ -109,7 +110,7 @@ returns-in_err-put_line-clause-puts g c =
     let puts = rw (same, row) at c.in_err-put_line.ensures.moves in
     let r = err_from_is_err_and c.from_residual-in_err-put_line.result c.from_residual-in_err-put_line.ensures.1 in
     rw (r.1, r.2)
-    (told4 (g.S.PageSource.content c.args.source.now)
+    (map_told4 (g.S.PageSource.content c.args.source.now)
     (λ file can so finds puts all reads.
     let hand = found_here (Ok (Some c.in-Some.origin)) c.next.new.self can.walked so finds in
     rows_end c.next.new.self (g.O.ByteSink.written c.put_line.new.sink) c.put_line.new.buffer.bytes c.in-Some.origin
@@ -122,7 +123,7 @@ returns-in_err-flush-clause-puts g c =
     let finds = rw (c.in_default.is, i.same) at c.in_ok-origin.ensures.exact in
     let r = err_from_is_err_and c.from_residual-in_err-flush.result c.from_residual-in_err-flush.ensures.1 in
     rw (r.1, r.2)
-    (told3 (g.S.PageSource.content c.args.source.now)
+    (map_told3 (g.S.PageSource.content c.args.source.now)
     (λ file can so finds all reads.
     sent_cut (g.O.ByteSink.written c.args.sink.now) (g.O.ByteSink.written c.loop-origin.sink) (g.O.ByteSink.written
     c.flush.new.sink) _ c.loop-origin.buffer.bytes
@@ -134,7 +135,7 @@ pub returns-clause-puts : goal.returns-clause-puts
 returns-clause-puts g c =
     let i = c.loop-origin.invariant in
     let finds = rw (c.in_default.is, i.same) at c.in_ok-origin.ensures.exact in
-    told3 (g.S.PageSource.content c.args.source.now)
+    map_told3 (g.S.PageSource.content c.args.source.now)
     (λ file can so finds all reads.
     all_sent (g.O.ByteSink.written c.args.sink.now) (g.O.ByteSink.written c.loop-origin.sink) (g.O.ByteSink.written
     c.flush.new.sink) _ c.loop-origin.buffer.bytes

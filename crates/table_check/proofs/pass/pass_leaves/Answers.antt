@@ -1,6 +1,6 @@
 use Rattle.std.proofs.Common.{◌∙◌, Bool, Ok, arith, refl, ap, suc}
 use Rattle.std.proofs.lemmas.Result.{err_from_is_err_and}
-use Rattle.page_source.proofs.Told.{told0, told2}
+use Rattle.page_source.proofs.Told.{if_told, map_told2}
 use Rattle.tree_walk.specs.Index.{index_of}
 use Rattle.table_check.proofs.Progress.{over_both, halt_as}
 use Rattle.table_check.proofs.LeafPass.{none_came, one_came, none_follows, come_halts, taken_more, taken_all}
@@ -15,7 +15,7 @@ loop-init g c = record {
   goes_on = c.requires.goes_on;
   spent = refl;
   reads = c.requires.reads;
-  told = told0 (g.S.PageSource.content c.args.source.now) (λ file root fields node i walked has. (i, has));
+  told = if_told (g.S.PageSource.content c.args.source.now) (λ file root fields node i walked has. (i, has));
   came = λ n is. none_came n c.args.cursor.now.leaf c.args.cursor.now.last is;
 }
 
@@ -28,7 +28,7 @@ returns-in_err-next_leaf-clause-exact g c =
     let found = rw i.same at c.in_err-next_leaf.ensures.exact in
     let r = err_from_is_err_and c.from_residual.result c.from_residual.ensures.1 in
     rw (r.1, r.2)
-    (told2 (g.S.PageSource.content c.args.source.now)
+    (map_told2 (g.S.PageSource.content c.args.source.now)
     (λ file t f root fields node j walked has.
     let some = t root fields node j walked has in
     halts_nowhere (Unit {0})
@@ -72,7 +72,7 @@ loop-preserved g c =
       asked = omega (arith, i.asked, c.next_leaf.ensures.keeps.asked);
       goes_on = rw c.if-branch.true at c.in_ok-next_leaf.ensures.ended;
       spent = c.next_leaf.ensures.steps ∙ i.spent;
-      reads = told2 o
+      reads = map_told2 o
           (λ file r f. record {
             root = r.root;
             fields = r.fields;
@@ -83,7 +83,7 @@ loop-preserved g c =
                 r.taken (f r.root r.fields r.node r.taken r.walked r.has) last;
           })
           i.reads found;
-      told = told2 o
+      told = map_told2 o
           (λ file t f root fields node j walked has.
           let some = t root fields node j walked has in (
             suc some.0,
@@ -100,7 +100,7 @@ returns-clause-exact g c =
     let i = c.loop.invariant in
     let found = rw (c.if-branch.false, i.same) at c.in_ok-next_leaf.ensures.exact in
     let hops = rw c.if-branch.false at c.in_ok-next_leaf.ensures.hops in
-    told2 (g.S.PageSource.content c.args.source.now)
+    map_told2 (g.S.PageSource.content c.args.source.now)
     (λ file t f root fields node j walked has.
     let some = t root fields node j walked has in
     taken_all (index_of file root fields node) c.loop.cursor.leaf c.next_leaf.new.self.leaf c.loop.cursor.last some.0

@@ -2,7 +2,7 @@ use Rattle.std.proofs.Common.{length, ◌<◌, ap, ◌∙◌, arith}
 use Rattle.std.proofs.lemmas.Result.{err_from_is_err_and}
 use Rattle.compact_record.specs.Reading.{field_count}
 use Rattle.compact_record.proofs.KeySteps.{count_of_places}
-use Rattle.page_source.proofs.Told.{told0}
+use Rattle.page_source.proofs.Told.{if_told}
 use Rattle.table_check.proofs.Progress.{unmarked_most}
 use Rattle.table_check.proofs.RecordMarks.{place_read, field_read}
 use Rattle.table_check.proofs.RecordMarks.{none_held, field_breaks, field_holds, all_held, field_steps, all_steps}
@@ -13,7 +13,7 @@ pub loop-i-init : goal.loop-i-init
 loop-i-init g c = record {
   have = none_held c.args.marks.now c.args.steps.now;
   asked = omega arith;
-  told = told0 (g.S.PageSource.content c.args.source.now) (λ file. omega arith);
+  told = if_told (g.S.PageSource.content c.args.source.now) (λ file. omega arith);
 }
 
 pub bounds-places-i : goal.bounds-places-i
@@ -48,8 +48,8 @@ returns-in_err-count-clause-checks g c =
     (c.places.ensures ∙ c.requires.whole.read.holds) within)
     _ _ _ c.in_err-count.field-0.0 c.in_err-count.ensures.checks)
 
-pub returns-in_err-count-clause-told : goal.returns-in_err-count-clause-told
-returns-in_err-count-clause-told g c =
+pub returns-in_err-count-clause-steps_if_told : goal.returns-in_err-count-clause-steps_if_told
+returns-in_err-count-clause-steps_if_told g c =
     let leaf = c.args.leaf.now in
     let fields = leaf.fields.now in
     let within : c.loop-i.i < field_count fields =
@@ -58,7 +58,7 @@ returns-in_err-count-clause-told g c =
     (field_read fields c.fields-field-items.result.now c.loop-i.i _ c.fields-field-items.ensures.same within)
     (place_read leaf.page.now c.args.located.now.origin fields c.places.result.now c.loop-i.i _
     (c.places.ensures ∙ c.requires.whole.read.holds) within)
-    c.check_field.new.source c.check_field.new.marks _ c.loop-i.invariant.told c.check_field.ensures.told
+    c.check_field.new.source c.check_field.new.marks _ c.loop-i.invariant.told c.check_field.ensures.steps_if_told
 
 pub overflow_add-count : goal.overflow_add-count
 overflow_add-count g c =
@@ -89,11 +89,12 @@ loop-i-preserved g c =
           (field_read fields c.fields-field-items.result.now c.loop-i.i _ c.fields-field-items.ensures.same within)
           (place_read leaf.page.now c.args.located.now.origin fields c.places.result.now c.loop-i.i _
           (c.places.ensures ∙ c.requires.whole.read.holds) within)
-          c.check_field.new.source c.check_field.new.marks _ c.loop-i.invariant.told c.check_field.ensures.told;
+          c.check_field.new.source c.check_field.new.marks _ c.loop-i.invariant.told
+          c.check_field.ensures.steps_if_told;
     }
 
-pub returns-clause-told : goal.returns-clause-told
-returns-clause-told g c =
+pub returns-clause-steps_if_told : goal.returns-clause-steps_if_told
+returns-clause-steps_if_told g c =
     steps_held g.S.PageSource c.args.source.now c.args.steps.now c.loop-i.steps c.loop-i.i c.args.leaf.now
     c.args.located.now.origin c.loop-i.invariant.told
     (omega (arith, ap length c.fields-field-items.ensures.same, c.loop-i-test.false, c.loop-i.auto.i-end))

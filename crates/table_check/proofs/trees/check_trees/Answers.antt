@@ -1,12 +1,12 @@
 use Rattle.std.proofs.Common.{Some, None, inr}
 use Rattle.std.proofs.lemmas.Result.{err_from_is_err_and}
-use Rattle.page_source.proofs.Told.{told0, told3, told4}
+use Rattle.page_source.proofs.Told.{if_told, map_told3, map_told4}
 use Rattle.table_check.proofs.TreeSteps.{none_taken, named_checked}
 use Rattle.table_check.proofs.trees.check_trees.Goals as goal
 
 pub walk_indexes-requires-clause-told : goal.walk_indexes-requires-clause-told
 walk_indexes-requires-clause-told g c =
-    told0 (g.S.PageSource.content c.args.source.now)
+    if_told (g.S.PageSource.content c.args.source.now)
     (λ file. none_taken file c.args.schema.now
     (record { pages = c.in_ok-pages.pages; segments = c.in_ok-segments.segments }) c.size.result c.segment_count.result
     c.in_ok-pages.ensures c.in_ok-segments.ensures)
@@ -16,7 +16,7 @@ returns-in_err-check_named-clause-exact g c =
     let r = err_from_is_err_and c.from_residual-in_err-check_named.result
     c.from_residual-in_err-check_named.ensures.1 in
     rw (r.1, r.2)
-    (told3 (g.S.PageSource.content c.args.source.now)
+    (map_told3 (g.S.PageSource.content c.args.source.now)
     (λ file audit trees are. inr (
       trees,
       named_checked file c.args.schema.now c.walk_indexes.new.taken.segments c.args.space.now.segments
@@ -26,7 +26,7 @@ returns-in_err-check_named-clause-exact g c =
 
 pub returns-clause-exact : goal.returns-clause-exact
 returns-clause-exact g c =
-    told3 (g.S.PageSource.content c.args.source.now)
+    map_told3 (g.S.PageSource.content c.args.source.now)
     (λ file audit trees are. (
       trees,
       named_checked file c.args.schema.now c.walk_indexes.new.taken.segments c.args.space.now.segments
@@ -36,7 +36,7 @@ returns-clause-exact g c =
 
 pub returns-clause-trees : goal.returns-clause-trees
 returns-clause-trees g c =
-    told4 (g.S.PageSource.content c.args.source.now)
+    map_told4 (g.S.PageSource.content c.args.source.now)
     (λ file audit trees are ends. record {
       sound = trees;
       named = named_checked file c.args.schema.now c.walk_indexes.new.taken.segments c.args.space.now.segments

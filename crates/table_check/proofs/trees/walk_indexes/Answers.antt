@@ -1,6 +1,6 @@
 use Rattle.std.proofs.Common.{◌≡◌, ℕ, List, [], ◌∷◌, ◌++◌, length, ap, ◌∙◌, subst, arith, length-append}
 use Rattle.std.proofs.lemmas.Result.{err_from_is_err_and}
-use Rattle.page_source.proofs.Told.{told1, told2, told3, told4}
+use Rattle.page_source.proofs.Told.{map_told, map_told2, map_told3, map_told4}
 use Rattle.tree_walk.specs.declared.ends.TreeEnds.{TreeEnds}
 use Rattle.page_source.specs.Verdict.{AllBelow}
 use Rattle.table_check.specs.Taken.{AreWalked, AreEnds}
@@ -12,7 +12,7 @@ pub returns-in_err-clustered-clause-exact : goal.returns-in_err-clustered-clause
 returns-in_err-clustered-clause-exact g c =
     let r = err_from_is_err_and c.from_residual-in_err-clustered.result c.from_residual-in_err-clustered.ensures.1 in
     rw (r.1, r.2)
-    (told1 (g.S.PageSource.content c.args.source.now)
+    (map_told (g.S.PageSource.content c.args.source.now)
     (λ file at. each_stops (index_count c.args.schema.now) 0
     (IndexCheck file c.args.schema.now) c.in_err-clustered.field-0.0
     (omega (arith, c.indexes-count.ensures.table.clustered)) (λ j below. absurd (omega (arith, below))) at)
@@ -37,12 +37,12 @@ loop-j-init g c =
       count = ap length first_list;
       least = omega (arith, first_leaves);
       ends =
-          told2 (g.S.PageSource.content c.args.source.now)
+          map_told2 (g.S.PageSource.content c.args.source.now)
           (λ file walked ends. ends_more file c.args.schema.now 0 [] c.push.new.list c.in_ok-clustered.clustered
           (ends_none file c.args.schema.now) first_list walked ends)
           c.in_ok-clustered.ensures.walked c.in_ok-clustered.ensures.ends;
       told =
-          told4 (g.S.PageSource.content c.args.source.now)
+          map_told4 (g.S.PageSource.content c.args.source.now)
           (λ file check taken walked ends. walked_first file c.args.schema.now c.walk_index.new.taken
           c.in_ok-clustered.clustered c.args.leaf_segments.now.items c.push.new.segments.items c.requires.empty
           c.in_ok-push.ensures.segments check
@@ -56,7 +56,7 @@ returns-in_err-ends-clause-exact g c =
     let r = err_from_is_err_and c.from_residual-in_err-ends.result c.from_residual-in_err-ends.ensures.1 in
     let at = rw c.loop-j.invariant.same at c.in_err-ends.ensures.exact in
     rw (r.1, r.2)
-    (told2 (g.S.PageSource.content c.args.source.now)
+    (map_told2 (g.S.PageSource.content c.args.source.now)
     (λ file are at. each_stops (index_count c.args.schema.now) c.loop-j.j (IndexCheck file c.args.schema.now)
     c.in_err-ends.field-0.0 (omega (arith, c.loop-j-test.true, ap length c.indexes-count.ensures.same)) are.held at)
     c.loop-j.invariant.told at)
@@ -90,12 +90,12 @@ loop-j-preserved g c =
       );
       least = omega (arith, inv.least, grown);
       ends =
-          told3 (g.S.PageSource.content c.args.source.now)
+          map_told3 (g.S.PageSource.content c.args.source.now)
           (λ file are walked ends. ends_more file c.args.schema.now c.loop-j.j c.loop-j.list
           c.push-in-loop-j.new.list c.in_ok-ends.ends are c.in_ok-push-2.ensures.ends walked ends)
           inv.ends walked ends;
       told =
-          told4 (g.S.PageSource.content c.args.source.now)
+          map_told4 (g.S.PageSource.content c.args.source.now)
           (λ file are check taken ends. walked_more file c.args.schema.now c.loop-j.j c.loop-j.taken
           c.walk_index-in-loop-j.new.taken c.in_ok-clustered.clustered
           c.in_ok-ends.ends
@@ -114,7 +114,7 @@ returns-clause-exact g c =
       ap length c.indexes-count.ensures.same,
       c.indexes-count.ensures.table.clustered,
     ) in
-    told1 (g.S.PageSource.content c.args.source.now)
+    map_told (g.S.PageSource.content c.args.source.now)
     (λ file are. subst (λ (n : ℕ). AllBelow (IndexCheck file c.args.schema.now) n) e are.held) c.loop-j.invariant.told
 
 pub returns-clause-walked : goal.returns-clause-walked
@@ -127,7 +127,7 @@ returns-clause-walked g c =
       ap length c.indexes-count.ensures.same,
       c.indexes-count.ensures.table.clustered,
     ) in
-    told1 (g.S.PageSource.content c.args.source.now)
+    map_told (g.S.PageSource.content c.args.source.now)
     (λ file are. subst (λ (n : ℕ). AreWalked file c.args.schema.now n c.loop-j.taken
     c.in_ok-clustered.clustered c.loop-j.leaf_segments.items) e are) c.loop-j.invariant.told
 
@@ -141,7 +141,7 @@ returns-clause-ends g c =
       ap length c.indexes-count.ensures.same,
       c.indexes-count.ensures.table.clustered,
     ) in
-    told1 (g.S.PageSource.content c.args.source.now)
+    map_told (g.S.PageSource.content c.args.source.now)
     (λ file are. subst (λ (n : ℕ). AreEnds file c.args.schema.now n c.loop-j.list) e are) c.loop-j.invariant.ends
 
 pub returns-clause-count : goal.returns-clause-count

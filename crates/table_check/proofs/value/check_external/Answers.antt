@@ -2,7 +2,7 @@ use Rattle.std.proofs.Common.{◌≡◌, ◌≤◌, ◌+◌, ◌-◌, List, ℕ,
 use Rattle.std.specs.Prelude.{IfOk, OnOk}
 use Rattle.page_source.specs.Checks.{Halts}
 use Rattle.page_source.specs.Calls.{OfFile}
-use Rattle.page_source.proofs.Told.{told0, told1}
+use Rattle.page_source.proofs.Told.{if_told, map_told}
 use Rattle.column_values.specs.Utf8Reader.{TakesText, WasFed, IsFed}
 use Rattle.space_audit.specs.Marks.{is_set, Marked}
 use Rattle.offpage_chain.specs.declared.reference.Reference.{Reference}
@@ -19,15 +19,15 @@ check_chain_in-requires-clause-count g c =
     (arith, c.split_local.ensures.size, c.requires.most))
     (c.feed.ensures.counts 0 c.text_of-text.ensures.count)
 
-pub returns-then-front-reference-clause-told : goal.returns-then-front-reference-clause-told
-returns-then-front-reference-clause-told g c =
-    told0 (g.S.PageSource.content c.args.source.now) (λ file. omega arith)
+pub returns-then-front-reference-clause-steps_if_told : goal.returns-then-front-reference-clause-steps_if_told
+returns-then-front-reference-clause-steps_if_told g c =
+    if_told (g.S.PageSource.content c.args.source.now) (λ file. omega arith)
 
-pub returns-clause-told : goal.returns-clause-told
-returns-clause-told g c =
-    told1 (g.S.PageSource.content c.args.source.now)
+pub returns-clause-steps_if_told : goal.returns-clause-steps_if_told
+returns-clause-steps_if_told g c =
+    map_told (g.S.PageSource.content c.args.source.now)
     (λ file few. subst (λ (r : Reference). c.check_chain_in.new.steps ≤ c.args.steps.now + length (chain_pages file r))
-    c.split_local.ensures.reference few) c.check_chain_in.ensures.told
+    c.split_local.ensures.reference few) c.check_chain_in.ensures.steps_if_told
 
 pub returns-clause-checks : goal.returns-clause-checks
 returns-clause-checks g c =
@@ -44,7 +44,7 @@ returns-clause-checks g c =
     let was : WasFed c.feed.new.self (front_of local) = feeds.fed [] c.text_of-text.ensures.fresh in
     record {
       exact =
-          told1 (g.S.PageSource.content c.args.source.now)
+          map_told (g.S.PageSource.content c.args.source.now)
           (λ file chain. value_goes_on file (place_on file leaf) leaf.number kind local (is_set c.args.marks.now)
           (λ bytes. TakesText c.feed.new.self (front_of local ++ bytes)) fits
           (text_behind kind local c.text_of-text.result c.feed.new.self c.text_of-text.ensures.takes feeds)

@@ -1,6 +1,6 @@
 use Rattle.std.proofs.Common.{ℕ, ◌+◌, ◌-◌, Ok, Err, Option, Some, None, refl, ap, ◌∙◌, arith}
 use Rattle.std.proofs.lemmas.Result.{err_from_is_err_and}
-use Rattle.page_source.proofs.Told.{told2, told3}
+use Rattle.page_source.proofs.Told.{map_told2, map_told3}
 use Rattle.space_audit.specs.Marks.{is_set}
 use Rattle.table_check.specs.Trees.{clustered_tree}
 use Rattle.table_check.specs.Values.{RowChecks, all_chain_pages}
@@ -26,7 +26,7 @@ pub next-requires-clause-reads : goal.next-requires-clause-reads
 next-requires-clause-reads g c =
     let have = c.loop-origin.invariant.have in
     rw have.has.same
-    (told2 (g.S.PageSource.content c.args.source.now)
+    (map_told2 (g.S.PageSource.content c.args.source.now)
     (λ file t gives. can_give file c.args.schema.now c.loop-origin.rows (c.args.rows.now.live - c.loop-origin.rows.live)
     t.walked gives)
     c.requires.told have.gives)
@@ -43,7 +43,7 @@ returns-in_err-origin-clause-checks g c =
     (λ file. RowChecks (clustered_tree file table) (is_set c.args.marks.now))
     (λ file. all_chain_pages (clustered_tree file table))
     have.has c.in_err-origin.ensures.over (omega (arith, c.in_err-origin.ensures.steps))
-    (told3 (g.S.PageSource.content c.args.source.now)
+    (map_told3 (g.S.PageSource.content c.args.source.now)
     (λ file t gives x. never_breaks (clustered_tree file table) given halt c.next.new.self
     (RowChecks (clustered_tree file table) (is_set c.args.marks.now))
     (finds file table c.loop-origin.rows c.next.new.self given (Err halt) x t.walked gives))

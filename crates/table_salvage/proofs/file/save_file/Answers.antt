@@ -2,7 +2,7 @@ use Rattle.std.proofs.Common.{◌≡◌, ◌∙◌, ℕ, List, Bool, false, leng
 use Rattle.std.proofs.lemmas.Bool.{MatchBool-at_true, MatchBool-at_false}
 use Rattle.std.proofs.lemmas.Result.{err_from_is_err_and}
 use Rattle.std.proofs.lemmas.List.{length-replicate}
-use Rattle.page_source.proofs.Told.{told1, told2}
+use Rattle.page_source.proofs.Told.{map_told, map_told2}
 use Rattle.table_check.proofs.Progress.{unmarked_most}
 use Rattle.leaf_salvage.specs.Standing.{reach_of}
 use Rattle.salvage_model.specs.IndexId.{IsId}
@@ -33,7 +33,7 @@ loop-n-init g c =
     record {
       ready = record {
         look = record {
-          told = rw (same, search.pages) (told1 (g.S.PageSource.content c.args.source.now)
+          told = rw (same, search.pages) (map_told (g.S.PageSource.content c.args.source.now)
               (λ file tells. omega (arith, tells, c.min-pages.ensures)) c.in-Ok.ensures.count);
           members = members ∙ sym search.pages;
         };
@@ -51,7 +51,7 @@ loop-n-init g c =
           (omega (arith, c.in_ok-id.ensures.asked, c.in-Ok.ensures.asked)));
       told =
           let found = rw c.in-Ok.ensures.same at c.in_ok-id.ensures.found in
-          told1 (g.S.PageSource.content c.args.source.now)
+          map_told (g.S.PageSource.content c.args.source.now)
           (λ file is. (
             subst (λ (id : ℕ). IsId file c.args.schema.now c.args.wish.index id) (sym search.id) is,
             begins c.min-pages.result room.knows
@@ -72,7 +72,7 @@ returns-in_err-save_page-clause-told g c =
     let goes = rw i.over.same at c.in_err-save_page.ensures.goes.told in
     let over = over_then g.S.PageSource g.O.ByteSink g.E.ByteSink i.over c.in_err-save_page.ensures.over in
     rw (r.1, r.2)
-    (told2 (g.S.PageSource.content c.args.source.now)
+    (map_told2 (g.S.PageSource.content c.args.source.now)
     (λ file told goes.
     page_stops wanted _ _ _ c.args.wish.heeds _ _ _ _ c.in_err-save_page.field-0.0 (over.losses_rose refl)
     (is_wanted file wanted _ _ _ search.table search.kind) told.0 (goes _ told.1))
@@ -90,7 +90,7 @@ pub returns-in_err-save_page-clause-steps : goal.returns-in_err-save_page-clause
 returns-in_err-save_page-clause-steps g c =
     let i = c.loop-n.invariant in
     record {
-      told = told1 (g.S.PageSource.content c.args.source.now)
+      told = map_told (g.S.PageSource.content c.args.source.now)
           (λ file tells. omega (
             arith,
             i.paid,
@@ -114,7 +114,7 @@ pub returns-in_err-save_page-clause-fetches : goal.returns-in_err-save_page-clau
 returns-in_err-save_page-clause-fetches g c =
     let i = c.loop-n.invariant in
     record {
-      told = told1 (g.S.PageSource.content c.args.source.now)
+      told = map_told (g.S.PageSource.content c.args.source.now)
           (λ file tells. omega (
             arith,
             i.paid,
@@ -147,7 +147,7 @@ loop-n-preserved g c =
       over = over_then g.S.PageSource g.O.ByteSink g.E.ByteSink i.over e.over;
       told =
           let goes = rw i.over.same at e.goes.told in
-          told2 (g.S.PageSource.content c.args.source.now) (λ file told goes. (told.0, goes _ told.1)) i.told goes;
+          map_told2 (g.S.PageSource.content c.args.source.now) (λ file told goes. (told.0, goes _ told.1)) i.told goes;
     }
 
 pub returns-then-is_err-clause-told : goal.returns-then-is_err-clause-told
@@ -155,7 +155,7 @@ returns-then-is_err-clause-told g c =
     let i = c.loop-n.invariant in
     let wanted : Wanted = record { table = c.args.schema.now; kind = c.args.wish.kind; given = c.args.wish.index } in
     let search = c.in_ok-search.ensures in
-    told1 (g.S.PageSource.content c.args.source.now)
+    map_told (g.S.PageSource.content c.args.source.now)
     (λ file told. has_begun c.args.wish.heeds _ _ (i.over.losses_rose refl)
     (is_wanted file wanted _ _ _ search.table search.kind) told.0 (flush_breaks
     (record { sink = g.O.ByteSink.written c.flush.new.sink; losses = g.E.ByteSink.written c.loop-n.losses })
@@ -174,7 +174,7 @@ returns-then-ends-clause-told g c =
     let search = c.in_ok-search.ensures in
     let ends = MatchBool-at_true _ _ c.if-ends.true c.ends.ensures in
     let goes = rw i.over.same at c.in_ok-save_page.ensures.goes.told in
-    told2 (g.S.PageSource.content c.args.source.now)
+    map_told2 (g.S.PageSource.content c.args.source.now)
     (λ file told goes.
     report_stops c.args.wish.heeds _ _ ends.0 (is_wanted file wanted _ _ _ search.table search.kind) told.0
     (goes _ told.1)) i.told goes
@@ -193,7 +193,7 @@ returns-then-ends-2-clause-told g c =
     let wanted : Wanted = record { table = c.args.schema.now; kind = c.args.wish.kind; given = c.args.wish.index } in
     let search = c.in_ok-search.ensures in
     let ends = MatchBool-at_true _ _ c.if-ends-2.true c.ends-2.ensures in
-    told1 (g.S.PageSource.content c.args.source.now)
+    map_told (g.S.PageSource.content c.args.source.now)
     (λ file told. numbers_stop
     (record { sink = g.O.ByteSink.written c.flush.new.sink; losses = g.E.ByteSink.written c.report_numbers.new.losses })
     c.args.wish.heeds c.report_numbers.new.failed (g.E.ByteSink.faults c.args.losses.now)
@@ -214,7 +214,7 @@ pub returns-then-ends-2-clause-steps : goal.returns-then-ends-2-clause-steps
 returns-then-ends-2-clause-steps g c =
     let i = c.loop-n.invariant in
     record {
-      told = told1 (g.S.PageSource.content c.args.source.now)
+      told = map_told (g.S.PageSource.content c.args.source.now)
           (λ file tells. omega (arith, i.paid, tells, c.min-pages.ensures, c.loop-n.auto.n-end)) c.in-Ok.ensures.count;
       always = omega (arith, i.paid, c.min-pages.ensures, c.loop-n.auto.n-end);
     }
@@ -223,7 +223,7 @@ pub returns-then-ends-2-clause-fetches : goal.returns-then-ends-2-clause-fetches
 returns-then-ends-2-clause-fetches g c =
     let i = c.loop-n.invariant in
     record {
-      told = told1 (g.S.PageSource.content c.args.source.now)
+      told = map_told (g.S.PageSource.content c.args.source.now)
           (λ file tells. omega (
             arith,
             i.paid,
@@ -240,7 +240,7 @@ returns-clause-told g c =
     let i = c.loop-n.invariant in
     let wanted : Wanted = record { table = c.args.schema.now; kind = c.args.wish.kind; given = c.args.wish.index } in
     let search = c.in_ok-search.ensures in
-    told2 (g.S.PageSource.content c.args.source.now)
+    map_told2 (g.S.PageSource.content c.args.source.now)
     (λ file told tells. all_saved
     (record { sink = g.O.ByteSink.written c.flush.new.sink; losses = g.E.ByteSink.written c.report_numbers.new.losses })
     c.args.wish.heeds c.report_numbers.new.failed (g.E.ByteSink.faults c.args.losses.now)
@@ -258,7 +258,7 @@ pub returns-clause-steps : goal.returns-clause-steps
 returns-clause-steps g c =
     let i = c.loop-n.invariant in
     record {
-      told = told1 (g.S.PageSource.content c.args.source.now)
+      told = map_told (g.S.PageSource.content c.args.source.now)
           (λ file tells. omega (arith, i.paid, tells, c.min-pages.ensures, c.loop-n.auto.n-end)) c.in-Ok.ensures.count;
       always = omega (arith, i.paid, c.min-pages.ensures, c.loop-n.auto.n-end);
     }
@@ -267,7 +267,7 @@ pub returns-clause-fetches : goal.returns-clause-fetches
 returns-clause-fetches g c =
     let i = c.loop-n.invariant in
     record {
-      told = told1 (g.S.PageSource.content c.args.source.now)
+      told = map_told (g.S.PageSource.content c.args.source.now)
           (λ file tells. omega (
             arith,
             i.paid,

@@ -1,6 +1,6 @@
 use Rattle.std.proofs.Common.{◌∙◌, refl, sym, arith}
 use Rattle.std.proofs.lemmas.Bool.{false≢true}
-use Rattle.page_source.proofs.Told.{told1, told2, told3}
+use Rattle.page_source.proofs.Told.{map_told, map_told2, map_told3}
 use Rattle.table_salvage.proofs.RowSteps.{of_ok, of_err}
 use Rattle.table_salvage.proofs.PageSteps.{page_unused, page_unread, page_other, page_lost}
 use Rattle.table_salvage.proofs.PageSteps.{leaf_begins, add_lost, add_leaf, IsUsed}
@@ -9,7 +9,7 @@ use Rattle.table_salvage.proofs.page.save_page.Goals as goal
 pub returns-then-is_unused-clause-goes : goal.returns-then-is_unused-clause-goes
 returns-then-is_unused-clause-goes g c =
     record {
-      told = told1 (g.S.PageSource.content c.args.source.now)
+      told = map_told (g.S.PageSource.content c.args.source.now)
           (λ file pages. λ start met.
           page_unused (λ f missed knows. (c.is_unused.ensures.told f missed knows).0 c.if-is_unused.true)
           (λ f missed knows. c.is_unused.ensures.next f missed knows c.if-is_unused.true)
@@ -23,7 +23,7 @@ returns-in-Other-clause-goes g c =
     λ f missed knows free.
     false≢true (sym c.if-is_unused.false ∙ (c.is_unused.ensures.told f missed knows).1 free) in
     record {
-      told = told2 (g.S.PageSource.content c.args.source.now)
+      told = map_told2 (g.S.PageSource.content c.args.source.now)
           (λ file pages bytes. λ start met.
           page_other (record {
             below = omega (arith, pages, c.requires.below);
@@ -45,7 +45,7 @@ returns-then-is_err-clause-goes g c =
     λ f missed knows free.
     false≢true (sym c.if-is_unused.false ∙ (c.is_unused.ensures.told f missed knows).1 free) in
     record {
-      told = told1 (g.S.PageSource.content c.args.source.now)
+      told = map_told (g.S.PageSource.content c.args.source.now)
           (λ file pages. λ start met.
           page_unread used c.miss.ensures (omega (arith, pages, c.requires.below)) c.fetch.ensures.cause.later
           (of_err c.fetch.result (sym c.if-is_err.ensures.value) c.fetch.ensures.cause.failed)
@@ -60,7 +60,7 @@ returns-in-Lost-clause-goes g c =
     λ f missed knows free.
     false≢true (sym c.if-is_unused.false ∙ (c.is_unused.ensures.told f missed knows).1 free) in
     record {
-      told = told2 (g.S.PageSource.content c.args.source.now)
+      told = map_told2 (g.S.PageSource.content c.args.source.now)
           (λ file pages bytes. λ start met.
           page_lost c.in-Lost.rule (record {
             below = omega (arith, pages, c.requires.below);
@@ -84,7 +84,7 @@ returns-in-Leaf-clause-goes g c =
     false≢true (sym c.if-is_unused.false ∙ (c.is_unused.ensures.told f missed knows).1 free) in
     let goes = rw c.fetch.ensures.same at c.save_rows.ensures.goes.told in
     record {
-      told = told3 (g.S.PageSource.content c.args.source.now)
+      told = map_told3 (g.S.PageSource.content c.args.source.now)
           (λ file pages bytes goes. λ start met.
           goes start
           (leaf_begins (record {

@@ -1,6 +1,6 @@
 use Rattle.std.proofs.Common.{◌∙◌, refl, sym, ap, arith}
 use Rattle.std.proofs.lemmas.Result.{err_from_is_err_and}
-use Rattle.page_source.proofs.Told.{told4}
+use Rattle.page_source.proofs.Told.{map_told4}
 use Rattle.sql_dump.specs.Cells.{RowOnLeaf}
 use Rattle.table_salvage.proofs.RowSteps.{judged, row_read, met_put, met_cut, met_cut_long, long_here, line_ends}
 use Rattle.table_salvage.proofs.RowSteps.{counted_whole, counted_partial, told6}
@@ -16,7 +16,7 @@ returns-then-is_whole-clause-goes g c =
     let moves = rw (c.check_columns-room.ensures.over.same) at c.in_ok-put_saved_row.ensures.moves in
     let table_is = ap (λ (r : RowOnLeaf). r.row.table) row_is in
     record {
-      told = told4 (g.S.PageSource.content c.args.source.now)
+      told = map_told4 (g.S.PageSource.content c.args.source.now)
           (λ file held under saves moves. λ start met.
           met_put c.in_ok-put_saved_row.ensures.over.source_later refl refl
           (counted_whole c.args.room.now.saved c.check_columns-room.new.losses c.if-is_whole.ensures)
@@ -36,7 +36,7 @@ returns-else-is_whole-clause-goes g c =
     let moves = rw (c.check_columns-room.ensures.over.same) at c.in_ok-put_saved_row.ensures.moves in
     let table_is = ap (λ (r : RowOnLeaf). r.row.table) row_is in
     record {
-      told = told4 (g.S.PageSource.content c.args.source.now)
+      told = map_told4 (g.S.PageSource.content c.args.source.now)
           (λ file held under saves moves. λ start met.
           met_put c.in_ok-put_saved_row.ensures.over.source_later refl refl
           (counted_partial c.args.room.now.saved c.check_columns-room.new.losses c.if-is_whole.ensures)

@@ -1,6 +1,6 @@
 use Rattle.std.proofs.Common.{◌≡◌, ◌∙◌, ◌+◌, ◌<◌, ℕ, List, refl, sym, ap, arith}
 use Rattle.std.proofs.lemmas.Result.{err_from_is_err_and}
-use Rattle.page_source.proofs.Told.{told1, told2, told3}
+use Rattle.page_source.proofs.Told.{map_told, map_told2, map_told3}
 use Rattle.schema_text.specs.IndexFields.{leaf_fields}
 use Rattle.salvage_model.specs.Records.{list_length, is_of}
 use Rattle.table_salvage.proofs.LeafSteps.{list_read, places_few, is_record, is_none, first_origin, next_at}
@@ -25,7 +25,7 @@ loop-k-init g c =
       paid = omega arith;
       over = over_none g.S.PageSource g.O.ByteSink g.E.ByteSink _ _ _;
       goes = record {
-        told = told1 (g.S.PageSource.content c.args.source.now)
+        told = map_told (g.S.PageSource.content c.args.source.now)
             (λ file held. λ start met.
             leaf_starts page (c.of-list.result.place + 0) held (omega (arith, c.of-list.ensures.place)) met)
             c.requires.held.held;
@@ -116,7 +116,7 @@ loop-k-preserved g c =
             paid = i.paid;
             over = i.over;
             goes = rw next (record {
-              told = told2 (g.S.PageSource.content c.args.source.now)
+              told = map_told2 (g.S.PageSource.content c.args.source.now)
                   (λ file held goes. λ start met.
                   skipped page place held (omega (arith, c.of-list.ensures.place)) isnt (goes start met))
                   c.requires.held.held i.goes.told;
@@ -160,7 +160,7 @@ returns g c =
     let few = places_few page _ law c.args.search.now.kind in
     record {
       goes = record {
-        told = told3 (g.S.PageSource.content c.args.source.now)
+        told = map_told3 (g.S.PageSource.content c.args.source.now)
             (λ file pages held goes. λ start met.
             leaf_ends page (c.of-list.result.place + c.loop-k.k) held (omega (arith, pages, c.requires.held.below))
             (omega (arith, c.loop-k-test.false, c.loop-k.auto.k-end, c.of-list.ensures.count, c.of-list.ensures.place))

@@ -1,18 +1,18 @@
 use Rattle.std.proofs.Common.{◌≡◌, ◌∙◌, ap, refl, arith}
 use Rattle.std.proofs.lemmas.Result.{err_from_is_err_and}
 use Rattle.compact_record.specs.Keys.{child_at}
-use Rattle.page_source.proofs.Told.{told2, told5}
+use Rattle.page_source.proofs.Told.{map_told2, map_told5}
 use Rattle.tree_walk.specs.declared.walk.Walk.{Walk}
 use Rattle.tree_walk.specs.Tree.{index_in}
 use Rattle.tree_walk.proofs.Lists.{unmarked_most}
 use Rattle.tree_walk.proofs.Rooms.{room_join}
-use Rattle.tree_walk.proofs.Steps.{state_first, first_is_record, state_more, level_halts_here, level_holds}
-use Rattle.tree_walk.proofs.Steps.{level_marked, level_is, leftmost_is}
+use Rattle.tree_walk.proofs.LevelSteps.{state_first, first_is_record, state_more, level_halts_here, level_holds}
+use Rattle.tree_walk.proofs.LevelSteps.{level_marked, level_is, leftmost_is}
 use Rattle.tree_walk.proofs.level.walk_level.Goals as goal
 
 pub returns-in_err-read_low-clause-exact : goal.returns-in_err-read_low-clause-exact
 returns-in_err-read_low-clause-exact g c =
-    told2 (g.S.PageSource.content c.args.source.now)
+    map_told2 (g.S.PageSource.content c.args.source.now)
     (λ file a p. absurd (c.in_err-read_low.ensures.err c.in_err-read_low.field-0.0 refl
     (first_is_record (index_in file c.args.aim.now.tree) c.args.aim.now c.args.upper
     c.next_origin-origin.result c.fetch.new.page a p c.next_origin-origin.ensures.value)))
@@ -30,7 +30,7 @@ places-init g c =
       asked = omega (arith, c.in_ok-fetch.ensures.asked.most, c.in_ok-fetch.ensures.step);
       spent = omega (arith, c.in_ok-fetch.ensures.step, c.requires.some);
       told =
-          rw ep (told2 (g.S.PageSource.content c.args.source.now)
+          rw ep (map_told2 (g.S.PageSource.content c.args.source.now)
           (λ file a p. state_first (index_in file c.args.aim.now.tree) c.args.aim.now
           c.args.upper c.next_origin-origin.result c.fetch.new.page a p c.next_origin-origin.ensures.value
           c.args.marks.now)
@@ -48,7 +48,7 @@ returns-in_err-found-clause-exact g c =
     let r = err_from_is_err_and c.from_residual-in_err-found.result c.from_residual-in_err-found.ensures.1 in
     let x = rw c.places.invariant.same at c.in_err-found.ensures.exact in
     rw (r.1, r.2)
-    (told2 (g.S.PageSource.content c.args.source.now)
+    (map_told2 (g.S.PageSource.content c.args.source.now)
     (λ file s x. level_halts_here (index_in file c.args.aim.now.tree) c.args.aim.now
     c.args.marks.now c.places.marks c.places.place c.places.walk.parent c.places.tally s
     c.in_err-found.field-0.0 x)
@@ -62,9 +62,9 @@ returns-in-None-clause-exact g c =
     let m = rw i.same at c.in_ok-found.ensures.marked in
     let t = rw i.same at c.in_ok-found.ensures.tally in
     let f = rw i.same at c.in_ok-found.ensures.follows in
-    told5 o
+    map_told5 o
     (λ file s x m t f. level_holds (index_in file c.args.aim.now.tree) c.args.aim.now
-    c.args.marks.now c.places.marks c.places.place c.places.walk.parent c.places.tally s c.check_here.new.marks
+    c.args.marks.now c.places.marks c.places.place c.places.walk.parent c.places.tally s c.check_pointer.new.marks
     x m c.in_ok-found.found.tally c.sum-tally.result t c.sum-tally.ensures.live c.sum-tally.ensures.deleted
     c.sum-tally.ensures.whole
     (c.in-None.ensures.end refl (index_in file c.args.aim.now.tree) c.args.aim.now.depth
@@ -79,9 +79,9 @@ returns-in-None-clause-marked g c =
     let m = rw i.same at c.in_ok-found.ensures.marked in
     let t = rw i.same at c.in_ok-found.ensures.tally in
     let f = rw i.same at c.in_ok-found.ensures.follows in
-    told5 o
+    map_told5 o
     (λ file s x m t f. level_marked (index_in file c.args.aim.now.tree) c.args.aim.now
-    c.args.marks.now c.places.marks c.places.place c.places.walk.parent c.places.tally s c.check_here.new.marks
+    c.args.marks.now c.places.marks c.places.place c.places.walk.parent c.places.tally s c.check_pointer.new.marks
     x m c.in_ok-found.found.tally c.sum-tally.result t c.sum-tally.ensures.live c.sum-tally.ensures.deleted
     c.sum-tally.ensures.whole
     (c.in-None.ensures.end refl (index_in file c.args.aim.now.tree) c.args.aim.now.depth
@@ -102,19 +102,19 @@ returns-in-None-clause-level g c =
     let q : c.child-leftmost.result ≡ child_at c.fetch.new.page node c.next_origin-origin.result =
     c.child-leftmost.ensures ∙ ap (λ page. child_at page node c.read_low.new.walk.low.origin) ep ∙ ap
     (child_at c.fetch.new.page node) c.in_ok-read_low.ensures.ok.stands in
-    let l = told2 o (λ file a p. leftmost_is (index_in file c.args.aim.now.tree)
+    let l = map_told2 o (λ file a p. leftmost_is (index_in file c.args.aim.now.tree)
     c.args.aim.now c.args.upper c.next_origin-origin.result c.fetch.new.page a p c.next_origin-origin.ensures.value
     c.child-leftmost.result q)
     c.requires.at c.in_ok-fetch.ensures.bytes in
-    let v = told5 o
+    let v = map_told5 o
     (λ file s x m t f. level_is (index_in file c.args.aim.now.tree) c.args.aim.now
-    c.args.marks.now c.places.marks c.places.place c.places.walk.parent c.places.tally s c.check_here.new.marks
+    c.args.marks.now c.places.marks c.places.place c.places.walk.parent c.places.tally s c.check_pointer.new.marks
     x m c.in_ok-found.found.tally c.sum-tally.result t c.sum-tally.ensures.live c.sum-tally.ensures.deleted
     c.sum-tally.ensures.whole
     (c.in-None.ensures.end refl (index_in file c.args.aim.now.tree) c.args.aim.now.depth
     c.places.place.j f))
     i.told x m t f in
-    told2 o (λ file v l. v c.child-leftmost.result l) v l
+    map_told2 o (λ file v l. v c.child-leftmost.result l) v l
 
 pub places-preserved : goal.places-preserved
 places-preserved g c =
@@ -141,10 +141,10 @@ places-preserved g c =
       asked = omega (arith, i.asked, c.in_ok-found.ensures.stays.over.asked);
       spent = omega (arith, n, i.spent, c.in_ok-found.ensures.spent, c.in-Some.ensures.more);
       told =
-          told5 o
+          map_told5 o
           (λ file s x m t f. state_more (index_in file c.args.aim.now.tree) c.args.aim.now
           c.args.marks.now c.places.marks c.places.place c.places.walk.parent c.places.tally s
-          c.check_here.new.marks x m c.in_ok-found.found.tally c.sum-tally.result t c.sum-tally.ensures.live
+          c.check_pointer.new.marks x m c.in_ok-found.found.tally c.sum-tally.result t c.sum-tally.ensures.live
           c.sum-tally.ensures.deleted c.sum-tally.ensures.whole
           c.in-Some.cursor c.advance.new.walk.parent c.child-at.result
           (c.in-Some.ensures.stands (index_in file c.args.aim.now.tree)

@@ -1,6 +1,6 @@
 use Rattle.std.proofs.Common.{arith, refl, ◌∙◌, ◌-◌}
 use Rattle.std.proofs.lemmas.Result.{err_from_is_err_and}
-use Rattle.page_source.proofs.Told.{told1, told2, told4}
+use Rattle.page_source.proofs.Told.{map_told, map_told2, map_told4}
 use Rattle.space_audit.specs.Marks.{is_set}
 use Rattle.tree_walk.specs.Index.{index_of}
 use Rattle.tree_walk.proofs.Rooms.{room_join}
@@ -11,7 +11,7 @@ pub returns-in_err-top-clause-exact : goal.returns-in_err-top-clause-exact
 returns-in_err-top-clause-exact g c =
     let r = err_from_is_err_and c.from_residual.result c.from_residual.ensures.1 in
     rw (r.1, r.2)
-    (told1 (g.S.PageSource.content c.args.source.now)
+    (map_told (g.S.PageSource.content c.args.source.now)
     (λ file x. root_halts (index_of file c.args.root c.args.leaf.now c.args.node.now) (is_set c.args.marks.now)
     (is_set c.args.named.now) c.in_err-top.field-0.0 x)
     c.in_err-top.ensures.exact)
@@ -25,7 +25,7 @@ loop-depth-init g c = record {
   asked = c.in_ok-top.ensures.stays.over.asked;
   spent = let a = c.in_ok-top.ensures.fewer in let b = c.in_ok-top.ensures.steps in omega arith;
   told =
-      told2 (g.S.PageSource.content c.args.source.now)
+      map_told2 (g.S.PageSource.content c.args.source.now)
       (λ file t x. tree_first (index_of file c.args.root c.args.leaf.now c.args.node.now) c.in_ok-top.top
       c.args.marks.now c.args.named.now c.check_root.new.marks t x c.in_ok-top.ensures.marked)
       c.in_ok-top.ensures.top c.in_ok-top.ensures.exact;
@@ -37,7 +37,7 @@ loop-depth-init g c = record {
 pub walk_level-requires-clause-at : goal.walk_level-requires-clause-at
 walk_level-requires-clause-at g c =
     rw c.loop-depth.invariant.same
-    (told2 (g.S.PageSource.content c.args.source.now)
+    (map_told2 (g.S.PageSource.content c.args.source.now)
     (λ file a t. tree_at (index_of file c.args.root c.args.leaf.now c.args.node.now) c.in_ok-top.top
     c.loop-depth.depth c.args.marks.now c.args.named.now c.loop-depth.marks c.loop-depth.row t c.args.space.now
     a c.loop-depth-test.true
@@ -50,7 +50,7 @@ returns-in_err-row-clause-exact g c =
     let x = rw c.loop-depth.invariant.same at c.in_err-row.ensures.exact in
     let h = c.loop-depth-test.true in
     rw (r.1, r.2)
-    (told2 (g.S.PageSource.content c.args.source.now)
+    (map_told2 (g.S.PageSource.content c.args.source.now)
     (λ file t x. tree_halts_at (index_of file c.args.root c.args.leaf.now c.args.node.now) c.in_ok-top.top
     c.loop-depth.depth c.args.marks.now c.args.named.now c.loop-depth.marks c.loop-depth.row t
     (c.in_ok-top.top.level - c.loop-depth.depth - 1) (omega arith) c.in_err-row.field-0.0 x)
@@ -70,7 +70,7 @@ loop-depth-preserved g c =
       asked = let a = c.in_ok-row.ensures.stays.over.asked in let b = c.loop-depth.invariant.asked in omega arith;
       spent = let a = c.in_ok-row.ensures.spent in let b = c.loop-depth.invariant.spent in omega arith;
       told =
-          told4 (g.S.PageSource.content c.args.source.now)
+          map_told4 (g.S.PageSource.content c.args.source.now)
           (λ file t x m l. tree_more (index_of file c.args.root c.args.leaf.now c.args.node.now) c.in_ok-top.top
           c.loop-depth.depth c.args.marks.now c.args.named.now c.loop-depth.marks c.loop-depth.row t
           _ c.in_ok-row.row l refl (omega arith) c.walk_level.new.marks x m)
@@ -86,7 +86,7 @@ loop-depth-preserved g c =
 
 pub returns-clause-exact : goal.returns-clause-exact
 returns-clause-exact g c =
-    told1 (g.S.PageSource.content c.args.source.now)
+    map_told (g.S.PageSource.content c.args.source.now)
     (λ file t. tree_holds (index_of file c.args.root c.args.leaf.now c.args.node.now) c.in_ok-top.top
     c.loop-depth.depth c.args.marks.now c.args.named.now c.loop-depth.marks c.loop-depth.row t
     c.loop-depth-test.false
@@ -95,7 +95,7 @@ returns-clause-exact g c =
 
 pub returns-clause-walked : goal.returns-clause-walked
 returns-clause-walked g c =
-    told2 (g.S.PageSource.content c.args.source.now)
+    map_told2 (g.S.PageSource.content c.args.source.now)
     (λ file a t. record {
       space = c.args.space.now;
       audit = a;

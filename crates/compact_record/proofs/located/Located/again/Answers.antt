@@ -1,7 +1,7 @@
 use Rattle.std.proofs.Common.{◌∙◌, ap, refl, length, take, List, arith}
 use Rattle.compact_record.specs.declared.places.Place.{Place}
 use Rattle.compact_record.specs.Reading.{IsSpelled}
-use Rattle.compact_record.proofs.Steps.{head_is, end_is, places_are, whole_slice}
+use Rattle.compact_record.proofs.FieldSteps.{head_is, end_is, places_are, whole_slice}
 use Rattle.compact_record.proofs.KeySteps.{lie_below}
 use Rattle.compact_record.proofs.located.Located.again.Goals as goal
 

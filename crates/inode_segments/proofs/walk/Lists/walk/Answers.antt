@@ -4,7 +4,7 @@ use Rattle.std.proofs.lemmas.Result.{err_from_is_err_and}
 use Rattle.std.proofs.lemmas.Bool.{false≢true}
 use Rattle.page_source.specs.Lists.{AreMarked, flag_in, unmarked}
 use Rattle.page_source.proofs.Marks.{unmarked_fewer}
-use Rattle.page_source.proofs.Told.{told0, told1, told2, told3, told4}
+use Rattle.page_source.proofs.Told.{if_told, map_told, map_told2, map_told3, map_told4}
 use Rattle.inode_segments.specs.Inodes.{stepped_pages}
 use Rattle.inode_segments.specs.InodeChecks.{inode_list, EndsAfter}
 use Rattle.inode_segments.proofs.Alongs.{stepped_none, at_first, at_next, held_more, marked_next, grew_none, grew_more}
@@ -26,10 +26,10 @@ loop-source-init g c =
       size = refl;
       spent = refl;
       room = omega (arith, count_by-le-length not c.args.inodes.now.pages);
-      at = rw c.base-base.ensures (told0 o (λ file. at_first file base));
-      held = told0 o (λ file earlier marked j below. absurd (omega arith));
-      marked = told0 o (λ file earlier marked. rw (stepped_none file base) (rw (append-nil earlier) marked));
-      grew = told0 o (λ file. grew_none file base c.args.inodes.now);
+      at = rw c.base-base.ensures (if_told o (λ file. at_first file base));
+      held = if_told o (λ file earlier marked j below. absurd (omega arith));
+      marked = if_told o (λ file earlier marked. rw (stepped_none file base) (rw (append-nil earlier) marked));
+      grew = if_told o (λ file. grew_none file base c.args.inodes.now);
     }
 
 pub returns-in_err-next-clause-exact : goal.returns-in_err-next-clause-exact
@@ -40,7 +40,7 @@ returns-in_err-next-clause-exact g c =
     let base = inode_list c.args.self.now.header.now c.args.full in
     let r = err_from_is_err_and c.from_residual.result c.from_residual.ensures.1 in
     let checks = rw i.same at c.in_err-next.ensures.exact in
-    rw (r.1, r.2) (told4 o (λ file is held marked checks earlier m.
+    rw (r.1, r.2) (map_told4 o (λ file is held marked checks earlier m.
     step_stops file (flag_in c.args.self.now.fragments.now) c.args.full earlier base step.address step.holder
     step.before
     c.loop-source.count is (λ z. false≢true (c.loop-source-test.ensures.1 z)) (held earlier m) c.in_err-next.field-0.0
@@ -77,15 +77,16 @@ loop-source-preserved g c =
       size = ap length now ∙ length-set pages n true ∙ i.size;
       spent = omega (arith, i.spent, c.in_ok-next.ensures.cost, ap unmarked now, fewer);
       room = omega (arith, i.room, ap unmarked now, fewer, ap length now, length-set pages n true);
-      at = told2 o (λ file is next. at_next file base step.address step.holder step.before k c.in_ok-next.next
+      at = map_told2 o (λ file is next. at_next file base step.address step.holder step.before k c.in_ok-next.next
           is next) i.at next;
-      held = told4 o (λ file is held marked checks earlier m. held_more file fragment c.args.full earlier base
+      held = map_told4 o (λ file is held marked checks earlier m. held_more file fragment c.args.full earlier base
           step.address
           step.holder step.before k is (λ z. false≢true (c.loop-source-test.ensures.1 z)) (held earlier m)
           (checks (earlier ++ stepped_pages file base k) (marked earlier m))) i.at i.held i.marked checks;
-      marked = told2 o (λ file is marked earlier m. marked_next file earlier base step.address step.holder step.before k
+      marked = map_told2 o (λ file is marked earlier m. marked_next file earlier base step.address step.holder
+      step.before k
           pages c.add_page.new.self.pages is c.in_ok-next.ensures.below now (marked earlier m)) i.at i.marked;
-      grew = told3 o (λ file is here grew. grew_more file base step.address step.holder step.before k
+      grew = map_told3 o (λ file is here grew. grew_more file base step.address step.holder step.before k
           c.check_step.new.page
           c.args.inodes.now c.loop-source.inodes c.add_page.new.self is here c.in_ok-add_page.ensures.places
           c.in_ok-add_page.ensures.inodes grew) i.at here i.grew;
@@ -109,7 +110,7 @@ returns-then-base-count-clause-exact g c =
     let base = inode_list c.args.self.now.header.now c.args.full in
     let wrong : ¬ (EndsAfter base k step.before) =
     subst (λ b. ¬ (EndsAfter b k step.before)) c.base-base.ensures (fits_not g c) in
-    rw c.into.ensures (told2 o (λ file is held earlier m.
+    rw c.into.ensures (map_told2 o (λ file is held earlier m.
     end_breaks file (flag_in c.args.self.now.fragments.now) c.args.full earlier base step.address step.holder
     step.before k
     is (c.is_null.ensures.0 c.loop-source-test.false) (held earlier m) wrong c.at.result c.at.ensures)
@@ -127,7 +128,7 @@ returns-clause-exact g c =
     let o = g.S.PageSource.content c.args.source.now in
     let i = c.loop-source.invariant in
     let step = c.loop-source.step in
-    told2 o (λ file is held earlier m.
+    map_told2 o (λ file is held earlier m.
     end_holds file (flag_in c.args.self.now.fragments.now) c.args.full earlier
     (inode_list c.args.self.now.header.now c.args.full) step.address step.holder step.before c.loop-source.count
     is (c.is_null.ensures.0 c.loop-source-test.false) (held earlier m) (fits g c))
@@ -136,13 +137,13 @@ returns-clause-exact g c =
 pub returns-clause-marked : goal.returns-clause-marked
 returns-clause-marked g c =
     let base = inode_list c.args.self.now.header.now c.args.full in
-    told1 (g.S.PageSource.content c.args.source.now) (λ file marked earlier m.
+    map_told (g.S.PageSource.content c.args.source.now) (λ file marked earlier m.
     subst (λ k. AreMarked c.loop-source.inodes.pages (earlier ++ stepped_pages file base k)) (sym (fits g c).counted)
     (marked earlier m)) c.loop-source.invariant.marked
 
 pub returns-clause-grew : goal.returns-clause-grew
 returns-clause-grew g c =
     let base = inode_list c.args.self.now.header.now c.args.full in
-    told1 (g.S.PageSource.content c.args.source.now) (λ file grew.
+    map_told (g.S.PageSource.content c.args.source.now) (λ file grew.
     subst (λ k. Grew file (stepped_pages file base k) c.args.inodes.now c.loop-source.inodes) (sym (fits g c).counted)
     grew) c.loop-source.invariant.grew

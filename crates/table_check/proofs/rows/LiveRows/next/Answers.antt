@@ -1,7 +1,7 @@
 use Rattle.std.proofs.Common.{◌≡◌, ◌∙◌, ◌+◌, IfSome, arith, ap, refl, sym, subst}
 use Rattle.std.proofs.lemmas.Result.{err_from_is_err_and}
 use Rattle.compact_record.specs.Header.{is_deleted}
-use Rattle.page_source.proofs.Told.{told0, told1, told2}
+use Rattle.page_source.proofs.Told.{if_told, map_told, map_told2}
 use Rattle.tree_walk.specs.Index.{index_of}
 use Rattle.table_check.specs.Live.{LiveView, CanGiveLive}
 use Rattle.table_check.proofs.Progress.{over_both, halt_as}
@@ -25,7 +25,7 @@ loop-origin-init g c =
       spent = ap (λ n. c.args.steps.now + n) leaf;
       reads = subst (λ (v : LiveView). IfSome (g.S.PageSource.content c.args.source.now) (λ file. CanGiveLive file v))
           (sym c.self.view_is) c.requires.reads;
-      told = told0 (g.S.PageSource.content c.args.source.now) (λ file root fields node j w h. rw c.self.view_is h);
+      told = if_told (g.S.PageSource.content c.args.source.now) (λ file root fields node j w h. rw c.self.view_is h);
     }
 
 pub next-requires-clause-goes_on : goal.next-requires-clause-goes_on
@@ -34,7 +34,7 @@ next-requires-clause-goes_on g c = c.loop-origin.invariant.goes_on
 pub next-requires-clause-reads : goal.next-requires-clause-reads
 next-requires-clause-reads g c =
     rw c.loop-origin.invariant.same
-    (told1 (g.S.PageSource.content c.args.source.now)
+    (map_told (g.S.PageSource.content c.args.source.now)
     (λ file r. record {
       root = r.root;
       fields = r.fields;
@@ -51,7 +51,7 @@ returns-in_err-origin-clause-exact g c =
     let found = rw i.same at c.in_err-origin.ensures.exact in
     let r = err_from_is_err_and c.from_residual.result c.from_residual.ensures.1 in
     rw (r.1, r.2)
-    (told2 (g.S.PageSource.content c.args.source.now)
+    (map_told2 (g.S.PageSource.content c.args.source.now)
     (λ file t f root fields node j w h.
     let has = t root fields node j w h in
     never_breaks (index_of file root fields node) j has.passed _ _ c.in_err-origin.field-0.0
@@ -72,7 +72,7 @@ returns-then-left-eq0-clause-exact g c =
     let i = c.loop-origin.invariant in
     let found = rw (c.in-Some.is, i.same) at c.in_ok-origin.ensures.exact in
     let last = rw c.in-Some.is at c.in_ok-origin.ensures.last in
-    told2 (g.S.PageSource.content c.args.source.now)
+    map_told2 (g.S.PageSource.content c.args.source.now)
     (λ file t f root fields node j w h.
     let has = t root fields node j w h in
     elim c.if-is_deleted.branch [
@@ -102,7 +102,7 @@ returns-then-not-is_deleted-clause-exact g c =
     let i = c.loop-origin.invariant in
     let found = rw (c.in-Some.is, i.same) at c.in_ok-origin.ensures.exact in
     let last = rw c.in-Some.is at c.in_ok-origin.ensures.last in
-    told2 (g.S.PageSource.content c.args.source.now)
+    map_told2 (g.S.PageSource.content c.args.source.now)
     (λ file t f root fields node j w h.
     let has = t root fields node j w h in
     elim c.if-is_deleted.branch [
@@ -155,7 +155,7 @@ loop-origin-preserved g c =
             goes_on = ended;
             live = i.live;
             spent = c.next.ensures.steps ∙ i.spent;
-            reads = told2 o
+            reads = map_told2 o
                 (λ file r f.
                 let over = passes_over (index_of file r.root r.fields r.node) _ r.given _ c.in-Some.origin _
                 c.next.new.self.ended r.has (f r.root r.fields r.node r.has.passed r.walked r.has.has) last mark in
@@ -168,7 +168,7 @@ loop-origin-preserved g c =
                   has = rw b.left-is over.has;
                 })
                 i.reads found;
-            told = told2 o
+            told = map_told2 o
                 (λ file t f root fields node j w h.
                 let has = t root fields node j w h in
                 let over = passes_over (index_of file root fields node) _ j _ c.in-Some.origin _
@@ -184,7 +184,7 @@ pub returns-then-self-gt0-clause-exact : goal.returns-then-self-gt0-clause-exact
 returns-then-self-gt0-clause-exact g c =
     let i = c.loop-origin.invariant in
     let found = rw (c.in_default.is, i.same) at c.in_ok-origin.ensures.exact in
-    told2 (g.S.PageSource.content c.args.source.now)
+    map_told2 (g.S.PageSource.content c.args.source.now)
     (λ file t f root fields node j w h.
     let has = t root fields node j w h in
     let done = none_due (index_of file root fields node) _ j c.next.new.self.leaf has (f root fields node has.passed w
@@ -199,7 +199,7 @@ pub returns-clause-exact : goal.returns-clause-exact
 returns-clause-exact g c =
     let i = c.loop-origin.invariant in
     let found = rw (c.in_default.is, i.same) at c.in_ok-origin.ensures.exact in
-    told2 (g.S.PageSource.content c.args.source.now)
+    map_told2 (g.S.PageSource.content c.args.source.now)
     (λ file t f root fields node j w h.
     let has = t root fields node j w h in
     none_behind (index_of file root fields node) _ j c.next.new.self.leaf has (f root fields node has.passed w

@@ -1,7 +1,7 @@
 use Rattle.std.proofs.Common.{◌≡◌, ◌∙◌, ℕ, ◌+◌, Option, ap, sym, refl, arith}
 use Rattle.std.proofs.lemmas.Result.{err_from_is_err_and}
 use Rattle.page_source.specs.declared.checks.Halt.TheVariants.{Broken}
-use Rattle.page_source.proofs.Told.{told0, told1, told2, told3}
+use Rattle.page_source.proofs.Told.{if_told, map_told, map_told2, map_told3}
 use Rattle.fil_frame.specs.Frame.{next_page}
 use Rattle.tree_walk.specs.declared.leaves.leaf.Leaf.{Leaf}
 use Rattle.tree_walk.specs.Index.{index_of}
@@ -14,7 +14,7 @@ use Rattle.tree_walk.proofs.leaves.leaf.search.Goals as goal
 
 pub returns-then-next-ge-FIRST_ORIGIN-clause-exact : goal.returns-then-next-ge-FIRST_ORIGIN-clause-exact
 returns-then-next-ge-FIRST_ORIGIN-clause-exact g c =
-    told1 (g.S.PageSource.content c.args.source.now)
+    map_told (g.S.PageSource.content c.args.source.now)
     (λ file t root fields node j w b. row_found (index_of file root fields node) w c.leaves.leaf c.leaves.at j
     c.next_origin-next.result (t root fields node j w b) c.next_origin-next.ensures.value
     c.if-next-ge-FIRST_ORIGIN.true)
@@ -22,7 +22,7 @@ returns-then-next-ge-FIRST_ORIGIN-clause-exact g c =
 
 pub returns-then-next-ne-SUPREMUM-clause-exact : goal.returns-then-next-ne-SUPREMUM-clause-exact
 returns-then-next-ne-SUPREMUM-clause-exact g c =
-    told1 (g.S.PageSource.content c.args.source.now)
+    map_told (g.S.PageSource.content c.args.source.now)
     (λ file t root fields node j w b. absurd (c.if-next-ne-SUPREMUM.true
     (ends_at_supremum (index_of file root fields node) w c.leaves.leaf c.leaves.at j c.next_origin-next.result
     (t root fields node j w b) c.next_origin-next.ensures.value c.if-next-ge-FIRST_ORIGIN.false)))
@@ -31,7 +31,7 @@ returns-then-next-ne-SUPREMUM-clause-exact g c =
 pub hop-requires : goal.hop-requires
 hop-requires g c = record {
   reads = rw c.leaves.invariant.same
-      (told1 (g.S.PageSource.content c.args.source.now)
+      (map_told (g.S.PageSource.content c.args.source.now)
       (λ file r. record {
         root = r.root;
         fields = r.fields;
@@ -46,7 +46,7 @@ hop-requires g c = record {
 pub returns-then-not-found-clause-exact : goal.returns-then-not-found-clause-exact
 returns-then-not-found-clause-exact g c =
     let x = rw (c.leaves.invariant.same, c.if-not-found.true) at c.in_ok-found.ensures.exact in
-    told2 (g.S.PageSource.content c.args.source.now)
+    map_told2 (g.S.PageSource.content c.args.source.now)
     (λ file t x root fields node j w b.
     let d = t root fields node j w b in
     rows_end (index_of file root fields node) w c.leaves.leaf c.leaves.at j c.next_origin-next.result d
@@ -58,7 +58,7 @@ returns-in_err-found-clause-exact g c =
     let r = err_from_is_err_and c.from_residual.result c.from_residual.ensures.1 in
     let x = rw c.leaves.invariant.same at c.in_err-found.ensures.exact in
     rw (r.1, r.2)
-    (told2 (g.S.PageSource.content c.args.source.now)
+    (map_told2 (g.S.PageSource.content c.args.source.now)
     (λ file t x root fields node j w b.
     let d = t root fields node j w b in
     no_leaf (index_of file root fields node) (d.i + 1) j c.in_err-found.field-0.0 c.hop.new.leaf c.hop.new.leaf
@@ -74,10 +74,10 @@ leaves-init g c = record {
   header = c.requires.header;
   along = c.requires.along;
   reads = c.requires.reads;
-  told = told0 (g.S.PageSource.content c.args.source.now) (λ file root fields node j w b. b);
+  told = if_told (g.S.PageSource.content c.args.source.now) (λ file root fields node j w b. b);
   moved = moved_none c.args.leaf.now;
   came = come_none (next_page c.args.leaf.now.page) c.args.leaf.now;
-  near = told0 (g.S.PageSource.content c.args.source.now) (λ file root fields node j w b. near_none c.args.leaf.now
+  near = if_told (g.S.PageSource.content c.args.source.now) (λ file root fields node j w b. near_none c.args.leaf.now
       c.args.from);
 }
 
@@ -96,7 +96,7 @@ leaves-preserved g c =
       header = (omega arith, omega arith);
       along = along_first c.hop.new.leaf.page;
       reads =
-          told2 (g.S.PageSource.content c.args.source.now)
+          map_told2 (g.S.PageSource.content c.args.source.now)
           (λ file r x. record {
             root = r.root;
             fields = r.fields;
@@ -109,7 +109,7 @@ leaves-preserved g c =
           })
           i.reads x;
       told =
-          told2 (g.S.PageSource.content c.args.source.now)
+          map_told2 (g.S.PageSource.content c.args.source.now)
           (λ file t x root fields node j w b.
           let d = t root fields node j w b in
           next_before (index_of file root fields node) w c.leaves.leaf c.leaves.at j c.next_origin-next.result d
@@ -119,7 +119,7 @@ leaves-preserved g c =
       moved = moved_more c.args.leaf.now c.leaves.leaf c.hop.new.leaf i.moved h.0 h.1;
       came = come_more c.args.leaf.now c.leaves.leaf c.hop.new.leaf i.came h.0 h.1;
       near =
-          told3 (g.S.PageSource.content c.args.source.now)
+          map_told3 (g.S.PageSource.content c.args.source.now)
           (λ file t x n root fields node j w b.
           let d = t root fields node j w b in
           near_more (index_of file root fields node) w c.args.leaf.now c.leaves.leaf c.hop.new.leaf c.args.from
@@ -136,14 +136,14 @@ returns-then-next-ne-SUPREMUM-clause-broken g c = λ fault e.
 
 pub returns-then-next-ge-FIRST_ORIGIN-clause-near : goal.returns-then-next-ge-FIRST_ORIGIN-clause-near
 returns-then-next-ge-FIRST_ORIGIN-clause-near g c =
-    told1 (g.S.PageSource.content c.args.source.now)
+    map_told (g.S.PageSource.content c.args.source.now)
     (λ file n root fields node j w b. near_hops c.args.leaf.now c.leaves.leaf c.args.from c.leaves.at
     c.leaves.invariant.moved (n root fields node j w b))
     c.leaves.invariant.near
 
 pub returns-then-next-ne-SUPREMUM-clause-near : goal.returns-then-next-ne-SUPREMUM-clause-near
 returns-then-next-ne-SUPREMUM-clause-near g c =
-    told1 (g.S.PageSource.content c.args.source.now)
+    map_told (g.S.PageSource.content c.args.source.now)
     (λ file n root fields node j w b. near_hops c.args.leaf.now c.leaves.leaf c.args.from c.leaves.at
     c.leaves.invariant.moved (n root fields node j w b))
     c.leaves.invariant.near
@@ -151,14 +151,14 @@ returns-then-next-ne-SUPREMUM-clause-near g c =
 pub returns-then-not-found-clause-near : goal.returns-then-not-found-clause-near
 returns-then-not-found-clause-near g c =
     let h : c.hop.new.leaf ≡ c.leaves.leaf = rw c.if-not-found.true at c.in_ok-found.ensures.hops in
-    told1 (g.S.PageSource.content c.args.source.now)
+    map_told (g.S.PageSource.content c.args.source.now)
     (λ file n root fields node j w b. near_still c.args.leaf.now c.leaves.leaf c.hop.new.leaf c.args.from c.leaves.at
     c.leaves.invariant.moved (ap (λ (l : Leaf). l.number) h) (n root fields node j w b))
     c.leaves.invariant.near
 
 pub returns-in_err-found-clause-near : goal.returns-in_err-found-clause-near
 returns-in_err-found-clause-near g c =
-    told1 (g.S.PageSource.content c.args.source.now)
+    map_told (g.S.PageSource.content c.args.source.now)
     (λ file n root fields node j w b. near_still c.args.leaf.now c.leaves.leaf c.hop.new.leaf c.args.from c.leaves.at
     c.leaves.invariant.moved (hops_still (next_page c.leaves.leaf.page) c.leaves.leaf c.hop.new.leaf
     c.in_err-found.field-0.0 c.in_err-found.ensures.hops) (n root fields node j w b))

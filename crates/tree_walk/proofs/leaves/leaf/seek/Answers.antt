@@ -1,6 +1,6 @@
 use Rattle.std.proofs.Common.{refl, sym, subst, inl}
 use Rattle.std.proofs.lemmas.Result.{err_from_is_err_and}
-use Rattle.page_source.proofs.Told.{told0, told1, told2}
+use Rattle.page_source.proofs.Told.{if_told, map_told, map_told2}
 use Rattle.tree_walk.specs.Index.{index_of}
 use Rattle.tree_walk.specs.Hops.{GoesByNextFields, failures}
 use Rattle.tree_walk.proofs.HopFacts.{come_none, come_failed, come_first, due_first, due_next}
@@ -9,7 +9,7 @@ use Rattle.tree_walk.proofs.leaves.leaf.seek.Goals as goal
 
 pub open-requires-clause-within : goal.open-requires-clause-within
 open-requires-clause-within g c =
-    told1 (g.S.PageSource.content c.args.source.now)
+    map_told (g.S.PageSource.content c.args.source.now)
     (λ file r. start_within (index_of file r.root r.fields r.node) r.walked c.args.leaf.now
     (can_start (index_of file r.root r.fields r.node) r.walked c.args.leaf.now c.args.last r.given
     c.if-last-ge-INFIMUM.false r.has).1)
@@ -18,7 +18,7 @@ open-requires-clause-within g c =
 pub search-requires-2-clause-reads : goal.search-requires-2-clause-reads
 search-requires-2-clause-reads g c =
     rw c.in_ok-open.ensures.same
-    (told2 (g.S.PageSource.content c.args.source.now)
+    (map_told2 (g.S.PageSource.content c.args.source.now)
     (λ file r p. record {
       root = r.root;
       fields = r.fields;
@@ -33,7 +33,7 @@ search-requires-2-clause-reads g c =
 
 pub returns-then-last-ge-INFIMUM-clause-near : goal.returns-then-last-ge-INFIMUM-clause-near
 returns-then-last-ge-INFIMUM-clause-near g c =
-    told1 (g.S.PageSource.content c.args.source.now)
+    map_told (g.S.PageSource.content c.args.source.now)
     (λ file n root fields node j w h. same_or_next c.args.leaf.now c.search.new.leaf c.args.last
     (n root fields node j w (can_search (index_of file root fields node) w c.args.leaf.now c.args.last j
     c.if-last-ge-INFIMUM.true h)))
@@ -42,7 +42,7 @@ returns-then-last-ge-INFIMUM-clause-near g c =
 pub returns-clause-near : goal.returns-clause-near
 returns-clause-near g c =
     let n = rw c.in_ok-open.ensures.same at c.search-2.ensures.near in
-    told2 (g.S.PageSource.content c.args.source.now)
+    map_told2 (g.S.PageSource.content c.args.source.now)
     (λ file n p root fields node j w h. first_same c.args.leaf.now c.open.new.leaf c.search-2.new.leaf
     c.in_ok-open.ensures.number
     (n root fields node 0 w (start_before (index_of file root fields node) w c.args.leaf.now c.open.new.leaf
@@ -52,11 +52,11 @@ returns-clause-near g c =
 
 pub returns-then-leaf-eq0-clause-near : goal.returns-then-leaf-eq0-clause-near
 returns-then-leaf-eq0-clause-near g c =
-    told0 (g.S.PageSource.content c.args.source.now) (λ file root fields node j w h. inl refl)
+    if_told (g.S.PageSource.content c.args.source.now) (λ file root fields node j w h. inl refl)
 
 pub returns-in_err-open-clause-near : goal.returns-in_err-open-clause-near
 returns-in_err-open-clause-near g c =
-    told0 (g.S.PageSource.content c.args.source.now) (λ file root fields node j w h. inl c.in_err-open.ensures.stays)
+    if_told (g.S.PageSource.content c.args.source.now) (λ file root fields node j w h. inl c.in_err-open.ensures.stays)
 
 pub returns-then-last-ge-INFIMUM-clause-hops : goal.returns-then-last-ge-INFIMUM-clause-hops
 returns-then-last-ge-INFIMUM-clause-hops g c = λ n d.

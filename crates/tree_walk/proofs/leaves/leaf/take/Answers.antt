@@ -1,5 +1,5 @@
 use Rattle.std.proofs.Common.{◌≡◌, ◌∙◌, sym, refl, arith, subst, Ok, true}
-use Rattle.page_source.proofs.Told.{told0, told1}
+use Rattle.page_source.proofs.Told.{if_told, map_told}
 use Rattle.tree_walk.specs.Index.{index_of}
 use Rattle.tree_walk.specs.Leaf.{FindsLeaf}
 use Rattle.tree_walk.proofs.LeafFacts.{take_start, take_on, start_within, start_on, start_fetches}
@@ -9,7 +9,7 @@ use Rattle.tree_walk.proofs.leaves.leaf.take.Goals as goal
 
 pub hop-requires : goal.hop-requires
 hop-requires g c = record {
-  reads = told1 (g.S.PageSource.content c.args.source.now)
+  reads = map_told (g.S.PageSource.content c.args.source.now)
       (λ file r.
       let o = take_on (index_of file r.root r.fields r.node) r.walked c.args.leaf.now c.args.last r.taken
       c.if-last-ge-INFIMUM.true r.has in
@@ -19,7 +19,7 @@ hop-requires g c = record {
 
 pub returns-then-last-ge-INFIMUM-clause-exact : goal.returns-then-last-ge-INFIMUM-clause-exact
 returns-then-last-ge-INFIMUM-clause-exact g c =
-    told1 (g.S.PageSource.content c.args.source.now)
+    map_told (g.S.PageSource.content c.args.source.now)
     (λ file x root fields node i w h.
     let o = take_on (index_of file root fields node) w c.args.leaf.now c.args.last i c.if-last-ge-INFIMUM.true h in
     subst (λ k. FindsLeaf (index_of file root fields node) k c.hop.result c.hop.new.leaf) (sym o.1.0)
@@ -28,7 +28,7 @@ returns-then-last-ge-INFIMUM-clause-exact g c =
 
 pub returns-then-leaf-eq0-clause-exact : goal.returns-then-leaf-eq0-clause-exact
 returns-then-leaf-eq0-clause-exact g c =
-    told0 (g.S.PageSource.content c.args.source.now)
+    if_told (g.S.PageSource.content c.args.source.now)
     (λ file root fields node i w h.
     let s = take_start (index_of file root fields node) w c.args.leaf.now c.args.last i c.if-last-ge-INFIMUM.false h in
     let f = start_fetches (index_of file root fields node) w c.args.leaf.now s.1 in
@@ -37,7 +37,7 @@ returns-then-leaf-eq0-clause-exact g c =
 
 pub open-requires-clause-within : goal.open-requires-clause-within
 open-requires-clause-within g c =
-    told1 (g.S.PageSource.content c.args.source.now)
+    map_told (g.S.PageSource.content c.args.source.now)
     (λ file r. start_within (index_of file r.root r.fields r.node) r.walked c.args.leaf.now
     (take_start (index_of file r.root r.fields r.node) r.walked c.args.leaf.now c.args.last r.taken
     c.if-last-ge-INFIMUM.false r.has).1)
@@ -45,7 +45,7 @@ open-requires-clause-within g c =
 
 pub returns-clause-exact : goal.returns-clause-exact
 returns-clause-exact g c =
-    told1 (g.S.PageSource.content c.args.source.now)
+    map_told (g.S.PageSource.content c.args.source.now)
     (λ file p root fields node i w h.
     let s = take_start (index_of file root fields node) w c.args.leaf.now c.args.last i c.if-last-ge-INFIMUM.false h in
     subst (λ k. FindsLeaf (index_of file root fields node) k (Ok true) c.open.new.leaf) (sym s.0)

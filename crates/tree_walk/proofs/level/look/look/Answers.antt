@@ -1,12 +1,12 @@
 use Rattle.std.proofs.Common.{◌∙◌, sym, arith}
-use Rattle.page_source.proofs.Told.{told1, told2}
+use Rattle.page_source.proofs.Told.{map_told, map_told2}
 use Rattle.tree_walk.specs.Tree.{index_in}
 use Rattle.tree_walk.proofs.Cursors.{follows_here, follows_ahead, follows_more, follows_end}
 use Rattle.tree_walk.proofs.level.look.look.Goals as goal
 
 pub returns-then-next-ge-FIRST_ORIGIN-clause-exact : goal.returns-then-next-ge-FIRST_ORIGIN-clause-exact
 returns-then-next-ge-FIRST_ORIGIN-clause-exact g c =
-    told1 (g.S.PageSource.content c.args.source.now)
+    map_told (g.S.PageSource.content c.args.source.now)
     (λ file a. follows_here (index_in file c.args.aim.now.tree) c.args.aim.now.depth
     c.args.place.cursor c.args.walk.now.parent c.args.place.j c.args.aim.now.tree.node.now a.facts a.stands
     c.next_origin-next.result c.next_origin-next.ensures.value c.if-next-ge-FIRST_ORIGIN.true c.args.walk.now.after)
@@ -14,7 +14,7 @@ returns-then-next-ge-FIRST_ORIGIN-clause-exact g c =
 
 pub returns-then-number-clause-exact : goal.returns-then-number-clause-exact
 returns-then-number-clause-exact g c =
-    told1 (g.S.PageSource.content c.args.source.now)
+    map_told (g.S.PageSource.content c.args.source.now)
     (λ file a. follows_end (index_in file c.args.aim.now.tree) c.args.aim.now.depth
     c.args.place.cursor c.args.walk.now.parent c.args.place.j c.args.aim.now.tree.node.now a.facts a.stands
     c.next_origin-next.result c.next_origin-next.ensures.value c.if-next-ge-FIRST_ORIGIN.false
@@ -23,7 +23,7 @@ returns-then-number-clause-exact g c =
 
 pub returns-clause-exact : goal.returns-clause-exact
 returns-clause-exact g c =
-    told2 (g.S.PageSource.content c.args.source.now)
+    map_told2 (g.S.PageSource.content c.args.source.now)
     (λ file a r. follows_ahead (index_in file c.args.aim.now.tree) c.args.aim.now.depth
     c.args.place.cursor c.args.walk.now.parent c.args.place.j c.args.aim.now.tree.node.now a.facts
     (let h = a.is_aim.above in omega arith) a.stands
@@ -34,7 +34,7 @@ returns-clause-exact g c =
 
 pub returns-then-place-eq0-clause-exact : goal.returns-then-place-eq0-clause-exact
 returns-then-place-eq0-clause-exact g c =
-    told1 (g.S.PageSource.content c.args.source.now)
+    map_told (g.S.PageSource.content c.args.source.now)
     (λ file a.
     let h = follows_more (index_in file c.args.aim.now.tree) c.args.aim.now.depth
     c.args.place.cursor c.args.walk.now.parent c.args.place.j c.args.aim.now.tree.node.now a.facts a.stands

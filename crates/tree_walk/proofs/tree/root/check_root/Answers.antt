@@ -1,7 +1,7 @@
 use Rattle.std.proofs.Common.{refl, inl, inr, None, Some}
 use Rattle.std.proofs.lemmas.Bool.{iff_false}
 use Rattle.std.proofs.lemmas.Result.{err_from_is_err_and}
-use Rattle.page_source.proofs.Told.{told1, told2}
+use Rattle.page_source.proofs.Told.{map_told, map_told2}
 use Rattle.space_audit.specs.Marks.{is_set}
 use Rattle.tree_walk.proofs.Audit.{new_iff, leaf_is, top_is, root_within}
 use Rattle.tree_walk.proofs.Root.{spot_root, top_of}
@@ -9,14 +9,14 @@ use Rattle.tree_walk.proofs.tree.root.check_root.Goals as goal
 
 pub fetch-requires : goal.fetch-requires
 fetch-requires g c =
-    told1 (g.S.PageSource.content c.args.source.now)
+    map_told (g.S.PageSource.content c.args.source.now)
     (λ file a. root_within file c.args.tree.now.space.now _ c.args.tree.now.root a
     ((c.if-not-is_root.ensures.place file a).0 refl))
     c.requires.ready.audit
 
 pub returns-then-not-are_new-clause-exact : goal.returns-then-not-are_new-clause-exact
 returns-then-not-are_new-clause-exact g c =
-    told2 (g.S.PageSource.content c.args.source.now)
+    map_told2 (g.S.PageSource.content c.args.source.now)
     (λ file a p. inr (
       (c.if-not-is_root.ensures.place file a).0 refl,
       inl (
@@ -33,7 +33,7 @@ pub returns-in_err-tally-clause-exact : goal.returns-in_err-tally-clause-exact
 returns-in_err-tally-clause-exact g c =
     let r = err_from_is_err_and c.from_residual-in_err-tally.result c.from_residual-in_err-tally.ensures.1 in
     rw (r.1, r.2)
-    (told2 (g.S.PageSource.content c.args.source.now)
+    (map_told2 (g.S.PageSource.content c.args.source.now)
     (λ file a p. inr (
       (c.if-not-is_root.ensures.place file a).0 refl,
       inr (
@@ -52,7 +52,7 @@ returns-in_err-tally-clause-exact g c =
 
 pub returns-clause-exact : goal.returns-clause-exact
 returns-clause-exact g c =
-    told2 (g.S.PageSource.content c.args.source.now)
+    map_told2 (g.S.PageSource.content c.args.source.now)
     (λ file a p. (
       (c.if-not-is_root.ensures.place file a).0 refl,
       (
@@ -71,7 +71,7 @@ returns-clause-exact g c =
 
 pub returns-clause-top : goal.returns-clause-top
 returns-clause-top g c =
-    told2 (g.S.PageSource.content c.args.source.now)
+    map_told2 (g.S.PageSource.content c.args.source.now)
     (λ file a p. top_of file c.args.tree.now c.fields_on-fields.result.now
     c.fetch.new.page c.read_be-level.result c.read_be-id.result p c.read_be-level.ensures.number
     c.read_be-id.ensures.number c.fields_on-fields.ensures

@@ -2,7 +2,7 @@ use Rattle.std.proofs.Common.{◌∙◌, ap, ℕ}
 use Rattle.std.proofs.lemmas.List.{length-replicate}
 use Rattle.std.specs.FinMap.{insert}
 use Rattle.std.proofs.Common.{length}
-use Rattle.sample_table.proofs.Steps.{copied}
+use Rattle.sample_table.proofs.MakingSteps.{copied}
 use Rattle.sample_table.proofs.objects.store.GrowingStore.hold.Goals as goal
 
 pub returns-clause-ok : goal.returns-clause-ok
