@@ -1,11 +1,13 @@
 -- Keys order as their fronts do, if these differ.
-use Rattle.std.proofs.Common.{◌≡◌, ℕ, zero, suc, ◌+◌, ◌-◌, ◌/◌, ◌^◌, ◌<◌, List, [], ◌∷◌}
+use Rattle.std.proofs.Common.{◌≡◌, ℕ, zero, suc, ◌+◌, ◌-◌, ◌*◌, ◌/◌, ◌%◌, ◌^◌, ◌<◌, ◌≤◌, List, [], ◌∷◌}
 use Rattle.std.proofs.Common.{length, get_or, replicate, Option, Some, None, false, refl, sym, ap, ◌∙◌, subst}
 use Rattle.std.proofs.Common.{inl, inr, arith}
 use Rattle.std.specs.declared.cmp.Ordering.{Ordering}
 use Rattle.std.specs.declared.cmp.Ordering.TheVariants.{Less, Equal, Greater}
 use Rattle.std.specs.Ordering.{is_lt, nat_cmp, ordering_then, ordering_reverse}
 use Rattle.std.specs.Cmp.{nat_cmp_is}
+use Rattle.std.proofs.Math.Nat.{mul-le-mul_right, suc-mul}
+use Rattle.std.proofs.lemmas.Nat.{div-mul-add, mod-mul-add}
 use Rattle.std.proofs.lemmas.Bool.{cases_lt}
 use Rattle.std.proofs.lemmas.List.{get_or_past, get_or_append_left, get_or-append_right}
 use Rattle.std.proofs.lemmas.List.{get_or-replicate, length-replicate}
@@ -16,8 +18,16 @@ use Rattle.column_values.specs.declared.field.FieldType.TheVariants.{Child}
 use Rattle.column_values.specs.Order.{bytes_cmp, filled, text_cmp, field_cmp, cell_cmp, Key, key_cmp}
 use Rattle.column_values.proofs.KeyOrder.{cell_total}
 use Rattle.column_values.proofs.TextOrder.{length-filled}
-use Rattle.key_ranks.specs.Ranks.{filler_of, BeginsSo, HasFront, HaveFronts, key_of_rank}
+use Rattle.key_ranks.specs.declared.ranks.Digit.{Digit}
+use Rattle.key_ranks.specs.Ranks.{filler_of, digit_at, number_of, IsFront, HasFront, HaveFronts, key_of_rank}
 use Rattle.key_ranks.specs.Keys.{KeyTable}
+
+-- what holds at each place below one, and there too
+pub one_place_more : (P : ℕ → Type 0) (n : ℕ) → ((j : ℕ) → j < n → P j) → P n → (j : ℕ) → j < n + 1 → P j
+one_place_more P n before here j within = elim (cases_lt j n) [
+  | inl less ↦ before j less
+  | inr more ↦ let e : n ≡ j = omega (arith, within, more) in subst P e here
+]
 
 -- two values are the same up to a place
 abbrev SameTo : ℕ → List ℕ → List ℕ → ℕ → Type 0
@@ -25,12 +35,7 @@ SameTo filler a b n = (j : ℕ) → j < n → get_or a j filler ≡ get_or b j f
 
 same_on : (filler : ℕ) (a b : List ℕ) (n : ℕ) → SameTo filler a b n → get_or a n filler ≡ get_or b n filler
     → SameTo filler a b (n + 1)
-same_on filler a b n same here j within = elim (cases_lt j n) [
-  | inl less ↦ same j less
-  | inr more ↦
-      let e : j ≡ n = omega (arith, within, more) in
-      ap (λ (k : ℕ). get_or a k filler) e ∙ here ∙ ap (λ (k : ℕ). get_or b k filler) (sym e)
-]
+same_on filler a b n = one_place_more (λ j. get_or a j filler ≡ get_or b j filler) n
 
 less_first : (x y : ℕ) (rest : Ordering) → x < y → ordering_then (nat_cmp x y) rest ≡ Less
 less_first x y rest less = ap (λ (o : Ordering). ordering_then o rest) (sym (nat_cmp_is x y Less less))
@@ -91,75 +96,103 @@ field_less (fields.Column (types.Utf8Varchar n)) a b = text_less a b
 field_less (fields.Column (types.Utf8Text n)) a b = text_less a b
 field_less _ a b = bytes_less a b
 
--- of two numbers of five bytes the less one has the less byte, where they first differ
-values_less : (kind : FieldType) (begin a b : List ℕ) (m n : ℕ) → BeginsSo (filler_of kind) begin a m
-    → BeginsSo (filler_of kind) begin b n → m < n → field_cmp kind a b ≡ Less
-values_less kind begin a b m n first second less =
-    let d = filler_of kind in
-    let at = length begin in
-    let f = first.number in
-    let g = second.number in
-    let same : SameTo d a b at = λ j within. first.same j d within ∙ sym (second.same j d within) in
-    elim (cases_lt (get_or a at d) (get_or b at d)) [
-      | inl l ↦ field_less kind a b at same l
-      | inr high ↦
-          let e : get_or a at d ≡ get_or b at d =
-          omega (
-            arith,
-            high,
-            less,
-            f.is,
-            g.is,
-            f.second,
-            f.third,
-            f.fourth,
-            f.fifth,
-            g.second,
-            g.third,
-            g.fourth,
-            g.fifth,
-          ) in
-          let same1 = same_on d a b at same e in
-          elim (cases_lt (get_or a (at + 1) d) (get_or b (at + 1) d)) [
-            | inl l ↦ field_less kind a b (at + 1) same1 l
-            | inr high1 ↦
-                let e1 : get_or a (at + 1) d ≡ get_or b (at + 1) d =
-                omega (arith, high1, e, less, f.is, g.is, f.third, f.fourth, f.fifth, g.third, g.fourth, g.fifth) in
-                let same2 : SameTo d a b (at + 2) = more d a b at (same_on d a b (at + 1) same1 e1) in
-                elim (cases_lt (get_or a (at + 2) d) (get_or b (at + 2) d)) [
-                  | inl l ↦ field_less kind a b (at + 2) same2 l
-                  | inr high2 ↦
-                      let e2 : get_or a (at + 2) d ≡ get_or b (at + 2) d =
-                      omega (arith, high2, e, e1, less, f.is, g.is, f.fourth, f.fifth, g.fourth, g.fifth) in
-                      let same3 : SameTo d a b (at + 3) = next d a b at (same_on d a b (at + 2) same2 e2) in
-                      elim (cases_lt (get_or a (at + 3) d) (get_or b (at + 3) d)) [
-                        | inl l ↦ field_less kind a b (at + 3) same3 l
-                        | inr high3 ↦
-                            let e3 : get_or a (at + 3) d ≡ get_or b (at + 3) d =
-                            omega (arith, high3, e, e1, e2, less, f.is, g.is, f.fifth, g.fifth) in
-                            let same4 : SameTo d a b (at + 4) = last d a b at (same_on d a b (at + 3) same3 e3) in
-                            field_less kind a b (at + 4) same4 (omega (arith, e, e1, e2, e3, less, f.is, g.is))
-                      ]
-                ]
-          ]
-    ]
-  where
-    more : (d : ℕ) (a b : List ℕ) (at : ℕ) → SameTo d a b (at + 1 + 1) → SameTo d a b (at + 2)
-    more d a b at same j within = same j (omega (arith, within))
+-- no digits spell 0
+pub number_none : (filler : ℕ) (digits : List Digit) (value : List ℕ) → 0 ≡ number_of filler digits value 0
+unfolding number_of
+number_none filler digits value = refl
 
-    next : (d : ℕ) (a b : List ℕ) (at : ℕ) → SameTo d a b (at + 2 + 1) → SameTo d a b (at + 3)
-    next d a b at same j within = same j (omega (arith, within))
+-- one byte more
+pub number_more : (filler : ℕ) (digits : List Digit) (value : List ℕ) (i number byte : ℕ)
+    → number ≡ number_of filler digits value i → byte ≡ get_or value i filler
+    → number * (digit_at digits i).width + (byte - (digit_at digits i).low) ≡ number_of filler digits value (i + 1)
+unfolding number_of
+number_more filler digits value i number byte is here =
+    let e : suc i ≡ i + 1 = omega arith in
+    rw (is, here) (ap (number_of filler digits value) e)
 
-    last : (d : ℕ) (a b : List ℕ) (at : ℕ) → SameTo d a b (at + 3 + 1) → SameTo d a b (at + 4)
-    last d a b at same j within = same j (omega (arith, within))
+-- a number goes on with one more digit
+carried : (x y width p q : ℕ) → x < y → p < width → x * width + p < y * width + q
+carried x y width p q less small =
+    let more : suc x * width ≤ y * width = mul-le-mul_right width (omega (arith, less)) in
+    omega (arith, suc-mul x width, more, small)
 
-cells_less : (kind : FieldType) (begin : List ℕ) (x y : Option (List ℕ)) (m n : ℕ)
-    → HasFront (filler_of kind) begin x m → HasFront (filler_of kind) begin y n → m < n → cell_cmp kind x y ≡ Less
-cells_less kind begin None None m n first second less = absurd (omega (arith, second, less))
-cells_less kind begin None (Some y) m n first second less = refl
-cells_less kind begin (Some x) None m n first second less = absurd (omega (arith, second, less))
-cells_less kind begin (Some x) (Some y) m n first second less =
-    values_less kind begin x y m n first second less
+-- where two values first differ, the first one has the less byte
+record LessAt (filler : ℕ) (a b : List ℕ) : Type 0 where
+  place : ℕ
+  same : SameTo filler a b place
+  less : get_or a place filler < get_or b place filler
+
+module _ (filler : ℕ) (digits : List Digit) (a b : List ℕ) {m n : ℕ} (first : IsFront filler digits a m)
+    (second : IsFront filler digits b n) where
+  abbrev digit : List ℕ → ℕ → ℕ
+  digit value i = get_or value i filler - (digit_at digits i).low
+
+  small : {front : ℕ} (value : List ℕ) → IsFront filler digits value front → (i : ℕ) → i < length digits
+      → digit value i < (digit_at digits i).width
+  small value is i within = omega (arith, is.least i within, is.most i within)
+
+  -- equal numbers are spelled by equal bytes
+  same_to : (i : ℕ) → i ≤ length digits → number_of filler digits a i ≡ number_of filler digits b i
+      → SameTo filler a b i
+  unfolding number_of
+  same_to zero few is = λ j within. absurd (omega (arith, within))
+  same_to (suc i) few is =
+      let within : i < length digits = omega (arith, few) in
+      let width = (digit_at digits i).width in
+      let x = number_of filler digits a i in
+      let y = number_of filler digits b i in
+      let one = small a first i within in
+      let two = small b second i within in
+      let before : x ≡ y =
+      sym (div-mul-add x width (digit a i) one) ∙ ap (λ (k : ℕ). k / width) is
+      ∙ div-mul-add y width (digit b i) two in
+      let here : digit a i ≡ digit b i =
+      sym (mod-mul-add x width (digit a i) one) ∙ ap (λ (k : ℕ). k % width) is
+      ∙ mod-mul-add y width (digit b i) two in
+      let same = same_on filler a b i (same_to i (omega (arith, few)) before)
+      (omega (arith, here, first.least i within, second.least i within)) in
+      λ j below. same j (omega (arith, below))
+
+  -- of two numbers the less one has the less byte, where they first differ
+  less_at : (i : ℕ) → i ≤ length digits → number_of filler digits a i < number_of filler digits b i
+      → LessAt filler a b
+  unfolding number_of
+  less_at zero few less = absurd (omega (arith, less))
+  less_at (suc i) few less =
+      let within : i < length digits = omega (arith, few) in
+      let width = (digit_at digits i).width in
+      let x = number_of filler digits a i in
+      let y = number_of filler digits b i in
+      elim (cases_lt x y) [
+        | inl low ↦ less_at i (omega (arith, few)) low
+        | inr not_low ↦ elim (cases_lt y x) [
+          | inl high ↦
+              absurd (omega (arith, less, carried y x width (digit b i) (digit a i) high (small b second i within)))
+          | inr not_high ↦
+              let e : x ≡ y = omega (arith, not_low, not_high) in
+              let front : x * width ≡ y * width = ap (λ (k : ℕ). k * width) e in
+              record {
+                place = i;
+                same = same_to i (omega (arith, few)) e;
+                less = omega (arith, less, front, first.least i within, second.least i within);
+              }
+        ]
+      ]
+
+values_less : (kind : FieldType) (digits : List Digit) (a b : List ℕ) (m n : ℕ) → IsFront (filler_of kind) digits a m
+    → IsFront (filler_of kind) digits b n → m < n → field_cmp kind a b ≡ Less
+values_less kind digits a b m n first second less =
+    let at = less_at (filler_of kind) digits a b first second (length digits) (omega arith)
+    (omega (arith, less, first.is, second.is)) in
+    field_less kind a b at.place at.same at.less
+
+cells_less : (kind : FieldType) (digits : List Digit) (x y : Option (List ℕ)) (m n : ℕ)
+    → HasFront (filler_of kind) digits x m → HasFront (filler_of kind) digits y n → m < n → cell_cmp kind x y ≡ Less
+cells_less kind digits None None m n first second less = absurd (omega (arith, second, less))
+cells_less kind digits None (Some y) m n first second less = refl
+cells_less kind digits (Some x) None m n first second less = absurd (omega (arith, second, less))
+cells_less kind digits (Some x) (Some y) m n first second less =
+    values_less kind digits x y m n first second less
 
 -- keys whose first values are in order
 not_below : (kinds : List FieldType) (x y : Key) (kind d : FieldType) → length x ≡ length kinds
@@ -174,12 +207,12 @@ not_below (k ∷ kinds) (x ∷ xs) (y ∷ ys) kind d one two is less =
     ap (λ (o : Ordering). is_lt (ordering_then o (key_cmp kinds ys xs))) back
 
 -- of two ranks with different fronts
-pub fronts_decide : (table : KeyTable) (kind : FieldType) (begin : List ℕ) (before here : ℕ)
+pub fronts_decide : (table : KeyTable) (kind : FieldType) (digits : List Digit) (before here : ℕ)
     → ((d : FieldType) → 0 < length table.kinds → kind ≡ get_or table.kinds 0 d)
-    → HaveFronts table (filler_of kind) begin (before ∷ here ∷ []) → before / 2 ^ 24 < here / 2 ^ 24
+    → HaveFronts table (filler_of kind) digits (before ∷ here ∷ []) → before / 2 ^ 24 < here / 2 ^ 24
     → is_lt (key_cmp table.kinds (key_of_rank table here) (key_of_rank table before)) ≡ false
-fronts_decide table kind begin before here is fronts less =
+fronts_decide table kind digits before here is fronts less =
     let first = fronts 0 0 (omega arith) in
     let second = fronts 1 0 (omega arith) in
     not_below table.kinds (key_of_rank table before) (key_of_rank table here) kind Child first.whole second.whole
-    (is Child) (cells_less kind begin _ _ (before / 2 ^ 24) (here / 2 ^ 24) first.front second.front less)
+    (is Child) (cells_less kind digits _ _ (before / 2 ^ 24) (here / 2 ^ 24) first.front second.front less)

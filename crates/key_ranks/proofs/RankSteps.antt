@@ -10,6 +10,7 @@ use Rattle.std.proofs.lemmas.List.Sorted.{IsPermutation-map, All-permutation}
 use Rattle.std.proofs.lemmas.List.Elements.{All-push}
 use Rattle.column_values.specs.Order.{key_cmp}
 use Rattle.key_ranks.specs.Keys.{KeyTable, IsRowOrder}
+use Rattle.key_ranks.specs.declared.ranks.Digit.{Digit}
 use Rattle.key_ranks.specs.Ranks.{AreInOrder, HasFront, HaveFronts, IsRank}
 
 abbrev row : ℕ → ℕ
@@ -26,29 +27,29 @@ ranks_more ranks now number i below rows grown =
     ∙ ap (λ (n : ℕ). range_with_len 0 i ++ n ∷ []) last
     ∙ sym (range_more i)
 
-pub fronts_more : (table : KeyTable) (filler : ℕ) (begin ranks now : List ℕ) (front i : ℕ) (first : Option (List ℕ))
+pub fronts_more : (table : KeyTable) (filler : ℕ) (digits : List Digit) (ranks now : List ℕ) (front i : ℕ) (first : Option (List ℕ))
     → i < 2 ^ 24 → first ≡ get_or (table.key i) 0 None → length (table.key i) ≡ length table.kinds
-    → HasFront filler begin first front → now ≡ ranks ++ (front * 16777216 + i) ∷ []
-    → HaveFronts table filler begin ranks → HaveFronts table filler begin now
-fronts_more table filler begin ranks now front i first below is whole has grown all =
+    → HasFront filler digits first front → now ≡ ranks ++ (front * 16777216 + i) ∷ []
+    → HaveFronts table filler digits ranks → HaveFronts table filler digits now
+fronts_more table filler digits ranks now front i first below is whole has grown all =
     let last : (front * 16777216 + i) % 2 ^ 24 ≡ i = omega (arith, below) in
     let high : (front * 16777216 + i) / 2 ^ 24 ≡ front = omega (arith, below) in
     let rank = front * 16777216 + i in
-    let here : IsRank table filler begin rank = record {
+    let here : IsRank table filler digits rank = record {
       whole = subst (λ (n : ℕ). length (table.key n) ≡ length table.kinds) (sym last) whole;
-      front = subst (λ (n : ℕ). HasFront filler begin (get_or (table.key n) 0 None) (rank / 2 ^ 24)) (sym last)
-          (subst (λ (n : ℕ). HasFront filler begin (get_or (table.key i) 0 None) n) (sym high)
-          (subst (λ (value : Option (List ℕ)). HasFront filler begin value front) is has));
+      front = subst (λ (n : ℕ). HasFront filler digits (get_or (table.key n) 0 None) (rank / 2 ^ 24)) (sym last)
+          (subst (λ (n : ℕ). HasFront filler digits (get_or (table.key i) 0 None) n) (sym high)
+          (subst (λ (value : Option (List ℕ)). HasFront filler digits value front) is has));
     } in
-    subst (All (IsRank table filler begin)) (sym grown)
-    (All-push (IsRank table filler begin) ranks (front * 16777216 + i) all here)
+    subst (All (IsRank table filler digits)) (sym grown)
+    (All-push (IsRank table filler digits) ranks (front * 16777216 + i) all here)
 
 -- the fronts of ranks in another order
-pub fronts_stay : (table : KeyTable) (filler : ℕ) (begin before after now : List ℕ) → IsPermutation before after
-    → now ≡ after → HaveFronts table filler begin before → HaveFronts table filler begin now
-fronts_stay table filler begin before after now places is all =
-    subst (All (IsRank table filler begin)) (sym is)
-    (All-permutation (IsRank table filler begin) before after places all)
+pub fronts_stay : (table : KeyTable) (filler : ℕ) (digits : List Digit) (before after now : List ℕ) → IsPermutation before after
+    → now ≡ after → HaveFronts table filler digits before → HaveFronts table filler digits now
+fronts_stay table filler digits before after now places is all =
+    subst (All (IsRank table filler digits)) (sym is)
+    (All-permutation (IsRank table filler digits) before after places all)
 
 -- a list that was written over from its first member to its last
 pub written_over : (before after : List ℕ) (n : ℕ) → n ≡ length before → length after ≡ length before

@@ -1,11 +1,13 @@
 -- Ranks: the front of a row's key as a number of 40 bits, and the row in the 24 bits below it.
-use Rattle.std.specs.Prelude.{◌≡◌, ℕ, ◌+◌, ◌*◌, ◌/◌, ◌%◌, ◌^◌, ◌<◌, List, All, IsSortedBy, length, slice_index_or}
+use Rattle.std.specs.Prelude.{◌≡◌, ℕ, zero, suc, ◌+◌, ◌-◌, ◌*◌, ◌/◌, ◌%◌, ◌^◌, ◌<◌, ◌≤◌, List, All, IsSortedBy}
+use Rattle.std.specs.Prelude.{length, slice_index_or}
 use Rattle.std.specs.Prelude.{Option, Some, None}
 use Rattle.std.specs.Ordering.{is_lt}
 use Rattle.column_values.specs.declared.kind.ColumnType.TheVariants as types
 use Rattle.column_values.specs.declared.field.FieldType.{FieldType}
 use Rattle.column_values.specs.declared.field.FieldType.TheVariants as fields
 use Rattle.column_values.specs.Order.{Key, key_cmp}
+use Rattle.key_ranks.specs.declared.ranks.Digit.{Digit}
 use Rattle.key_ranks.specs.Keys.{KeyTable}
 
 -- what a value of a kind goes on with in comparisons: a text with spaces
@@ -17,39 +19,40 @@ filler_of (fields.Column (types.Utf8Varchar n)) = 32
 filler_of (fields.Column (types.Utf8Text n)) = 32
 filler_of _ = 0
 
--- the number that five bytes of a value spell, from a place on
-pub record IsNumberAt (filler : ℕ) (value : List ℕ) (at number : ℕ) : Type 0 where
-  pub first : slice_index_or value at filler < 256
-  pub second : slice_index_or value (at + 1) filler < 256
-  pub third : slice_index_or value (at + 2) filler < 256
-  pub fourth : slice_index_or value (at + 3) filler < 256
-  pub fifth : slice_index_or value (at + 4) filler < 256
-  pub is : number
-      ≡ slice_index_or value at filler * 4294967296 + slice_index_or value (at + 1) filler * 16777216
-      + slice_index_or value (at + 2) filler * 65536 + slice_index_or value (at + 3) filler * 256
-      + slice_index_or value (at + 4) filler
+-- the digit at a place
+abbrev pub digit_at : List Digit → ℕ → Digit
+digit_at digits i = slice_index_or digits i (record { low = 0; width = 0 })
 
--- the value has this beginning, and then comes this number
-pub record BeginsSo (filler : ℕ) (begin value : List ℕ) (front : ℕ) : Type 0 where
-  pub same : (i d : ℕ) → i < length begin → slice_index_or value i d ≡ slice_index_or begin i d
-  pub number : IsNumberAt filler value (length begin) front
+-- the number that the first so many bytes of a value spell, digit after digit
+unfoldable pub number_of : ℕ → List Digit → List ℕ → ℕ → ℕ
+number_of filler digits value zero = 0
+number_of filler digits value (suc i) =
+    number_of filler digits value i * (digit_at digits i).width
+    + (slice_index_or value i filler - (digit_at digits i).low)
 
--- the front of a value that has this beginning, 0 of a null
-abbrev pub HasFront : ℕ → List ℕ → Option (List ℕ) → ℕ → Type 0
-HasFront filler begin None front = front ≡ 0
-HasFront filler begin (Some value) front = BeginsSo filler begin value front
+-- each byte of the value is a digit at its place, and this number is spelled so
+pub record IsFront (filler : ℕ) (digits : List Digit) (value : List ℕ) (front : ℕ) : Type 0 where
+  pub least : (i : ℕ) → i < length digits → (digit_at digits i).low ≤ slice_index_or value i filler
+  pub most : (i : ℕ) → i < length digits
+      → slice_index_or value i filler < (digit_at digits i).low + (digit_at digits i).width
+  pub is : front ≡ number_of filler digits value (length digits)
+
+-- the front of a value, 0 of a null
+abbrev pub HasFront : ℕ → List Digit → Option (List ℕ) → ℕ → Type 0
+HasFront filler digits None front = front ≡ 0
+HasFront filler digits (Some value) front = IsFront filler digits value front
 
 -- the key of a rank's row
 abbrev pub key_of_rank : KeyTable → ℕ → Key
 key_of_rank table rank = table.key (rank % 2 ^ 24)
 
 -- the rank has the front of the first value of its row's key, which has all its values
-pub record IsRank (table : KeyTable) (filler : ℕ) (begin : List ℕ) (rank : ℕ) : Type 0 where
+pub record IsRank (table : KeyTable) (filler : ℕ) (digits : List Digit) (rank : ℕ) : Type 0 where
   pub whole : length (key_of_rank table rank) ≡ length table.kinds
-  pub front : HasFront filler begin (slice_index_or (key_of_rank table rank) 0 None) (rank / 2 ^ 24)
+  pub front : HasFront filler digits (slice_index_or (key_of_rank table rank) 0 None) (rank / 2 ^ 24)
 
-abbrev pub HaveFronts : KeyTable → ℕ → List ℕ → List ℕ → Type 0
-HaveFronts table filler begin ranks = All (IsRank table filler begin) ranks
+abbrev pub HaveFronts : KeyTable → ℕ → List Digit → List ℕ → Type 0
+HaveFronts table filler digits ranks = All (IsRank table filler digits) ranks
 
 -- the keys of the ranks' rows don't fall
 abbrev pub AreInOrder : KeyTable → List ℕ → Type 0

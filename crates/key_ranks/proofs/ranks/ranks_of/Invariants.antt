@@ -7,5 +7,5 @@ use Rattle.key_ranks.proofs.ranks.ranks_of.Given as goal
 abbrev pub invariant-loop-row : goal.invariant-loop-row
 invariant-loop-row g l = record {
   rows : map (λ rank. rank % 2 ^ 24) l.ranks.items ≡ range_with_len 0 l.row;
-  fronts : HaveFronts (g.K.RowKeys.table l.keys) l.filler l.begin l.ranks.items;
+  fronts : HaveFronts (g.K.RowKeys.table l.keys) l.filler l.digits l.ranks.items;
 }

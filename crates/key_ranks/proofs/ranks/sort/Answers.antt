@@ -6,12 +6,12 @@ use Rattle.key_ranks.proofs.ranks.sort.Goals as goal
 
 pub are_in_order-requires-clause-fronts : goal.are_in_order-requires-clause-fronts
 are_in_order-requires-clause-fronts g c =
-    fronts_stay (g.K.RowKeys.table c.args.keys.now) (filler_of c.args.kind.now) c.args.begin.now _ _ _
+    fronts_stay (g.K.RowKeys.table c.args.keys.now) (filler_of c.args.kind.now) c.args.digits.now _ _ _
     c.sort_unstable.ensures.permutation refl c.requires.fronts
 
 pub are_in_order-requires-2-clause-fronts : goal.are_in_order-requires-2-clause-fronts
 are_in_order-requires-2-clause-fronts g c =
-    fronts_stay (g.K.RowKeys.table c.args.keys.now) (filler_of c.args.kind.now) c.args.begin.now _ _ _
+    fronts_stay (g.K.RowKeys.table c.args.keys.now) (filler_of c.args.kind.now) c.args.digits.now _ _ _
     (IsPermutation-trans _ _ _ c.sort_unstable.ensures.permutation c.sort_runs.ensures) refl c.requires.fronts
 
 pub returns-clause-places : goal.returns-clause-places
