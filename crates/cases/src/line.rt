@@ -1,12 +1,13 @@
 //! One line of the cases.
 
-use crate::command::{BuildCase, Command, try_schema};
-use crate::report::Report;
+use crate::command::{BuildCase, Command};
 use case_files::error::LineError;
 use case_files::named_files::NamedFiles;
 use case_files::plan::Plan;
 use case_files::text::decode;
 use case_files::words::Words;
+use file_cases::report::Report;
+use file_cases::schema::try_schema;
 use std::alloc::Global;
 
 /// What goes before the words on what is tried.

@@ -4,9 +4,6 @@
 
 mod command;
 mod line;
-mod outcome;
-mod report;
-mod run;
 
 use case_files::named_files::NamedFiles;
 use line::try_line;

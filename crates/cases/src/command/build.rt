@@ -2,9 +2,6 @@
 
 ghost use Rattle.std.specs.Prelude.{◌≡◌, ◌<◌};
 
-use crate::outcome::{End, put_checked};
-use crate::report::Report;
-use crate::run::{Hitch, Ready, Task};
 use case_files::edited_pages::EditedPages;
 use case_files::error::LineError;
 use case_files::failing::{Failing, Object, which_of};
@@ -14,6 +11,9 @@ use case_files::store::CaseStore;
 use case_files::text::{put_hex, put_number};
 use case_files::words::Words;
 use fil_frame::crc32c;
+use file_cases::outcome::{End, put_checked};
+use file_cases::report::Report;
+use file_cases::run::{Hitch, Ready, Task};
 use page_source::{ByteList, Fails, MemoryBytes, NoMemory, Page, Steps};
 use schema_text::Schema;
 use space_builder::{BuildStop, Built, RowsWhy, build};

@@ -1,8 +1,5 @@
 //! The commands `carve_list` and `carve_take`: what stands in a raw image of a disk.
 
-use crate::outcome::{End, Outcome};
-use crate::report::Report;
-use crate::run::{Hitch, sink_of, written_of};
 use case_files::error::LineError;
 use case_files::failing::{Failing, Object, which_of};
 use case_files::hex::bytes_of;
@@ -10,6 +7,9 @@ use case_files::named_files::{NamedFiles, copied};
 use case_files::store::CaseStore;
 use case_files::text::{decode, put_number};
 use case_files::words::{Range, Words, page_number};
+use file_cases::outcome::{End, Outcome};
+use file_cases::report::Report;
+use file_cases::run::{Hitch, sink_of, written_of};
 use image_carve::{TakeStop, Taken, take};
 use image_listing::list;
 use page_source::{ByteList, Fails, MemoryBytes, NoMemory, Page};

@@ -1,39 +1,29 @@
-//! The commands, one module each. A command that comes later gets a module of its own here, a variant of `Command`, and
-//! its arms in `read` and `run`.
+//! The commands: those that read a file, of file_cases, and one module each for the others. A command that comes later
+//! gets a module of its own, here or there, a variant of `Command`, and its arms in `read` and `run`.
 
-mod audit;
 mod build;
 mod carve;
-mod file;
-mod get;
-mod page;
-mod row;
 mod salvage;
 mod sample;
-mod schema;
-mod sweep;
-mod value;
-mod walk;
 
-use crate::report::Report;
-use crate::run::Task;
-use audit::AuditCase;
 pub use build::BuildCase;
 use carve::CarveCase;
 use case_files::error::LineError;
 use case_files::named_files::NamedFiles;
 use case_files::words::Words;
-use file::{FetchCase, FileCase};
-use get::GetCase;
-use page::PageCase;
-use row::{RowCase, RowText};
+use file_cases::audit::AuditCase;
+use file_cases::file::{FetchCase, FileCase};
+use file_cases::get::GetCase;
+use file_cases::page::PageCase;
+use file_cases::report::Report;
+use file_cases::row::{RowCase, RowText};
+use file_cases::run::Task;
+use file_cases::sweep::SweepCase;
+use file_cases::value::ValueCase;
+use file_cases::walk::WalkCase;
 use salvage::SalvageCase;
 use sample::SampleCase;
-pub use schema::try_schema;
 use std::alloc::Global;
-use sweep::SweepCase;
-use value::ValueCase;
-use walk::WalkCase;
 
 /// What a line tries.
 #[derive(Drop)]

@@ -2,10 +2,6 @@
 
 ghost use Rattle.std.specs.Prelude.{◌≡◌, ◌<◌};
 
-use crate::command::file::{tries_of, which_of};
-use crate::outcome::{End, put_length, put_saved};
-use crate::report::Report;
-use crate::run::{Hitch, Ready, hitch_at, losses_of, sink_of};
 use case_files::error::LineError;
 use case_files::named_files::{NamedFiles, copied};
 use case_files::pages::CasePages;
@@ -14,6 +10,10 @@ use case_files::text::decode;
 use case_files::unread::Unread;
 use case_files::words::Words;
 use fil_frame::crc32c;
+use file_cases::file::{tries_of, which_of};
+use file_cases::outcome::{End, put_length, put_saved};
+use file_cases::report::Report;
+use file_cases::run::{Hitch, Ready, hitch_at, losses_of, sink_of};
 use page_source::{ByteList, MemorySink, NoMemory, Steps};
 use salvage_model::{RecordKind, Saved};
 use schema_text::Schema;

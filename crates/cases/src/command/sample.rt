@@ -2,10 +2,10 @@
 
 ghost use Rattle.std.specs.Prelude.{◌≡◌, ◌≤◌, ◌<◌};
 
-use crate::outcome::{put_checked, put_length};
-use crate::report::Report;
 use case_files::error::LineError;
 use case_files::words::Words;
+use file_cases::outcome::{put_checked, put_length};
+use file_cases::report::Report;
 use page_source::{ByteList, NoMemory, Steps};
 use sample_table::{Sample, SampleStop, sample};
 use std::alloc::Global;

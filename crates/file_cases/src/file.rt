@@ -4,10 +4,11 @@ use crate::report::Report;
 use crate::run::{Hitch, Ready, Task, hitch_at, numbers_of};
 use case_files::error::LineError;
 use case_files::named_files::{NamedFiles, copied};
+use case_files::pages::CasePages;
 use case_files::plan::{Plan, Trouble};
 use case_files::text::{decode, put_number};
 use case_files::words::{Range, Words};
-use page_source::ByteList;
+use page_source::{ByteList, NoMemory};
 use std::alloc::Global;
 
 /// The most tries of a line.
@@ -126,13 +127,19 @@ impl<'a> FetchCase<'a> {
     ) -> Result<(), LineError> {
         let ready = Ready::new(alloc, files, &self.plan)?;
         let file = ready.fetches(alloc, self.task)?;
-        let mut came = ByteList::new(alloc);
-        for page in file.fetched() {
-            if !came.bytes().is_empty() {
-                came.extend(b" ")?;
-            }
-            put_number(&mut came, u64::from(*page))?;
-        }
+        let came = fetched(alloc, &file, b" ")?;
         report.compare(b"", answer.as_bytes(), came.bytes())
     }
+}
+
+/// The numbers of the pages that were fetched, in order, with these bytes between them.
+pub fn fetched(alloc: Global, file: &CasePages<'_>, between: &[u8]) -> Result<ByteList, NoMemory> {
+    let mut list = ByteList::new(alloc);
+    for page in file.fetched() {
+        if !list.bytes().is_empty() {
+            list.extend(between)?;
+        }
+        put_number(&mut list, u64::from(*page))?;
+    }
+    Ok(list)
 }

@@ -1,6 +1,6 @@
 use Rattle.std.proofs.Common.{◌≡◌, length}
 use Rattle.tree_walk.specs.Room.{HasRoom}
-use Rattle.cases.proofs.command.walk.walk_trees.Given as goal
+use Rattle.file_cases.proofs.walk.walk_trees.Given as goal
 
 abbrev pub invariant-loop-j : goal.invariant-loop-j
 invariant-loop-j g l = record {

@@ -1,4 +1,4 @@
-use Rattle.cases.proofs.command.walk.ends_of.Given as goal
+use Rattle.file_cases.proofs.walk.walked.Given as goal
 
 abbrev pub ghosts-walk_all : goal.ghosts-walk_all
 ghosts-walk_all a = record { name = a.blank.name; parts = a.blank.parts }

@@ -19,6 +19,7 @@ use space_audit::{Marks, Space, audit};
 use std::alloc::Global;
 use std::marker::Brand;
 use std::sync::ledger::{Blank, Ledger};
+use table_check::LiveRows;
 use tree_walk::{TreeEnds, Walk, walk_tree};
 
 /// `walk BASE ITEM ..`.
@@ -43,16 +44,23 @@ impl<'a> WalkCase<'a> {
     ) -> Result<(), LineError> {
         let ready = Ready::new(alloc, files, &self.plan)?;
         let mut came = ByteList::new(alloc);
-        match ends_of(alloc, &ready) {
+        match walked(alloc, &ready) {
             Ok(list) => {
-                for ends in &list {
-                    put_ends(&mut came, ends)?;
+                for tree in &list {
+                    put_tree(&mut came, tree)?;
                 }
             }
             Err(end) => end.put(&mut came)?,
         }
         report.compare(b"", answer.as_bytes(), came.bytes())
     }
+}
+
+/// The numbers of a tree, and how many rows came of it one after another.
+#[derive(Drop)]
+struct WalkedTree {
+    ends: TreeEnds,
+    rows: u64,
 }
 
 /// What walks work in, and the segments and pages that they met.
@@ -112,19 +120,42 @@ fn walk_index<L: Ledger>(
     )?)
 }
 
+/// How many rows without the delete mark come of a tree, one after another; one more than it has, if that many come.
+fn count_rows<L: Ledger>(
+    alloc: Global,
+    file: &mut CasePages<'_>,
+    ends: &TreeEnds,
+    steps: &mut Steps<L>,
+) -> Result<u64, End> {
+    let mut rows = LiveRows::start(alloc, ends)?;
+    for count in 0..ends.live {
+        if rows.next(file, steps)?.is_none() {
+            return Ok(count);
+        }
+    }
+    let is_all = rows.next(file, steps)?.is_none();
+    Ok(ends.live.saturating_add(u64::from(!is_all)))
+}
+
 /// Walks the trees of all indexes, in their order.
 fn walk_trees<L: Ledger>(
     alloc: Global,
     file: &mut CasePages<'_>,
     space: &Space,
     table: &Schema,
+    tools: &mut Tools,
     steps: &mut Steps<L>,
-) -> Result<Vec<TreeEnds>, End> {
-    let mut tools = Tools::new(alloc, space)?;
+) -> Result<Vec<WalkedTree>, End>
+    requires members { length tools.old.marks ≡ space.now.size }
+    requires segments { length tools.old.named ≡ length space.now.segments }
+    requires room { HasRoom tools.old.walk 128 }
+{
     let mut list = Vec::new(alloc);
     for j in 0..table.indexes().len() {
-        let ends = walk_index(alloc, file, space, table, j, &mut tools, steps)?;
-        list.push(ends).map_err(|_| End::Memory)?;
+        let ends = walk_index(alloc, file, space, table, j, tools, steps)?;
+        let rows = count_rows(alloc, file, &ends, steps)?;
+        list.push(WalkedTree { ends, rows })
+            .map_err(|_| End::Memory)?;
     }
     Ok(list)
 }
@@ -135,28 +166,30 @@ fn walk_all<L: Ledger>(
     file: &mut CasePages<'_>,
     table: &Schema,
     blank: Blank,
-) -> Result<Vec<TreeEnds>, End>
+) -> Result<Vec<WalkedTree>, End>
     requires name { blank.name ≡ L.name }
     requires parts { blank.parts ≡ L.parts }
     requires shared { 0 < blank.parts }
 {
     let mut steps = Steps::<L>::new(blank);
     let space = audit(alloc, file, table.flags(), &mut steps)?;
-    walk_trees(alloc, file, &space, table, &mut steps)
+    let mut tools = Tools::new(alloc, &space)?;
+    walk_trees(alloc, file, &space, table, &mut tools, &mut steps)
 }
 
-/// The ends of the trees of the file.
-fn ends_of(alloc: Global, ready: &Ready<'_>) -> Result<Vec<TreeEnds>, End> {
+/// The trees of the file.
+fn walked(alloc: Global, ready: &Ready<'_>) -> Result<Vec<WalkedTree>, End> {
     let table = Schema::read(alloc, ready.schema())?;
     let mut file = CasePages::new(alloc, ready.image());
     walk_all::<Brand>(alloc, &mut file, &table, Blank::new(1))
 }
 
-/// Adds the numbers of a tree, behind those of the trees before.
-fn put_ends(text: &mut ByteList, ends: &TreeEnds) -> Result<(), NoMemory> {
+/// Adds the numbers of a tree, behind those of the trees before; the rows that came only if they are others.
+fn put_tree(text: &mut ByteList, tree: &WalkedTree) -> Result<(), NoMemory> {
     if !text.bytes().is_empty() {
         text.extend(b"; ")?;
     }
+    let ends = &tree.ends;
     let numbers = [
         ("id=", ends.index_id),
         (" level=", u64::from(ends.root_level)),
@@ -170,6 +203,10 @@ fn put_ends(text: &mut ByteList, ends: &TreeEnds) -> Result<(), NoMemory> {
     for (word, number) in numbers {
         text.extend(word.as_bytes())?;
         put_number(text, number)?;
+    }
+    if tree.rows != ends.live {
+        text.extend(b" rows=")?;
+        put_number(text, tree.rows)?;
     }
     Ok(())
 }

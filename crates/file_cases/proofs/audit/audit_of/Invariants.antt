@@ -1,4 +1,4 @@
-use Rattle.cases.proofs.command.audit.audit_of.Given as goal
+use Rattle.file_cases.proofs.audit.audit_of.Given as goal
 
 abbrev pub ghosts-counted : goal.ghosts-counted
 ghosts-counted a = record { name = a.blank.name; parts = a.blank.parts }
