@@ -7,10 +7,10 @@ ghost use Rattle.schema_text.specs.IndexFields.{leaf_fields, node_fields};
 ghost use Rattle.tree_walk.specs.Room.{CanWalk};
 
 use column_values::FieldList;
-use page_source::{NoMemory, Page};
+use page_source::NoMemory;
 use schema_text::Schema;
 use schema_text::laws::lists_are_of_one_index;
-use sql_dump::{Buffer, ChainRoom, RowReader};
+use sql_dump::{ChainRoom, RowReader};
 use std::alloc::Global;
 use table_check::MOST_FIELDS;
 use tree_walk::Walk;
@@ -46,11 +46,7 @@ impl<'a> Room<'a> {
             node,
             walk: Walk::new(alloc, MOST_FIELDS)?,
             reader: RowReader::new(alloc, schema)?,
-            chains: ChainRoom {
-                page: Page::zeroed(alloc)?,
-                left: 0,
-                text: Buffer::new(alloc)?,
-            },
+            chains: ChainRoom::new(alloc, 0)?,
         })
     }
 }

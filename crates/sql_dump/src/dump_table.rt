@@ -13,7 +13,7 @@ use crate::long::ChainRoom;
 use crate::reader::RowReader;
 use crate::rows::put_rows;
 use crate::stop::DumpStop;
-use page_source::{ByteSink, Page, PageSource, Steps};
+use page_source::{ByteSink, PageSource, Steps};
 use schema_text::Schema;
 use std::alloc::Global;
 use std::sync::ledger::Ledger;
@@ -50,11 +50,7 @@ pub fn dump<S: PageSource, O: ByteSink, L: Ledger>(
     let mut reader = RowReader::new(alloc, schema)?;
     let mut buffer = Buffer::new(alloc)?;
     let mut rows = LiveRows::start(alloc, &table.clustered)?;
-    let mut room = ChainRoom {
-        page: Page::zeroed(alloc)?,
-        left: table.chain_pages,
-        text: Buffer::new(alloc)?,
-    };
+    let mut room = ChainRoom::new(alloc, table.chain_pages)?;
     put_rows(
         source,
         sink,

@@ -1,6 +1,6 @@
 //! Values that go on in pages of their own, written as they are read.
 
-ghost use Rattle.std.specs.Prelude.{◌≡◌, ◌+◌, ◌-◌, ◌<◌, ◌≤◌, ◌↔◌, ◌++◌, length, true, IsTrue, OnOk, Err};
+ghost use Rattle.std.specs.Prelude.{◌≡◌, ◌+◌, ◌-◌, ◌<◌, ◌≤◌, ◌↔◌, ◌++◌, length, true, IfOk, IsTrue, OnOk, Err};
 ghost use Rattle.page_source.specs.declared.rule.Fault.{Fault};
 ghost use Rattle.page_source.specs.Calls.{OfFile, Puts};
 ghost use Rattle.offpage_chain.specs.Chain.{chain_pages};
@@ -15,9 +15,10 @@ use crate::stop::WriteStop;
 use column_values::{ColumnType, FieldType};
 use offpage_chain::layout::PART_START;
 use offpage_chain::{ChainReader, Reference};
-use page_source::{ByteSink, Failed, Page, PageSource, Rule, Steps};
+use page_source::{ByteSink, Failed, NoMemory, Page, PageSource, Rule, Steps};
 use row_text::RowWriter;
 use row_text::laws::parts_are_the_value;
+use std::alloc::Global;
 use std::sync::ledger::Ledger;
 use table_check::split_local;
 
@@ -27,6 +28,19 @@ pub struct ChainRoom {
     pub page: Page,
     pub left: u32,
     pub text: Buffer,
+}
+
+impl ChainRoom {
+    /// Room for the parts of chains, of which so many pages may be fetched.
+    pub fn new(alloc: Global, left: u32) -> Result<ChainRoom, NoMemory>
+        ensures { IfOk result (λ room. room.left ≡ left) }
+    {
+        Ok(ChainRoom {
+            page: Page::zeroed(alloc)?,
+            left,
+            text: Buffer::new(alloc)?,
+        })
+    }
 }
 
 /// The local bytes of a value that goes on elsewhere.

@@ -33,6 +33,31 @@ pub(crate) struct Room<'a> {
     pub unheard: bool,
 }
 
+/// Room for the records of a page, and for the values of one of them.
+fn record_room(alloc: Global, schema: &Schema) -> Result<(Scratch, RowReader<'_>), NoMemory>
+    ensures { IfOk result (λ room. (room.0 ≡ 128) × (room.1.table ≡ schema.now)) }
+{
+    Ok((
+        Scratch::new(alloc, MOST_FIELDS)?,
+        RowReader::new(alloc, schema)?,
+    ))
+}
+
+/// What no page has told yet of so many pages, and a mark for each of them.
+fn page_room(alloc: Global, pages: u32) -> Result<(Descriptors, Marks), NoMemory>
+    ensures { IfOk result (λ room. ((file : List ℕ) (missed : ℕ → Bool) → Knows file missed 0 room.0)
+        × (room.1 ≡ replicate pages false)) }
+{
+    Ok((Descriptors::new(alloc)?, Marks::new(alloc, pages)?))
+}
+
+/// The buffer of the output, and what a row lost.
+fn line_room(alloc: Global, schema: &Schema) -> Result<(Buffer, ColumnLosses), NoMemory>
+    ensures { IfOk result (λ room. (room.0.bytes ≡ []) × (length room.1 ≡ length schema.now.columns)) }
+{
+    Ok((Buffer::new(alloc)?, ColumnLosses::new(alloc, schema)?))
+}
+
 impl<'a> Room<'a> {
     /// The room for a table, in a file of which so many pages are looked at.
     pub fn new(alloc: Global, schema: &'a Schema, pages: u32) -> Result<Room<'a>, NoMemory>
@@ -47,19 +72,23 @@ impl<'a> Room<'a> {
             room.saved ≡ record { rows = 0; partial = 0; leaves = 0; lost = 0 }) }
         ensures heard { IfOk result (λ room. room.unheard ≡ false) }
     {
+        let records = record_room(alloc, schema)?;
+        let met = page_room(alloc, pages)?;
+        let lines = line_room(alloc, schema)?;
+        let page = Page::zeroed(alloc)?;
+        let chains = ChainRoom::new(alloc, 0)?;
+        let (scratch, reader) = records;
+        let (descriptors, marks) = met;
+        let (buffer, losses) = lines;
         Ok(Room {
-            scratch: Scratch::new(alloc, MOST_FIELDS)?,
-            descriptors: Descriptors::new(alloc)?,
-            reader: RowReader::new(alloc, schema)?,
-            marks: Marks::new(alloc, pages)?,
-            page: Page::zeroed(alloc)?,
-            chains: ChainRoom {
-                page: Page::zeroed(alloc)?,
-                left: 0,
-                text: Buffer::new(alloc)?,
-            },
-            buffer: Buffer::new(alloc)?,
-            losses: ColumnLosses::new(alloc, schema)?,
+            scratch,
+            descriptors,
+            reader,
+            marks,
+            page,
+            chains,
+            buffer,
+            losses,
             saved: Saved {
                 rows: 0,
                 partial: 0,

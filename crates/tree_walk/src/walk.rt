@@ -1,6 +1,6 @@
 //! What a walk works in.
 
-ghost use Rattle.std.specs.Prelude.{IfOk};
+ghost use Rattle.std.specs.Prelude.{◌≡◌, IfOk};
 ghost use Rattle.tree_walk.specs.Room.{HasRoom};
 
 use compact_record::Located;
@@ -30,20 +30,47 @@ pub struct Walk {
     pub last: Located,
 }
 
+/// Three pages of zeros.
+fn three_pages(alloc: Global) -> Result<(Page, Page, Page), NoMemory> {
+    Ok((
+        Page::zeroed(alloc)?,
+        Page::zeroed(alloc)?,
+        Page::zeroed(alloc)?,
+    ))
+}
+
+/// Room for the places of two records.
+fn two_records(alloc: Global, members: u32) -> Result<(Located, Located), NoMemory>
+    ensures { IfOk result (λ two. (two.0.members ≡ members) × (two.1.members ≡ members)) }
+{
+    Ok((
+        Located::with_room(alloc, members)?,
+        Located::with_room(alloc, members)?,
+    ))
+}
+
 impl Walk {
     /// Room for records of at most so many fields.
     pub fn new(alloc: Global, members: u32) -> Result<Walk, NoMemory>
         ensures { IfOk result (λ walk. HasRoom walk members) }
     {
+        // what is in hand if memory runs out is few values, each of which is given back
+        let pages = three_pages(alloc)?;
+        let separators = two_records(alloc, members)?;
+        let ends = two_records(alloc, members)?;
+        let scratch = Scratch::new(alloc, members)?;
+        let (parent, after, child) = pages;
+        let (low, high) = separators;
+        let (first, last) = ends;
         Ok(Walk {
-            parent: Page::zeroed(alloc)?,
-            after: Page::zeroed(alloc)?,
-            child: Page::zeroed(alloc)?,
-            scratch: Scratch::new(alloc, members)?,
-            low: Located::with_room(alloc, members)?,
-            high: Located::with_room(alloc, members)?,
-            first: Located::with_room(alloc, members)?,
-            last: Located::with_room(alloc, members)?,
+            parent,
+            after,
+            child,
+            scratch,
+            low,
+            high,
+            first,
+            last,
         })
     }
 }

@@ -6,7 +6,7 @@ use page_source::{
     ByteList, ChangingPages, Fails, Fault, MemorySink, NoMemory, Page, Rule, Steps, write_be,
 };
 use schema_text::Schema;
-use sql_dump::{Buffer, ChainRoom, Row, RowReader, WriteStop, put_row};
+use sql_dump::{ChainRoom, Row, RowReader, WriteStop, put_row};
 use std::alloc::Global;
 use std::marker::Brand;
 use std::process::Abort;
@@ -132,15 +132,6 @@ fn sink_of(alloc: Global) -> Result<MemorySink, NoMemory> {
     MemorySink::new(alloc, 1000, Fails::of(alloc, &[])?)
 }
 
-/// Room for parts, of which so many may be fetched.
-fn room_of(alloc: Global, left: u32) -> Result<ChainRoom, NoMemory> {
-    Ok(ChainRoom {
-        page: Page::zeroed(alloc)?,
-        left,
-        text: Buffer::new(alloc)?,
-    })
-}
-
 /// Puts the line of a row.
 fn put<L: Ledger>(
     source: &mut ChangingPages,
@@ -172,7 +163,7 @@ pub fn put_one<L: Ledger>(
     requires shared { 0 < blank.parts }
 {
     let mut sink = sink_of(alloc)?;
-    let mut room = room_of(alloc, left)?;
+    let mut room = ChainRoom::new(alloc, left)?;
     let mut reader = RowReader::new(alloc, table)?;
     if let Err(stop) = reader.read(page, LEAF, origin) {
         return Ok((Err(stop), sink));
