@@ -70,7 +70,7 @@ pub cross_stopped : {F O : Type 0} (key : List ℕ) (f : FileOf F) (o : SinkOf O
 cross_stopped key f o file file_now table out steps steps_now stop told over cost fetches =
     record {
       ends = map_told (f.content file) (λ content crosses. stop_ends key content table stop (o.written out) crosses)
-      told;
+          told;
       of_file = stop_of_file stop;
       unkeyed = λ is. absurd (never_keyed stop is);
       unsought = λ none. absurd none;

@@ -107,9 +107,11 @@ inputs_stopped all f q task key file schema schema_now steps stop stopped =
     let left = q.left schema_now in
     record {
       read = stopped.read;
-      refused = λ line why is.
-          (map_told (q.left schema) (λ text reads. refused_as text left stop line why is reads) stopped.reads, refl,
-          refl);
+      refused = λ line why is. (
+        map_told (q.left schema) (λ text reads. refused_as text left stop line why is reads) stopped.reads,
+        refl,
+        refl,
+      );
       untouched = λ text told none. (refl, refl);
       alone = λ text line why told refused.
           stopped_alone text (all text) left stop (at_told _ (q.left schema) text told stopped.reads) line why refused;

@@ -88,7 +88,6 @@ filter_fewer test xs =
 -- the local bytes of columns are no longer
 module _ (spells : SpellingSpells) (table : TableDef) (is : IsTable table) (row : List Value)
     (fits : IsTableRow table row) where
-
   local_column : (c : ℕ) → c < length table.columns
       → length (local_bytes (part_of_field table.format 0 (stored_column table row c)))
       ≤ greatest_length (column_at table c).kind

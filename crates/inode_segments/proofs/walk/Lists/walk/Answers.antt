@@ -84,7 +84,7 @@ loop-source-preserved g c =
           step.holder step.before k is (λ z. false≢true (c.loop-source-test.ensures.1 z)) (held earlier m)
           (checks (earlier ++ stepped_pages file base k) (marked earlier m))) i.at i.held i.marked checks;
       marked = map_told2 o (λ file is marked earlier m. marked_next file earlier base step.address step.holder
-      step.before k
+          step.before k
           pages c.add_page.new.self.pages is c.in_ok-next.ensures.below now (marked earlier m)) i.at i.marked;
       grew = map_told3 o (λ file is here grew. grew_more file base step.address step.holder step.before k
           c.check_step.new.page
