@@ -125,21 +125,32 @@ impl<'a> FetchCase<'a> {
         answer: &str,
         report: &mut Report,
     ) -> Result<(), LineError> {
-        let ready = Ready::new(alloc, files, &self.plan)?;
-        let file = ready.fetches(alloc, self.task)?;
-        let came = fetched(alloc, &file, b" ")?;
+        let came = fetched(alloc, files, &self.plan, self.task, b" ")?;
         report.compare(b"", answer.as_bytes(), came.bytes())
     }
 }
 
-/// The numbers of the pages that were fetched, in order, with these bytes between them.
-pub fn fetched(alloc: Global, file: &CasePages<'_>, between: &[u8]) -> Result<ByteList, NoMemory> {
+/// The numbers of the pages that a task fetches, in order, with these bytes between them.
+pub fn fetched(
+    alloc: Global,
+    files: &NamedFiles,
+    plan: &Plan<'_>,
+    task: Task<'_>,
+    between: &[u8],
+) -> Result<ByteList, LineError> {
+    let ready = Ready::new(alloc, files, plan)?;
+    let file = ready.fetches(alloc, task)?;
+    Ok(joined(alloc, file.fetched(), between)?)
+}
+
+/// These numbers, with these bytes between them.
+fn joined(alloc: Global, numbers: &[u32], between: &[u8]) -> Result<ByteList, NoMemory> {
     let mut list = ByteList::new(alloc);
-    for page in file.fetched() {
+    for number in numbers {
         if !list.bytes().is_empty() {
             list.extend(between)?;
         }
-        put_number(&mut list, u64::from(*page))?;
+        put_number(&mut list, u64::from(*number))?;
     }
     Ok(list)
 }

@@ -8,7 +8,7 @@ use case_files::named_files::NamedFiles;
 use case_files::plan::Plan;
 use case_files::text::{decode, put_number};
 use case_files::words::Words;
-use page_source::ByteList;
+use page_source::{ByteList, NoMemory};
 use std::alloc::Global;
 
 /// `get BASE ITEM .. [fetches PAGE,PAGE,..] = KEY`, without its first word.
@@ -48,40 +48,33 @@ impl<'a> GetCase<'a> {
     ) -> Result<(), LineError> {
         let task = Task::Get(self.key.bytes());
         self.file.run(alloc, files, &[task], answer, report)?;
-        let ready = Ready::new(alloc, files, self.file.plan())?;
         if answer == "key" {
-            return compare_calls(alloc, &ready, task, report);
+            let calls = number(alloc, self.calls(alloc, files)?)?;
+            return report.compare(b" of the calls", b"0", calls.bytes());
         }
-        match self.fetches {
-            Some(pages) => compare_fetches(alloc, &ready, task, pages, report),
-            None => Ok(()),
-        }
+        let Some(pages) = self.fetches else {
+            return Ok(());
+        };
+        let came = fetched(alloc, files, self.file.plan(), task, b",")?;
+        let wanted: &[u8] = if pages == "none" {
+            b""
+        } else {
+            pages.as_bytes()
+        };
+        report.compare(b" of the fetches", wanted, came.bytes())
+    }
+
+    /// How often the file is called.
+    fn calls(&self, alloc: Global, files: &NamedFiles) -> Result<u64, LineError> {
+        let ready = Ready::new(alloc, files, self.file.plan())?;
+        let file = ready.fetches(alloc, Task::Get(self.key.bytes()))?;
+        Ok(file.calls())
     }
 }
 
-/// Compares how often the file was called with never.
-fn compare_calls(
-    alloc: Global,
-    ready: &Ready<'_>,
-    task: Task<'_>,
-    report: &mut Report,
-) -> Result<(), LineError> {
-    let mut came = ByteList::new(alloc);
-    put_number(&mut came, ready.fetches(alloc, task)?.calls())?;
-    report.compare(b" of the calls", b"0", came.bytes())
-}
-
-/// Compares the pages that the file was asked for with those of the line, or with the word `none`.
-fn compare_fetches(
-    alloc: Global,
-    ready: &Ready<'_>,
-    task: Task<'_>,
-    pages: &str,
-    report: &mut Report,
-) -> Result<(), LineError> {
-    let file = ready.fetches(alloc, task)?;
-    let came = fetched(alloc, &file, b",")?;
-    let is_none = pages == "none";
-    let wanted: &[u8] = if is_none { b"" } else { pages.as_bytes() };
-    report.compare(b" of the fetches", wanted, came.bytes())
+/// The text of a number.
+fn number(alloc: Global, number: u64) -> Result<ByteList, NoMemory> {
+    let mut text = ByteList::new(alloc);
+    put_number(&mut text, number)?;
+    Ok(text)
 }

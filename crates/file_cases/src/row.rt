@@ -88,21 +88,41 @@ fn refused(alloc: Global, error: RowError) -> Result<ByteList, LineError> {
 /// `same` where the text is that of a key, and of a row of a table of the key's columns alone; what is written of that
 /// row has to be the text, and its values have to be the key's.
 fn answer_of_key(alloc: Global, schema: &Schema, text: &[u8]) -> Result<ByteList, LineError> {
-    let key = match read_key(alloc, schema, text) {
-        Ok(key) => key,
-        Err(error) => return refused(alloc, error),
-    };
+    match read_key(alloc, schema, text) {
+        Ok(key) => answer_of_values(alloc, schema, text, &key),
+        Err(error) => refused(alloc, error),
+    }
+}
+
+/// What came of a key, which was read as these values: its text if the row of a table with its columns has them.
+fn answer_of_values(
+    alloc: Global,
+    schema: &Schema,
+    text: &[u8],
+    key: &Row,
+) -> Result<ByteList, LineError> {
     let table = key_table(alloc, schema)?;
     let line = line_with(alloc, text)?;
-    let row = match read_row(alloc, &table, line.bytes()) {
-        Ok(row) => row,
-        Err(_) => return Ok(copied(alloc, b"accepted, but no row has it")?),
+    let Ok(row) = read_row(alloc, &table, line.bytes()) else {
+        return Ok(copied(alloc, b"accepted, but no row has it")?);
     };
-    let came = format!(in alloc; "{key:?}")?;
-    if came.as_str() != format!(in alloc; "{row:?}")?.as_str() {
-        return Ok(copied(alloc, came.as_bytes())?);
+    if !are_alike(alloc, key, &row)? {
+        return spelled(alloc, key);
     }
     answer_of_line(alloc, &table, line.bytes())
+}
+
+/// Whether two rows have the same values.
+fn are_alike(alloc: Global, a: &Row, b: &Row) -> Result<bool, LineError> {
+    let one = spelled(alloc, a)?;
+    let other = spelled(alloc, b)?;
+    Ok(one.bytes() == other.bytes())
+}
+
+/// The values of a row as a text.
+fn spelled(alloc: Global, row: &Row) -> Result<ByteList, LineError> {
+    let text = format!(in alloc; "{row:?}")?;
+    Ok(copied(alloc, text.as_bytes())?)
 }
 
 /// The line of a row with these values.

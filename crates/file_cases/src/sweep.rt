@@ -73,6 +73,21 @@ impl<'a> Reply<'a> {
     }
 }
 
+/// The answers of a line, one for some bytes each.
+fn replies_of(alloc: Global, answer: &str) -> Result<Vec<Reply<'_>>, LineError> {
+    let mut replies = Vec::new(alloc);
+    for text in answer.split("; ") {
+        replies.push(Reply::read(alloc, text)?)?;
+    }
+    Ok(replies)
+}
+
+/// What the task says of the file as it is.
+fn said(alloc: Global, ready: &Ready<'_>, task: Task<'_>) -> Result<ByteList, LineError> {
+    let outcome = ready.run(alloc, task, Hitch::None)?;
+    Ok(outcome.said_as(alloc, b"", b"")?)
+}
+
 /// The first of the answers that is given for this byte, with the page's number in place of a star; that without any
 /// edit where it is `sound`.
 fn wanted_at(
@@ -128,20 +143,36 @@ impl<'a> SweepCase<'a> {
         answer: &str,
         report: &mut Report,
     ) -> Result<(), LineError> {
-        let mut replies = Vec::new(alloc);
-        for text in answer.split("; ") {
-            replies.push(Reply::read(alloc, text)?)?;
-        }
+        let replies = replies_of(alloc, answer)?;
         let base = files.file(self.base)?;
         let mut ready = Ready::new(alloc, files, &Plan::of(alloc, self.base))?;
-        let outcome = ready.run(alloc, self.task, Hitch::None)?;
-        let sound = outcome.said_as(alloc, b"", b"")?;
+        let sound = said(alloc, &ready, self.task)?;
+        self.run_all(
+            alloc,
+            &base.pages,
+            &mut ready,
+            &replies,
+            sound.bytes(),
+            report,
+        )
+    }
+
+    /// Changes each of the bits of all pages.
+    fn run_all(
+        &self,
+        alloc: Global,
+        pages: &EditedPages,
+        ready: &mut Ready<'_>,
+        replies: &[Reply<'_>],
+        sound: &[u8],
+        report: &mut Report,
+    ) -> Result<(), LineError> {
         for n in 0..ready.pages() {
-            *ready.over() = touched(alloc, &base.pages, n)?;
+            *ready.over() = touched(alloc, pages, n)?;
             for at in 0..PAGE_SIZE as u16 {
                 if self.tried.has(n, at) {
-                    let wanted = wanted_at(alloc, &replies, sound.bytes(), n, at)?;
-                    self.run_at(alloc, &mut ready, n, at, wanted.bytes(), report)?;
+                    let wanted = wanted_at(alloc, replies, sound, n, at)?;
+                    self.run_at(alloc, ready, n, at, wanted.bytes(), report)?;
                 }
             }
         }
