@@ -10,6 +10,8 @@ UNREAD, UNWRITTEN, FAILED, LEFT, HIDDEN = 'not read', 'not written', 'failed', '
 ANSWERS = (SOUND, WHOLE, SAVED, DIFFERS, BROKEN, UNSERVED, NO_TEXT, NOTHING, MISSING, UNREAD, UNWRITTEN, FAILED, LEFT,
            HIDDEN)
 GOOD = (SOUND, WHOLE, HIDDEN)
+# Those of files of which lines are kept, if that is asked for.
+KEPT = (SOUND, DIFFERS, WHOLE, SAVED)
 
 # The exit statuses, besides 2 for wrong words.
 ALL_GOOD, NOT_ALL_GOOD, ROWS_LOST, OUTPUT_FULL, INTERRUPTED = 0, 1, 3, 6, 130

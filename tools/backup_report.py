@@ -8,7 +8,8 @@ import shutil
 import sys
 import time
 
-from backup_answers import ANSWERS, GOOD, HIDDEN, LEFT, MISSING, NOT_ALL_GOOD, SOUND, pattern_of, status_of, why_of
+from backup_answers import (
+    ANSWERS, GOOD, HIDDEN, KEPT, LEFT, MISSING, NOT_ALL_GOOD, SOUND, pattern_of, status_of, why_of)
 from backup_files import shard_of
 from index_roots import counted
 
@@ -119,8 +120,16 @@ class Result:
         width = max([len(printed(entry['file'])) for entry in rest] or [0])
         lines = ['%-15s %-*s %s' % (entry['answer'], width, printed(entry['file']), printed(entry['why']))
                  for answer in ANSWERS for entry in rest if entry['answer'] == answer]
-        return ''.join(line.rstrip() + '\n' for line in lines + self.hidden_lines() + self.shared_lines(rest)
-                       + [self.last_line()])
+        return ''.join(line.rstrip() + '\n' for line in lines + self.misread_lines() + self.hidden_lines()
+                       + self.shared_lines(rest) + [self.last_line()])
+
+    def misread_lines(self):
+        """A line for each file whose lines were asked for, and of which a plain load would make other values."""
+        if not self.asked.get('dump'):
+            return []
+        return ['%-15s %s: load %s by tools/values-from-bytes' % ('bytes', printed(entry['file']),
+                                                                  printed(', '.join(entry['misread'])))
+                for entry in self.entries if entry.get('misread') and entry['answer'] in KEPT]
 
     def hidden_lines(self):
         count = self.counts()[HIDDEN]

@@ -8,14 +8,11 @@ import subprocess
 import tempfile
 import threading
 
-from backup_answers import DIFFERS, FAILED, LEFT, SAVED, SOUND, UNREAD, UNWRITTEN, WHOLE, Answer, why_of
+from backup_answers import FAILED, KEPT, LEFT, SOUND, UNREAD, UNWRITTEN, Answer, why_of
 from backup_programs import CHECK, CROSS, DUMP, LINES, READS, answer_of
 from backup_salvage import SALVAGEABLE, Salvage
 from backup_texts import Source, tablespace_of
 from innodb_layout import PAGE_SIZE
-
-# The answers of files whose lines are kept.
-KEPT = (SOUND, DIFFERS, WHOLE, SAVED)
 
 
 # --- what is written -------------------------------------------------------------------------------------------------

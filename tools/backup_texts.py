@@ -45,18 +45,19 @@ class Texts:
 
 
 class Schema:
-    """A schema text; whether the rows of the file are as long as its columns, nothing if it stood beside the file; and
-    the names of the columns that are declared as their bytes."""
+    """A schema text; whether the rows of the file are as long as its columns, nothing if it stood beside the file; the
+    names of the columns that are declared as their bytes, and of those whose bytes a server takes for other values."""
 
-    def __init__(self, text, fills=None, as_bytes=()):
-        self.text, self.fills, self.as_bytes = text, fills, sorted(as_bytes)
+    def __init__(self, text, fills=None, as_bytes=(), misread=()):
+        self.text, self.fills, self.as_bytes, self.misread = text, fills, sorted(as_bytes), list(misread)
 
     def described(self, file):
-        """What whoever loads the lines has to know, for --json: another name of the table in them, and columns that
-        have their bytes there."""
+        """What whoever loads the lines has to know: another name of the table in them, columns that have their bytes
+        there, and which of these a server takes for other values."""
         found = re.match('table ([^ \n]+) ', self.lines()[0])
-        name = {'table_in_lines': found[1]} if found and found[1] != file.table else {}
-        return {**name, **({'as_bytes': self.as_bytes} if self.as_bytes else {})}
+        told = {'table_in_lines': found[1] if found and found[1] != file.table else None, 'as_bytes': self.as_bytes,
+                'misread': self.misread}
+        return {name: value for name, value in told.items() if value}
 
     def has_other_indexes(self):
         return b'\nindex ' in self.text
@@ -120,8 +121,9 @@ class Source:
         made = schema_of(self.table, choice, tablespace)
         if made.refused:
             raise Reasons(UNSERVED, made.refused)
-        return Schema(made.text.encode('utf-8', 'surrogateescape'), made.fills,
-                      TableSchema(self.table, choice).as_bytes)
+        schema = TableSchema(self.table, choice)
+        return Schema(made.text.encode('utf-8', 'surrogateescape'), made.fills, schema.as_bytes,
+                      schema.misread_columns())
 
 
 def table_of_frm(file):

@@ -8,7 +8,7 @@ import sys
 
 from index_roots import gives_rows, schema_of
 from table_description import NotServed
-from table_schema import Choice
+from table_schema import ALL_UNSERVED, Choice, TableSchema
 from tablespace_file import NotTold, TablespaceFile
 
 REFUSED, USAGE, NO_ROOM = 1, 2, 6
@@ -16,6 +16,10 @@ REFUSED, USAGE, NO_ROOM = 1, 2, 6
 # What can still be had of a table that isn't served.
 ROWS_ALONE = ('its rows can be had: tools/%s --rows makes a schema text for them, and with that `ibd-salvage rows` '
               'reads them')
+AS_BYTES = '; --bytes all-unserved makes one for `ibd`, in which columns that are not served are their bytes'
+# What is to be known of a table before its lines are loaded.
+MISREAD = ('the lines have the bytes of %s, which a server takes for other values: load them by '
+           'tools/values-from-bytes%s')
 
 
 def parser_of(program, description):
@@ -45,7 +49,7 @@ class Command:
     """A run of one of the programs: its name stands before what it says, `source` is what the table was read from."""
 
     def __init__(self, program, source):
-        self.program, self.source, self.rest = program, source, None
+        self.program, self.source, self.hint = program, source, None
 
     def say(self, words):
         line = ''.join(sign if sign.isprintable() or '\udc80' <= sign <= '\udcff' else '\\x%02x' % ord(sign)
@@ -76,12 +80,20 @@ class Command:
                      'it' % self.source)
         if answer.refused:
             self.tell_rest(table, choice, file)
+        else:
+            self.tell_misread(table, choice)
         return answer.text, answer.refused
 
     def tell_rest(self, table, choice, file):
-        """What can still be had is said at the end."""
+        """Keeps for the end what can still be had."""
         if not choice.rows and gives_rows(table, choice, file):
-            self.rest = ROWS_ALONE % self.program
+            self.hint = ROWS_ALONE % self.program + AS_BYTES * gives_bytes(table, choice)
+
+    def tell_misread(self, table, choice):
+        """Keeps for the end of which columns a plain load would make other values."""
+        names = TableSchema(table, choice).misread_columns()
+        if names:
+            self.hint = MISREAD % (', '.join('`%s`' % name for name in names), ' --rows' * choice.rows)
 
     def check_output(self, options, *read):
         """Ends the process if the output is a file that is read."""
@@ -95,8 +107,8 @@ class Command:
         which stays what it is if something is refused."""
         for why in refused:
             self.say('not served: %s' % why)
-        if self.rest is not None:
-            self.say(self.rest)
+        if self.hint is not None:
+            self.say(self.hint)
         data = text.encode('utf-8', 'surrogateescape')
         try:
             if output is None:
@@ -109,6 +121,13 @@ class Command:
             self.say('the output takes no more' if output is None else '%s: %s' % (output, why.strerror))
             os._exit(NO_ROOM)
         sys.exit(REFUSED if refused else 0)
+
+
+def gives_bytes(table, choice):
+    """Whether it is only for the types of columns in no index that a table isn't served."""
+    schema = TableSchema(table, choice._replace(bytes=[*choice.bytes, ALL_UNSERVED], roots=None))
+    schema.text()
+    return table.is_read and not schema.refused
 
 
 def is_same(first, second):

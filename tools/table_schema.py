@@ -232,6 +232,16 @@ class TableSchema:
         """The words of the schema text for its type."""
         return type_words(column, self.is_bytes(column), self.choice.rows)
 
+    def has_other_type(self, column):
+        """Whether its lines have bytes that a column of its type doesn't take for its values, so that the lines go
+        into a table that has another type there. Those of a text are taken as they are."""
+        word = self.words_of(column).split()[0] if self.is_bytes(column) else column.kind
+        return word != column.kind and word in ('binary', 'longblob')
+
+    def misread_columns(self):
+        """The names of the columns of which a server takes the bytes in the lines for other values, or refuses them."""
+        return [column.name for column in self.columns if self.has_other_type(column) and column.kind not in GEOMETRIES]
+
     def text(self, roots=None):
         """The lines; what isn't served is put on the list of what is refused."""
         lines = []
