@@ -2,6 +2,7 @@
 
 import os
 import pathlib
+import re
 import shlex
 import shutil
 import subprocess
@@ -13,6 +14,7 @@ from scripts import TOP
 
 from file_names import decoded
 
+BYTES_SAID = 'schema-from-create: the lines have the bytes of .*\n'
 SQL_MODE = 'STRICT_ALL_TABLES,ALLOW_INVALID_DATES,NO_AUTO_VALUE_ON_ZERO'
 
 def install():
@@ -120,9 +122,10 @@ def by_query(server, name, partition=None):
 
 
 def by_create(create, *words):
+    """The schema text, what is said besides which columns have their bytes in the lines, and the exit status."""
     done = subprocess.run([TOP / 'tools/schema-from-create', *words], input=create.encode(), stdout=subprocess.PIPE,
                           stderr=subprocess.PIPE)
-    return done.stdout.decode(), done.stderr.decode(), done.returncode
+    return done.stdout.decode(), re.sub(BYTES_SAID, '', done.stderr.decode()), done.returncode
 
 
 def show_create(server, name):

@@ -46,14 +46,15 @@ class Texts:
 
 class Schema:
     """A schema text; whether the rows of the file are as long as its columns, nothing if it stood beside the file; the
-    names of the columns that are declared as their bytes, and of those whose bytes a server takes for other values."""
+    names of the columns that are declared as their bytes, and of those whose bytes a server doesn't take for what they
+    are."""
 
     def __init__(self, text, fills=None, as_bytes=(), misread=()):
         self.text, self.fills, self.as_bytes, self.misread = text, fills, sorted(as_bytes), list(misread)
 
     def described(self, file):
         """What whoever loads the lines has to know: another name of the table in them, columns that have their bytes
-        there, and which of these a server takes for other values."""
+        there, and which of these a server refuses or takes for other values."""
         found = re.match('table ([^ \n]+) ', self.lines()[0])
         told = {'table_in_lines': found[1] if found and found[1] != file.table else None, 'as_bytes': self.as_bytes,
                 'misread': self.misread}

@@ -18,7 +18,7 @@ ROWS_ALONE = ('its rows can be had: tools/%s --rows makes a schema text for them
               'reads them')
 AS_BYTES = '; --bytes all-unserved makes one for `ibd`, in which columns that are not served are their bytes'
 # What is to be known of a table before its lines are loaded.
-MISREAD = ('the lines have the bytes of %s, which a server takes for other values: load them by '
+MISREAD = ('the lines have the bytes of %s, which a server refuses or takes for other values: load them by '
            'tools/values-from-bytes%s')
 
 

@@ -15,6 +15,8 @@ MOST_COLUMNS, MOST_INDEXES, LONGEST_NAME, LONGEST_KEY, LONGEST_COMPACT = 64, 15,
 LONGEST_FIXED = 255
 # The root of the first index where the indexes were made with the table; those of the others follow.
 FIRST_ROOT = 3
+# Kinds of which a server takes bytes for what they are.
+TAKEN_AS_BYTES = GEOMETRIES + ('bit', 'char')
 # The integer of each number of bytes, and the bytes of each kind of the schema text that has only one length.
 INTEGER_OF = dict(zip((1, 2, 3, 4, 8), INTEGERS))
 SIZES = dict({word: size for size, word in INTEGER_OF.items()}, date=3, year=1)
@@ -239,8 +241,9 @@ class TableSchema:
         return word != column.kind and word in ('binary', 'longblob')
 
     def misread_columns(self):
-        """The names of the columns of which a server takes the bytes in the lines for other values, or refuses them."""
-        return [column.name for column in self.columns if self.has_other_type(column) and column.kind not in GEOMETRIES]
+        """The names of the columns of which a server refuses the bytes in the lines, or takes them for other values."""
+        return [column.name for column in self.columns if self.has_other_type(column)
+                and column.kind not in TAKEN_AS_BYTES]
 
     def text(self, roots=None):
         """The lines; what isn't served is put on the list of what is refused."""
