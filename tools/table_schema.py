@@ -235,8 +235,8 @@ class TableSchema:
         return type_words(column, self.is_bytes(column), self.choice.rows)
 
     def has_other_type(self, column):
-        """Whether its lines have bytes that a column of its type doesn't take for its values, so that the lines go
-        into a table that has another type there. Those of a text are taken as they are."""
+        """Whether its lines have bytes in the place of values, so that the table for the lines has another type there;
+        the bytes of a `varchar` or text are its value."""
         word = self.words_of(column).split()[0] if self.is_bytes(column) else column.kind
         return word != column.kind and word in ('binary', 'longblob')
 
