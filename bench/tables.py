@@ -1,13 +1,14 @@
 """Times `check`, `cross` and `dump` of large tables against reading the same file with `dd`, and prints the peak of
 memory. Of several programs, as an older release and the new one, each is timed in turn over the same files.
 
-The tables are made here, by tests/tablespace.py, one after the other in the folder for temporary files, which needs
-700 MB; that takes half a minute. What `dump` writes is compared with the rows. The commands and `dd bs=16384` are run
-in turn, N times each; printed are the medians of processor time, in the kernel and outside of it, and of the time by
-the clock, and the ratios of the processor times. The memory is read from /proc.
+The tables are made here, one after the other in the folder for temporary files, which needs 700 MB: by
+tests/tablespace.py, and those with an index on texts by the first program's `build`. What `dump` writes is compared
+with the rows. The commands and `dd bs=16384` are run in turn, N times each; printed are the medians of processor time,
+in the kernel and outside of it, and of the time by the clock, and the ratios of the processor times. The memory is read
+from /proc.
 
-With --builds the tables that have no more pages than a build are also built from the lines of their rows; what comes
-out is dumped and compared with them.
+With --builds the tables that have no more pages than a build are also built from the lines of their rows, with their
+index and without it; what comes out is dumped and compared with them.
 
 With --salvage the rows are also saved by SALVAGE, which is `ibd-salvage`.
 
@@ -40,9 +41,10 @@ MOST_BUILT = 256 * 64 * PAGE_SIZE
 
 # What one run took: seconds of processor time and by the clock.
 Took = collections.namedtuple('Took', 'processor clock')
+# A table without records is made of its lines, by `build`.
 Table = collections.namedtuple('Table', 'rows columns create record line index', defaults=[None])
 # Another index of a table, whose entries are as long as their keys.
-Index = collections.namedtuple('Index', 'line create entry key_size')
+Index = collections.namedtuple('Index', 'line create entry key_size', defaults=[None, None])
 
 
 def stored_int(number):
@@ -69,6 +71,41 @@ def short_line(number):
 
 def scattered_entry(number):
     return stored_int(scattered(number)) + stored_int(number)
+
+
+def hashed(number):
+    return number * 0x9E3779B97F4A7C15 % 2**64
+
+
+def text_table(text_of):
+    """A table with an index on a text."""
+
+    def line(number):
+        return b"INSERT INTO `t` VALUES (%d,'%s');\n" % (number, text_of(number))
+
+    create = 'b varchar(20) CHARACTER SET latin1 COLLATE latin1_bin NOT NULL'
+    index = Index('index i root 4 b\n', ', KEY i (b)')
+    return Table(1_000_000, 'column b varchar 20 notnull\n', create, None, line, index)
+
+
+def digits_text(number):
+    return b'%016x' % hashed(number)
+
+
+@functools.lru_cache(maxsize=None)
+def first_name(seed):
+    chosen = random.Random(seed)
+    return bytes(chosen.choices(b'abcdefghijklmnopqrstuvwxyz', k=chosen.randint(3, 8)))
+
+
+def name_text(number):
+    """One of 400 names of three to eight letters, and six digits."""
+    return b'%s%06d' % (first_name(hashed(number) % 400), (hashed(number) >> 40) % 1_000_000)
+
+
+def tag_text(number):
+    """One of 10,007 texts."""
+    return b'tag%d' % (hashed(number) % 10_007)
 
 
 def long_table(rows, kind, create, value_of, text_of):
@@ -120,12 +157,20 @@ TABLES = {
     '1,000,000 short rows with an index': SHORT._replace(
         index=Index('index i root 4 a\n', ', KEY i (a)', scattered_entry, 8)
     ),
+    '1,000,000 rows with an index on digits': text_table(digits_text),
+    '1,000,000 rows with an index on names': text_table(name_text),
+    '1,000,000 rows with an index on 10,007 tags': text_table(tag_text),
     '5,000 long texts': long_table(5_000, 'longtext', 'longtext CHARACTER SET latin1', plain_value, quoted),
     '2,500 long binary values': long_table(2_500, 'longblob', 'longblob', binary_value, hexadecimal),
     '2,500 long texts with an escape in 13 bytes': long_table(
         2_500, 'longtext', 'longtext CHARACTER SET latin1', escaped_value, quoted
     ),
 }
+
+
+def write_rows(path, table):
+    with open(path, 'wb') as out:
+        out.writelines(map(table.line, range(table.rows)))
 
 
 def make(path, table):
@@ -233,11 +278,11 @@ def server_commands(server, table):
 
 def words_of(given, table, folder):
     """The words of each command of each program, by what is printed of it."""
-    schema, file, rows, built = (os.path.join(folder, word) for word in ('schema', 'file', 'rows', 'built'))
+    schema, plain, file, rows, built = (
+        os.path.join(folder, word) for word in ('schema', 'plain', 'file', 'rows', 'built'))
     builds = given.builds and os.path.getsize(file) <= MOST_BUILT
-    if builds:
-        with open(rows, 'wb') as out:
-            out.writelines(map(table.line, range(table.rows)))
+    if builds and not os.path.exists(rows):
+        write_rows(rows, table)
     words = {}
     for program in given.programs:
         of = ' of %s' % program if len(given.programs) > 1 else ''
@@ -247,14 +292,21 @@ def words_of(given, table, folder):
             words['build' + of] = build = [program, 'build', schema, rows, built]
             subprocess.run(build, check=True, stdout=subprocess.DEVNULL)
             compare([program, 'dump', schema, built], table)
+            if table.index:
+                words['build without the index' + of] = [program, 'build', plain, rows, built]
     return words
 
 
 def measure(given, name, table, folder, server):
-    schema, file = (os.path.join(folder, word) for word in ('schema', 'file'))
-    with open(schema, 'w') as out:
-        out.write(KEYED % (table.columns, table.index.line if table.index else ''))
-    make(file, table)
+    schema, plain, file, rows = (os.path.join(folder, word) for word in ('schema', 'plain', 'file', 'rows'))
+    for path, index in ((schema, table.index), (plain, None)):
+        with open(path, 'w') as out:
+            out.write(KEYED % (table.columns, index.line if index else ''))
+    if table.record:
+        make(file, table)
+    else:
+        write_rows(rows, table)
+        subprocess.run([given.programs[0], 'build', schema, rows, file], check=True, stdout=subprocess.DEVNULL)
     words = words_of(given, table, folder)
     if given.salvage:
         words['salvage'] = [given.salvage, 'rows', schema, file]
