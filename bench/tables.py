@@ -288,12 +288,12 @@ def words_of(given, table, folder):
         of = ' of %s' % program if len(given.programs) > 1 else ''
         compare([program, 'dump', schema, file], table)
         words |= {command + of: [program, command, schema, file] for command in ('check', 'cross', 'dump')}
-        if builds:
-            words['build' + of] = build = [program, 'build', schema, rows, built]
-            subprocess.run(build, check=True, stdout=subprocess.DEVNULL)
-            compare([program, 'dump', schema, built], table)
-            if table.index:
-                words['build without the index' + of] = [program, 'build', plain, rows, built]
+        schemas = {'build': schema, 'build without the index': plain if table.index else None}
+        for command, text in schemas.items():
+            if builds and text:
+                words[command + of] = build = [program, 'build', text, rows, built]
+                subprocess.run(build, check=True, stdout=subprocess.DEVNULL)
+                compare([program, 'dump', text, built], table)
     return words
 
 
