@@ -27,6 +27,7 @@ pub fn compare(kind: &FieldType, a: &[u8], b: &[u8]) -> Ordering
 }
 
 /// The order of two fields that may be null, which is least.
+#[inline(always)]
 pub fn compare_values(kind: &FieldType, a: Option<&[u8]>, b: Option<&[u8]>) -> Ordering
     ensures { result ≡ cell_cmp kind.now (option_copied a.entry) (option_copied b.entry) }
 {
@@ -70,8 +71,22 @@ fn compare_words(a: &[u8], b: &[u8]) -> (usize, Ordering)
     (8 * words, Ordering::Equal)
 }
 
+/// The order of bytes, a proper prefix first: by words, and then byte by byte.
+#[inline(never)]
+fn compare_long(a: &[u8], b: &[u8]) -> Ordering
+    ensures { result ≡ bytes_cmp a.now b.now }
+{
+    let (from, order) = compare_words(a, b);
+    match order {
+        Ordering::Less => Ordering::Less,
+        Ordering::Greater => Ordering::Greater,
+        Ordering::Equal => a[from..].cmp(&b[from..]),
+    }
+}
+
 /// The order of bytes, a proper prefix first. Four or eight of each, as most whole numbers have, are compared as one
 /// number.
+#[inline(always)]
 fn compare_bytes(a: &[u8], b: &[u8]) -> Ordering
     ensures { result ≡ bytes_cmp a.now b.now }
 {
@@ -80,12 +95,7 @@ fn compare_bytes(a: &[u8], b: &[u8]) -> Ordering
     } else if a.len() == 8 && b.len() == 8 {
         compare_numbers::<8>(a, b)
     } else {
-        let (from, order) = compare_words(a, b);
-        match order {
-            Ordering::Less => Ordering::Less,
-            Ordering::Greater => Ordering::Greater,
-            Ordering::Equal => a[from..].cmp(&b[from..]),
-        }
+        compare_long(a, b)
     }
 }
 
@@ -96,6 +106,7 @@ fn byte_at(text: &[u8], i: usize) -> u8
     if i < text.len() { text[i] } else { b' ' }
 }
 
+#[inline(never)]
 fn compare_text(a: &[u8], b: &[u8]) -> Ordering
     ensures { result ≡ text_cmp a.now b.now }
 {

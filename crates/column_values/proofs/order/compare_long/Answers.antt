@@ -3,7 +3,7 @@ use Rattle.std.proofs.lemmas.List.{take_all, length-drop}
 use Rattle.std.specs.declared.cmp.Ordering.TheVariants.{Less, Equal, Greater}
 use Rattle.column_values.specs.Order.{bytes_cmp}
 use Rattle.column_values.proofs.WordOrder.{front_decides}
-use Rattle.column_values.proofs.order.compare_bytes.Goals as goal
+use Rattle.column_values.proofs.order.compare_long.Goals as goal
 
 pub returns-in-Less : goal.returns-in-Less
 returns-in-Less c =
