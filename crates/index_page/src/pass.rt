@@ -66,6 +66,7 @@ fn rises(
 
 /// Whether record `i` of the chain, at this origin, is of its kind, spelled as it must be, apart from those whose bytes
 /// are marked, and above the one before it, which `before` read. It is read by `here`, and its bytes are marked.
+#[inline(always)]
 fn record_passes(
     bytes: &mut Marks,
     before: &Located,
