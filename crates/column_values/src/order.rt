@@ -1,6 +1,6 @@
 //! The order of two fields (rem0cmp).
 
-ghost use Rattle.std.specs.Prelude.{◌≡◌, ◌≤◌, length, take, slice_index_or};
+ghost use Rattle.std.specs.Prelude.{◌≡◌, ◌≤◌, ◌<◌, length, take, slice_index_or};
 ghost use Rattle.std.specs.Option.{option_copied};
 ghost use Rattle.column_values.specs.Order.{bytes_cmp, text_cmp, field_cmp, cell_cmp};
 
@@ -51,15 +51,44 @@ fn compare_numbers<const W: usize>(a: &[u8], b: &[u8]) -> Ordering
     number_at(a, 0, W).cmp(&number_at(b, 0, W))
 }
 
-/// How far two lists of bytes were compared as whole numbers of eight bytes, and the order of what was compared: up to
-/// the first numbers that differ, or as long as both lists have eight bytes more.
+/// Compares the first `both` bytes of two lists, fewer than eight: how many of them were compared, and their order.
+/// Four or more are compared as two numbers of four bytes, which overlap; fewer aren't compared.
+fn compare_halves(a: &[u8], b: &[u8], both: usize) -> (usize, Ordering)
+    requires few { both < 8 }
+    requires first_long { both ≤ length a.now }
+    requires second_long { both ≤ length b.now }
+    ensures first { result.0 ≤ length a.now }
+    ensures second { result.0 ≤ length b.now }
+    ensures order { result.1 ≡ bytes_cmp (take result.0 a.now) (take result.0 b.now) }
+{
+    if both < 4 {
+        return (0, Ordering::Equal);
+    }
+    let front = number_at(a, 0, 4).cmp(&number_at(b, 0, 4));
+    match front {
+        Ordering::Less => (4, Ordering::Less),
+        Ordering::Greater => (4, Ordering::Greater),
+        Ordering::Equal => {
+            let at = both - 4;
+            let end = number_at(a, at, 4).cmp(&number_at(b, at, 4));
+            (both, end)
+        }
+    }
+}
+
+/// Compares two lists of bytes as numbers of eight bytes or of four, as far as both go: how many bytes were compared,
+/// and their order. It ends at the first numbers that differ, and the last number may have bytes of the one before it.
+/// Fewer than four bytes aren't compared.
 fn compare_words(a: &[u8], b: &[u8]) -> (usize, Ordering)
     ensures first { result.0 ≤ length a.now }
     ensures second { result.0 ≤ length b.now }
     ensures order { result.1 ≡ bytes_cmp (take result.0 a.now) (take result.0 b.now) }
 {
-    let words = a.len().min(b.len()) / 8;
-    for word in 0..words {
+    let both = a.len().min(b.len());
+    if both < 8 {
+        return compare_halves(a, b, both);
+    }
+    for word in 0..both / 8 {
         let at = 8 * word;
         let order = number_at(a, at, 8).cmp(&number_at(b, at, 8));
         match order {
@@ -68,10 +97,12 @@ fn compare_words(a: &[u8], b: &[u8]) -> (usize, Ordering)
             Ordering::Equal => {}
         }
     }
-    (8 * words, Ordering::Equal)
+    let at = both - 8;
+    let end = number_at(a, at, 8).cmp(&number_at(b, at, 8));
+    (both, end)
 }
 
-/// The order of bytes, a proper prefix first: by words, and then byte by byte.
+/// The order of bytes, a proper prefix first: by words, and byte by byte what these leave.
 #[inline(never)]
 fn compare_long(a: &[u8], b: &[u8]) -> Ordering
     ensures { result ≡ bytes_cmp a.now b.now }
