@@ -2,10 +2,10 @@
 memory. Of several programs, as an older release and the new one, each is timed in turn over the same files.
 
 The tables are made here, one after the other in the folder for temporary files, which needs 700 MB: by
-tests/tablespace.py, and those with an index on texts by the first program's `build`. What `dump` writes is compared
-with the rows. The commands and `dd bs=16384` are run in turn, N times each; printed are the medians of processor time,
-in the kernel and outside of it, and of the time by the clock, and the ratios of the processor times. The memory is read
-from /proc.
+tests/tablespace.py, and those with an index on texts or on two numbers by the first program's `build`. What `dump`
+writes is compared with the rows. The commands and `dd bs=16384` are run in turn, N times each; printed are the medians
+of processor time, in the kernel and outside of it, and of the time by the clock, and the ratios of the processor times.
+The memory is read from /proc.
 
 With --builds the tables that have no more pages than a build are also built from the lines of their rows, with their
 index and without it; what comes out is dumped and compared with them.
@@ -108,6 +108,11 @@ def tag_text(number):
     return b'tag%d' % (hashed(number) % 10_007)
 
 
+def pair_line(number):
+    """One of 100 numbers, and then one of its own."""
+    return b'INSERT INTO `t` VALUES (%d,%d,%d);\n' % (number, hashed(number) % 100, scattered(number))
+
+
 def long_table(rows, kind, create, value_of, text_of):
     """A table of values of 60,000 bytes off the page."""
 
@@ -160,6 +165,14 @@ TABLES = {
     '1,000,000 rows with an index on digits': text_table(digits_text),
     '1,000,000 rows with an index on names': text_table(name_text),
     '1,000,000 rows with an index on 10,007 tags': text_table(tag_text),
+    '1,000,000 rows with an index on two numbers': Table(
+        1_000_000,
+        'column a int notnull\ncolumn b int notnull\n',
+        'a int NOT NULL, b int NOT NULL',
+        None,
+        pair_line,
+        Index('index i root 4 a b\n', ', KEY i (a, b)'),
+    ),
     '5,000 long texts': long_table(5_000, 'longtext', 'longtext CHARACTER SET latin1', plain_value, quoted),
     '2,500 long binary values': long_table(2_500, 'longblob', 'longblob', binary_value, hexadecimal),
     '2,500 long texts with an escape in 13 bytes': long_table(

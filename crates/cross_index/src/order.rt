@@ -143,6 +143,14 @@ impl RowKeys for WholeKeys<'_> {
         self.keys.cells.value(number)
     }
 
+    fn second(&self, row: usize) -> Option<&[u8]> {
+        if self.keys.slots.len() < 2 {
+            return None;
+        }
+        let number = cell_number(row, self.keys.width, self.keys.slots[1]);
+        self.keys.cells.value(number)
+    }
+
     fn compare(&self, a: usize, b: usize) -> Ordering {
         compare_rows(self.keys, a, b)
     }

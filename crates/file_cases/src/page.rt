@@ -83,16 +83,28 @@ impl<'a> PageCase<'a> {
         report: &mut Report,
     ) -> Result<(), LineError> {
         let ready = Ready::new(alloc, files, &self.plan)?;
-        let image = ready.image();
         let fields = fields_of(alloc, ready.schema(), self.index, self.stand.leaf)?;
+        let fault = self.fault(alloc, &ready, &fields)?;
+        let came = answer_of(alloc, fault)?;
+        report.compare(b"", answer.as_bytes(), came.bytes())
+    }
+
+    /// The first broken rule of the page in this file, if its records have these fields.
+    fn fault(
+        &self,
+        alloc: Global,
+        ready: &Ready<'_>,
+        fields: &FieldList,
+    ) -> Result<Option<Rule>, LineError>
+        requires few { fields.now.keys ≤ length fields.now.fields }
+        requires room { length fields.now.fields ≤ MEMBERS }
+    {
         let mut page = Page::zeroed(alloc)?;
-        if !image.fill(&mut page, self.number) {
+        if !ready.image().fill(&mut page, self.number) {
             return Err(LineError::Place);
         }
         let mut scratch = Scratch::new(alloc, MEMBERS)?;
-        let fault = first_fault(&mut scratch, &page, &fields, self.stand);
-        let came = answer_of(alloc, fault)?;
-        report.compare(b"", answer.as_bytes(), came.bytes())
+        Ok(first_fault(&mut scratch, &page, fields, self.stand))
     }
 }
 

@@ -78,9 +78,9 @@ impl Tools {
         ensures room { IfOk result (λ tools. HasRoom tools.walk 128) }
     {
         Ok(Tools {
-            walk: Walk::new(alloc, 128)?,
             named: Marks::new(alloc, space.segment_count())?,
             marks: Marks::new(alloc, space.size())?,
+            walk: Walk::new(alloc, 128)?,
         })
     }
 }

@@ -18,7 +18,7 @@ use Rattle.column_values.specs.declared.field.FieldType.TheVariants.{Child}
 use Rattle.column_values.specs.Order.{bytes_cmp, filled, text_cmp, field_cmp, cell_cmp, Key, key_cmp}
 use Rattle.column_values.proofs.KeyOrder.{cell_total}
 use Rattle.column_values.proofs.TextOrder.{length-filled}
-use Rattle.key_ranks.specs.declared.ranks.Digit.{Digit}
+use Rattle.key_ranks.specs.declared.fronts.Digit.{Digit}
 use Rattle.key_ranks.specs.Ranks.{filler_of, digit_at, number_of, IsFront, HasFront, HaveFronts, key_of_rank}
 use Rattle.key_ranks.specs.Keys.{KeyTable}
 

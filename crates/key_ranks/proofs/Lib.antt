@@ -1,2 +1,3 @@
 mod FrontSteps
 mod RankSteps
+mod TieSteps

@@ -10,7 +10,7 @@ use Rattle.std.proofs.lemmas.List.Sorted.{IsPermutation-map, All-permutation}
 use Rattle.std.proofs.lemmas.List.Elements.{All-push}
 use Rattle.column_values.specs.Order.{key_cmp}
 use Rattle.key_ranks.specs.Keys.{KeyTable, IsRowOrder}
-use Rattle.key_ranks.specs.declared.ranks.Digit.{Digit}
+use Rattle.key_ranks.specs.declared.fronts.Digit.{Digit}
 use Rattle.key_ranks.specs.Ranks.{AreInOrder, HasFront, HaveFronts, IsRank}
 
 abbrev row : ℕ → ℕ
@@ -27,8 +27,8 @@ ranks_more ranks now number i below rows grown =
     ∙ ap (λ (n : ℕ). range_with_len 0 i ++ n ∷ []) last
     ∙ sym (range_more i)
 
-pub fronts_more : (table : KeyTable) (filler : ℕ) (digits : List Digit) (ranks now : List ℕ) (front i : ℕ) (first : Option (List ℕ))
-    → i < 2 ^ 24 → first ≡ get_or (table.key i) 0 None → length (table.key i) ≡ length table.kinds
+pub fronts_more : (table : KeyTable) (filler : ℕ) (digits : List Digit) (ranks now : List ℕ) (front i : ℕ)
+    (first : Option (List ℕ)) → i < 2 ^ 24 → first ≡ get_or (table.key i) 0 None → length (table.key i) ≡ length table.kinds
     → HasFront filler digits first front → now ≡ ranks ++ (front * 16777216 + i) ∷ []
     → HaveFronts table filler digits ranks → HaveFronts table filler digits now
 fronts_more table filler digits ranks now front i first below is whole has grown all =
@@ -45,8 +45,8 @@ fronts_more table filler digits ranks now front i first below is whole has grown
     (All-push (IsRank table filler digits) ranks (front * 16777216 + i) all here)
 
 -- the fronts of ranks in another order
-pub fronts_stay : (table : KeyTable) (filler : ℕ) (digits : List Digit) (before after now : List ℕ) → IsPermutation before after
-    → now ≡ after → HaveFronts table filler digits before → HaveFronts table filler digits now
+pub fronts_stay : (table : KeyTable) (filler : ℕ) (digits : List Digit) (before after now : List ℕ)
+    → IsPermutation before after → now ≡ after → HaveFronts table filler digits before → HaveFronts table filler digits now
 fronts_stay table filler digits before after now places is all =
     subst (All (IsRank table filler digits)) (sym is)
     (All-permutation (IsRank table filler digits) before after places all)

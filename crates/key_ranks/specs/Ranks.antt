@@ -7,7 +7,7 @@ use Rattle.column_values.specs.declared.kind.ColumnType.TheVariants as types
 use Rattle.column_values.specs.declared.field.FieldType.{FieldType}
 use Rattle.column_values.specs.declared.field.FieldType.TheVariants as fields
 use Rattle.column_values.specs.Order.{Key, key_cmp}
-use Rattle.key_ranks.specs.declared.ranks.Digit.{Digit}
+use Rattle.key_ranks.specs.declared.fronts.Digit.{Digit}
 use Rattle.key_ranks.specs.Keys.{KeyTable}
 
 -- what a value of a kind goes on with in comparisons: a text with spaces

@@ -10,190 +10,14 @@ ghost use Rattle.column_values.specs.Order.{key_cmp};
 ghost use Rattle.key_ranks.specs.Keys.{IsRowOrder};
 ghost use Rattle.key_ranks.specs.Ranks.{AreInOrder, HasFront, HaveFronts, IsFront, filler_of, key_of_rank};
 
+use crate::fronts::{Digit, common_front, digits_of, filler, front_of, ranges_of};
+use crate::rank::{AHEAD, ROWS, read_ahead, row_of};
 use crate::row_keys::RowKeys;
-use column_values::{ColumnType, FieldType};
+use crate::ties::{sort_runs, sort_ties};
+use column_values::FieldType;
 use page_source::NoMemory;
 use std::alloc::Global;
 use std::cmp::Ordering;
-
-/// A rank is the front of a row's key times this, and the number of the row.
-const ROWS: usize = 16_777_216;
-
-/// A front is below this: the number that the first bytes of the first value spell, and 0 if it is null.
-const FRONTS: usize = 1_099_511_627_776;
-
-/// How many bytes may spell a front, after those that are the same in all first values.
-const PLACES: usize = 12;
-
-/// How many rows are read ahead of their comparison, less one.
-const AHEAD: usize = 64;
-
-/// What a byte at one place of the first values counts: from `low` on, for one of so many.
-#[derive(Clone, Copy, Debug, PartialEq, Eq)]
-pub(crate) struct Digit {
-    pub low: u8,
-    pub width: u16,
-}
-
-/// The least and the greatest byte at each of some places, of the values that have one there, and how many bytes the
-/// shortest of all values has.
-#[derive(Clone, Copy)]
-struct Ranges {
-    low: [u8; PLACES],
-    high: [u8; PLACES],
-    shortest: usize,
-}
-
-/// The row of a rank.
-fn row_of(rank: usize) -> usize
-    ensures { result ≡ rank % 2 ^ 24 }
-{
-    rank % ROWS
-}
-
-/// How many bytes two values have in common at their beginnings.
-fn common(a: &[u8], b: &[u8]) -> usize
-    ensures few { result ≤ length a.now }
-    ensures same { (i d : ℕ) → i < result → slice_index_or b.now i d ≡ slice_index_or a.now i d }
-{
-    let most = a.len().min(b.len());
-    for i in 0..most {
-        if a[i] != b[i] {
-            return i;
-        }
-    }
-    most
-}
-
-/// What the first values of all keys begin with, those that aren't null. Nothing is said of it, since `front_of` tests
-/// each value.
-fn common_front<K: RowKeys>(keys: &K, count: usize) -> &[u8] {
-    let mut front: Option<&[u8]> = None;
-    for row in 0..count {
-        if let Some(value) = keys.first(row) {
-            front = match front {
-                Some(bytes) => Some(&bytes[..common(bytes, value)]),
-                None => Some(value),
-            };
-        }
-    }
-    match front {
-        Some(bytes) => bytes,
-        None => &[],
-    }
-}
-
-/// What a value of a kind goes on with in comparisons.
-fn filler(kind: &FieldType) -> u8
-    ensures { result ≡ filler_of kind.now }
-{
-    match *kind {
-        FieldType::Column(
-            ColumnType::Char { .. }
-            | ColumnType::Varchar { .. }
-            | ColumnType::Text { .. }
-            | ColumnType::Utf8Varchar { .. }
-            | ColumnType::Utf8Text { .. },
-        ) => b' ',
-        _ => 0,
-    }
-}
-
-/// Byte `i` of a value that goes on so.
-fn byte_at(value: &[u8], i: usize, filler: u8) -> u8
-    ensures { result ≡ slice_index_or value.now i filler }
-{
-    if i < value.len() { value[i] } else { filler }
-}
-
-/// Takes the bytes of a value into the ranges.
-fn widen(ranges: &mut Ranges, bytes: &[u8]) {
-    for i in 0..bytes.len().min(PLACES) {
-        ranges.low[i] = ranges.low[i].min(bytes[i]);
-        ranges.high[i] = ranges.high[i].max(bytes[i]);
-    }
-    ranges.shortest = ranges.shortest.min(bytes.len());
-}
-
-/// The ranges of what the first values of all keys go on with after so many bytes. Nothing is said of them either.
-fn ranges_of<K: RowKeys>(keys: &K, begin: usize, count: usize) -> Ranges {
-    let mut ranges = Ranges {
-        low: [u8::MAX; PLACES],
-        high: [0; PLACES],
-        shortest: usize::MAX,
-    };
-    for row in 0..count {
-        if let Some(bytes) = keys.first(row).and_then(|value| value.get(begin..)) {
-            widen(&mut ranges, bytes);
-        }
-    }
-    ranges
-}
-
-/// The digits of fronts that tell as many keys apart as there is room for. A byte that all first values begin with
-/// counts nothing. Nothing is said of them, since `front_of` tests each value.
-fn digits_of(
-    alloc: Global,
-    begin: &[u8],
-    ranges: &Ranges,
-    filler: u8,
-) -> Result<Vec<Digit>, NoMemory> {
-    let mut digits = Vec::new(alloc);
-    for byte in begin {
-        digits.push(Digit {
-            low: *byte,
-            width: 1,
-        })?;
-    }
-    let mut fronts: usize = 1;
-    for i in 0..PLACES {
-        // a value that ends before goes on with the filler
-        let others = if i < ranges.shortest {
-            ranges.low[i]
-        } else {
-            filler
-        };
-        let low = ranges.low[i].min(others);
-        let width = u16::from(ranges.high[i].max(others).saturating_sub(low)) + 1;
-        fronts = fronts.saturating_mul(usize::from(width));
-        if ranges.high[i] < ranges.low[i] || fronts > FRONTS {
-            break;
-        }
-        digits.push(Digit { low, width })?;
-    }
-    Ok(digits)
-}
-
-/// The number that the bytes of a value spell; none if one of them is no digit.
-fn spelled(value: &[u8], digits: &[Digit], filler: u8) -> Option<usize>
-    ensures few { IfSome result (λ front. front < 2 ^ 40) }
-    ensures front { IfSome result (λ front. IsFront filler digits.now value.now front) }
-{
-    let mut number = 0;
-    for i in 0..digits.len() {
-        let digit = digits[i];
-        let byte = byte_at(value, i, filler);
-        if byte < digit.low || u16::from(byte - digit.low) >= digit.width {
-            return None;
-        }
-        number = number * usize::from(digit.width) + usize::from(byte - digit.low);
-        if number >= FRONTS {
-            return None;
-        }
-    }
-    Some(number)
-}
-
-/// The front of a value; none if one of its bytes is no digit.
-fn front_of(value: Option<&[u8]>, digits: &[Digit], filler: u8) -> Option<usize>
-    ensures few { IfSome result (λ front. front < 2 ^ 40) }
-    ensures front { IfSome result (λ front. HasFront filler digits.now (option_copied value.entry) front) }
-{
-    match value {
-        Some(value) => spelled(value, digits, filler),
-        None => Some(0),
-    }
-}
 
 /// The ranks of so many rows, or none if a value isn't spelled by the digits.
 fn ranks_of<K: RowKeys>(
@@ -243,25 +67,6 @@ fn follows<K: RowKeys>(
     }
 }
 
-/// The first byte of the key of a rank's row, 0 if it has none. Nothing is said of it, since no answer rests on it.
-fn first_byte<K: RowKeys>(keys: &K, rank: usize) -> u8 {
-    match keys.first(row_of(rank)) {
-        Some(value) if !value.is_empty() => value[0],
-        _ => 0,
-    }
-}
-
-/// Reads a byte of the keys of the next ranks' rows, if the keys of two neighbours have to be compared. They lie
-/// anywhere in memory, so the processor waits for those of each row if they are compared at once; in a short loop that
-/// does nothing else it fetches those of many rows side by side. Nothing is said of what was read.
-fn read_ahead<K: RowKeys>(keys: &K, ranks: &[usize], ahead: &mut [u8]) {
-    for i in 1..ranks.len().min(ahead.len()) {
-        if ranks[i - 1] / ROWS == ranks[i] / ROWS {
-            ahead[i] = first_byte(keys, ranks[i - 1]) ^ first_byte(keys, ranks[i]);
-        }
-    }
-}
-
 /// Whether the keys of the rows of these ranks don't fall. So many rows are read ahead at a time as there are bytes
 /// for.
 fn are_in_order<K: RowKeys>(
@@ -287,36 +92,9 @@ fn are_in_order<K: RowKeys>(
     true
 }
 
-/// Sorts the ranks at some places by the keys of their rows. Nothing is said of their order, since `are_in_order` tests
-/// what comes of it.
-fn sort_run<K: RowKeys>(keys: &K, ranks: &mut [usize], from: usize, until: usize)
-    requires from { from ≤ until }
-    requires until { until ≤ length ranks.old }
-    ensures { IsPermutation ranks.old ranks.new }
-{
-    ranks[from..until].sort_unstable_by(|a, b| keys.compare(row_of(*a), row_of(*b)));
-}
-
-/// Sorts the ranks of each front, which stand one after another. So many rows are read ahead at a time as there are
-/// bytes for.
-fn sort_runs<K: RowKeys>(keys: &K, ranks: &mut [usize], ahead: &mut [u8])
-    ensures { IsPermutation ranks.old ranks.new }
-{
-    let mut from = 0;
-    for i in 1..ranks.len() {
-        if i % AHEAD == 1 {
-            read_ahead(keys, &ranks[i - 1..], ahead);
-        }
-        if ranks[i - 1] / ROWS != ranks[i] / ROWS {
-            sort_run(keys, ranks, from, i);
-            from = i;
-        }
-    }
-    sort_run(keys, ranks, from, ranks.len());
-}
-
 /// Sorts the ranks, and answers whether the keys of their rows don't fall then. Rows with equal fronts stay in their
-/// own order if that is right; otherwise those of each front are sorted by their keys.
+/// own order if that is right; otherwise those of each front are sorted by other bytes of their keys, and if that isn't
+/// right either, as with texts that end in spaces or differ in bytes below the space, by the keys.
 fn sort<K: RowKeys>(
     keys: &K,
     kind: &FieldType,
@@ -334,7 +112,11 @@ fn sort<K: RowKeys>(
     if are_in_order(keys, kind, digits, ranks, ahead) {
         return true;
     }
-    sort_runs(keys, ranks, ahead);
+    sort_ties(keys, digits.len(), filler(kind), ranks, ahead);
+    if are_in_order(keys, kind, digits, ranks, ahead) {
+        return true;
+    }
+    sort_runs(keys, ranks);
     are_in_order(keys, kind, digits, ranks, ahead)
 }
 

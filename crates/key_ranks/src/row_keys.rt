@@ -24,6 +24,10 @@ pub trait RowKeys {
         ensures value { option_copied result ≡ slice_index_or ((table self.now).key row) 0 None }
         ensures whole { length ((table self.now).key row) ≡ length (table self.now).kinds };
 
+    /// The second value of the key of a row; none if that is null, or if a key has no second value. Nothing is asked of
+    /// it, since no answer rests on it.
+    fn second(&self, row: usize) -> Option<&[u8]>;
+
     /// The order of the keys of two rows.
     fn compare(&self, a: usize, b: usize) -> Ordering
         ensures { result ≡ key_cmp (table self.now).kinds ((table self.now).key a) ((table self.now).key b) };

@@ -91,6 +91,13 @@ impl RowKeys for IndexKeys<'_> {
         self.rows.value(row, self.fields[0])
     }
 
+    fn second(&self, row: usize) -> Option<&[u8]> {
+        if self.fields.len() < 2 {
+            return None;
+        }
+        self.rows.value(row, self.fields[1])
+    }
+
     fn compare(&self, a: usize, b: usize) -> Ordering {
         compare_rows(self.rows, self.list, self.fields, a, b)
     }

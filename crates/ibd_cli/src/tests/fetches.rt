@@ -69,9 +69,9 @@ impl Tools {
         ensures room { IfOk result (λ tools. HasRoom tools.walk 128) }
     {
         Ok(Tools {
-            walk: Walk::new(alloc, 128)?,
             named: Marks::new(alloc, space.segment_count())?,
             marks: Marks::new(alloc, space.size())?,
+            walk: Walk::new(alloc, 128)?,
         })
     }
 }
@@ -112,6 +112,27 @@ fn walk_index<L: Ledger>(
 }
 
 /// Walks the trees of all indexes in their order, and answers the ends of the first.
+fn walk_trees<L: Ledger>(
+    alloc: Global,
+    file: &mut Untold,
+    space: &Space,
+    table: &Schema,
+    tools: &mut Tools,
+    steps: &mut Steps<L>,
+) -> Result<Option<TreeEnds>, Stop>
+    requires members { length tools.old.marks ≡ space.now.size }
+    requires segments { length tools.old.named ≡ length space.now.segments }
+    requires room { HasRoom tools.old.walk 128 }
+{
+    let mut clustered = None;
+    for j in 0..table.indexes().len() {
+        let ends = walk_index(alloc, file, space, table, j, tools, steps)?;
+        clustered = clustered.or(Some(ends));
+    }
+    Ok(clustered)
+}
+
+/// Walks the trees of all indexes, with tools of its own.
 fn walk_all<L: Ledger>(
     alloc: Global,
     file: &mut Untold,
@@ -120,12 +141,7 @@ fn walk_all<L: Ledger>(
     steps: &mut Steps<L>,
 ) -> Result<Option<TreeEnds>, Stop> {
     let mut tools = Tools::new(alloc, space)?;
-    let mut clustered = None;
-    for j in 0..table.indexes().len() {
-        let ends = walk_index(alloc, file, space, table, j, &mut tools, steps)?;
-        clustered = clustered.or(Some(ends));
-    }
-    Ok(clustered)
+    walk_trees(alloc, file, space, table, &mut tools, steps)
 }
 
 /// Reads the rows of a tree to their end, and answers how many there are, at most 100.
@@ -144,6 +160,24 @@ fn read_rows<L: Ledger>(
     Ok(100)
 }
 
+/// The walks, and the reading of the rows: how many pages were fetched before the last, and how many rows there are.
+fn walk_and_read<L: Ledger>(
+    alloc: Global,
+    file: &mut Untold,
+    space: &Space,
+    table: &Schema,
+    steps: &mut Steps<L>,
+) -> Result<(usize, u32), Stop> {
+    let clustered = walk_all(alloc, file, space, table, steps)?;
+    let before = file.pages.log().len();
+    let Some(ends) = clustered else {
+        return Ok((before, 0));
+    };
+    let mut cursor = LeafCursor::start(alloc, &ends)?;
+    let rows = read_rows(file, &mut cursor, steps)?;
+    Ok((before, rows))
+}
+
 /// The audit, the walks, and the reading of the rows: how many pages were fetched before the last, and how many rows
 /// there are.
 fn take_parts<L: Ledger>(
@@ -158,14 +192,7 @@ fn take_parts<L: Ledger>(
 {
     let mut steps = Steps::<L>::new(blank);
     let space = audit(alloc, file, table.flags(), &mut steps)?;
-    let clustered = walk_all(alloc, file, &space, table, &mut steps)?;
-    let before = file.pages.log().len();
-    let Some(ends) = clustered else {
-        return Ok((before, 0));
-    };
-    let mut cursor = LeafCursor::start(alloc, &ends)?;
-    let rows = read_rows(file, &mut cursor, &mut steps)?;
-    Ok((before, rows))
+    walk_and_read(alloc, file, &space, table, &mut steps)
 }
 
 /// Which pages a command fetches.

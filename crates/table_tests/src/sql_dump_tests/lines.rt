@@ -185,25 +185,36 @@ fn is_put(answer: Result<(), WriteStop>, line: &[u8], values: Result<&[u8], Writ
     }
 }
 
+/// Fails the test if the record of this case gives another line.
+fn expect_line(
+    rt: &impl Abort,
+    alloc: Global,
+    table: &Schema,
+    page: &mut Page,
+    case: &Case,
+) -> Result<(), Fail> {
+    put_record(rt, page, case);
+    let file = chain(rt, alloc, case)?;
+    let (answer, sink) = put_one::<Brand>(
+        alloc,
+        table,
+        page,
+        ORIGIN,
+        file,
+        case.left,
+        Blank::new(1),
+    )?;
+    assert!(rt; is_put(answer, sink.bytes(), case.values));
+    Ok(())
+}
+
 #[test]
 fn a_line_is_put(rt: HostRuntime) -> Result<(), Fail> {
     let alloc = rt.alloc();
     let table = Schema::read(alloc, TABLE)?;
     let mut page = Page::zeroed(alloc)?;
-    for case in [SHORT, NULL, LONG, CUT] {
-        put_record(&rt, &mut page, &case);
-        let file = chain(&rt, alloc, &case)?;
-        let left = case.left;
-        let (answer, sink) = put_one::<Brand>(
-            alloc,
-            &table,
-            &page,
-            ORIGIN,
-            file,
-            left,
-            Blank::new(1),
-        )?;
-        assert!(rt; is_put(answer, sink.bytes(), case.values));
+    for case in &[SHORT, NULL, LONG, CUT] {
+        expect_line(&rt, alloc, &table, &mut page, case)?;
     }
     Ok(())
 }

@@ -1,6 +1,6 @@
 use Rattle.std.proofs.Common.{◌≡◌, length}
 use Rattle.tree_walk.specs.Room.{HasRoom}
-use Rattle.ibd_cli.proofs.tests.fetches.walk_all.Given as goal
+use Rattle.ibd_cli.proofs.tests.fetches.walk_trees.Given as goal
 
 abbrev pub invariant-loop-j : goal.invariant-loop-j
 invariant-loop-j g l = record {

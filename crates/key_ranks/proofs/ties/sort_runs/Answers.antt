@@ -1,7 +1,7 @@
 use Rattle.std.proofs.Common.{arith}
 use Rattle.std.proofs.lemmas.List.Sorted.{IsPermutation-trans}
-use Rattle.key_ranks.proofs.ranks.sort_runs.Goals.{then-ranks-i, else-ranks-i}
-use Rattle.key_ranks.proofs.ranks.sort_runs.Goals as goal
+use Rattle.key_ranks.proofs.ties.sort_runs.Goals.{then-ranks-i, else-ranks-i}
+use Rattle.key_ranks.proofs.ties.sort_runs.Goals as goal
 
 pub loop-i-preserved : goal.loop-i-preserved
 loop-i-preserved g c =

@@ -1,5 +1,5 @@
 use Rattle.std.proofs.Common.{◌≡◌, ℕ, ◌<◌, slice_index_or}
-use Rattle.key_ranks.proofs.ranks.common.Given as goal
+use Rattle.key_ranks.proofs.fronts.common.Given as goal
 
 -- the bytes so far are the same
 abbrev pub invariant-loop-i : goal.invariant-loop-i

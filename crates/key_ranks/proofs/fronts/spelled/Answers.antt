@@ -1,7 +1,7 @@
 use Rattle.std.proofs.Common.{◌+◌, ◌<◌, ◌≤◌, get_or, arith}
 use Rattle.key_ranks.specs.Ranks.{digit_at}
 use Rattle.key_ranks.proofs.FrontSteps.{number_none, number_more, one_place_more}
-use Rattle.key_ranks.proofs.ranks.spelled.Goals as goal
+use Rattle.key_ranks.proofs.fronts.spelled.Goals as goal
 
 pub loop-i-init : goal.loop-i-init
 loop-i-init c = record {

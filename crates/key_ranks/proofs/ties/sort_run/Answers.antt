@@ -1,6 +1,6 @@
 use Rattle.std.proofs.Common.{◌-◌}
 use Rattle.std.proofs.lemmas.List.Sorted.{IsPermutation-put_mid}
-use Rattle.key_ranks.proofs.ranks.sort_run.Goals as goal
+use Rattle.key_ranks.proofs.ties.sort_run.Goals as goal
 
 pub returns : goal.returns
 returns g c =

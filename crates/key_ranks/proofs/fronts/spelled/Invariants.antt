@@ -1,6 +1,6 @@
 use Rattle.std.proofs.Common.{◌≡◌, ℕ, ◌+◌, ◌<◌, ◌≤◌, ◌^◌, get_or}
 use Rattle.key_ranks.specs.Ranks.{digit_at, number_of}
-use Rattle.key_ranks.proofs.ranks.spelled.Given as goal
+use Rattle.key_ranks.proofs.fronts.spelled.Given as goal
 
 -- the digits so far spell this number
 abbrev pub invariant-loop-i : goal.invariant-loop-i

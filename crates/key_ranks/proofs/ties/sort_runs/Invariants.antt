@@ -1,5 +1,5 @@
 use Rattle.std.proofs.Common.{◌<◌, ◌≤◌, IsPermutation, length}
-use Rattle.key_ranks.proofs.ranks.sort_runs.Given as goal
+use Rattle.key_ranks.proofs.ties.sort_runs.Given as goal
 
 -- each rank is still there, and the front in hand began before this place
 abbrev pub invariant-loop-i : goal.invariant-loop-i
