@@ -144,7 +144,7 @@ table('deep (k varchar(760) %s NOT NULL, n int NOT NULL, PRIMARY KEY (k), KEY n 
 table('added (id int NOT NULL, a int, b varchar(30) %s, PRIMARY KEY (id))' % ASCII,
       [[number, number * 31 % 1000, text(words(0, 30))] for number in range(5000)],
       ['CREATE INDEX a ON added (a)', 'CREATE INDEX b_a ON added (b, a)'])
-# The server frees a dropped index behind the statement, and a file with it is broken for its schema; so it waits.
+# The server frees a dropped index after the statement, and a file with it is broken for its schema; so it waits.
 table('rebuilt (id int NOT NULL, a int, b varchar(300) %s, c text, PRIMARY KEY (id), KEY a (a), KEY b (b), '
       'KEY ab (a, b))' % LATIN,
       [[number, number * 31 % 1000, text(words(0, 300)), text(words(0, 500))] for number in range(5000)],
