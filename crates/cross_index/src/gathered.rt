@@ -57,14 +57,15 @@ pub(crate) fn gather<S: PageSource, L: Ledger>(
     let at = column_fields(alloc, schema)?;
     let fields = schema.fields(alloc, 0, true)?;
     let kept = kept_fields(alloc, schema, &at, fields.fields().len())?;
-    let mut cells = KeptValues::new(alloc);
-    let mut rows = LiveRows::start(alloc, ends)?;
+    // what has most parts comes last, since at each `?` all that is in hand is given back
     let mut located = Located::with_room(alloc, fields.fields().len() as u32)?;
+    let mut rows = LiveRows::start(alloc, ends)?;
     let mut room = Room {
         page: Page::zeroed(alloc)?,
         left: chain_pages,
         value: Vec::new(alloc),
     };
+    let mut cells = KeptValues::new(alloc);
     let count = gather_rows(
         source,
         schema,

@@ -77,9 +77,9 @@ fn compare_index<S: PageSource, L: Ledger>(
         keys,
         order: &order,
     };
-    let mut entries = LiveRows::start(alloc, ends)?;
     let mut located = Located::with_room(alloc, fields.fields().len() as u32)?;
     let mut ahead = Ahead::new(alloc)?;
+    let mut entries = LiveRows::start(alloc, ends)?;
     compare_entries(
         source,
         schema,

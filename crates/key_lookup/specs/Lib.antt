@@ -4,6 +4,7 @@ pub mod GetFirst
 pub mod Laws
 pub mod Sought
 pub mod Tree
+pub mod Room
 pub mod Choice
 pub mod Leaf
 pub mod Way

@@ -5,6 +5,7 @@ ghost use Rattle.page_source.specs.declared.rule.Fault.{Fault};
 ghost use Rattle.page_source.specs.Calls.{OfFile};
 ghost use Rattle.column_values.specs.declared.value.Value.{Value};
 ghost use Rattle.column_values.specs.Order.{Key};
+ghost use Rattle.schema_text.specs.Grammar.{IsTable};
 ghost use Rattle.schema_text.specs.IndexFields.{leaf_fields};
 ghost use Rattle.row_text.specs.Line.{line_of};
 ghost use Rattle.tree_walk.specs.Records.{IsRecord};
@@ -14,6 +15,7 @@ ghost use Rattle.sql_dump.specs.SomeRows.{GrowsByRows};
 ghost use Rattle.sql_dump.specs.Cells.{ReadsRow, CanReadRow, BreaksRow, row_on};
 ghost use Rattle.key_lookup.specs.KeyOfText.{SpellsKey, IsNoKey};
 ghost use Rattle.key_lookup.specs.LookUp.{row_found};
+ghost use Rattle.key_lookup.specs.Room.{IsRoomOf};
 ghost use Rattle.key_lookup.specs.Get.{GetsByKey, Gets, TouchesNothing, GetsOver, get_steps, steps_for};
 
 use crate::checked_row::Found;
@@ -23,9 +25,9 @@ use crate::key_text::search_key;
 use crate::laws::{schema_is_table, text_spells_one_key};
 use crate::room::Room;
 use crate::stop::GetStop;
-use page_source::{ByteSink, Page, PageSource, Steps};
+use page_source::{ByteSink, PageSource, Steps};
 use schema_text::Schema;
-use sql_dump::{ChainRoom, RowReader, WriteStop, put_row};
+use sql_dump::{WriteStop, put_row};
 use std::alloc::Global;
 use std::sync::ledger::Ledger;
 
@@ -34,39 +36,47 @@ use std::sync::ledger::Ledger;
 fn write_row<S: PageSource, O: ByteSink, L: Ledger>(
     source: &mut S,
     sink: &mut O,
-    reader: &mut RowReader,
-    leaf: &Page,
+    room: &mut Room,
     found: Found,
-    room: &mut ChainRoom,
     steps: &mut Steps<L>,
 ) -> Result<(), WriteStop>
-    requires record { IsRecord leaf.now (leaf_fields reader.old.table 0) found.origin }
+    requires record { IsRecord room.old.walk.child (leaf_fields room.old.reader.table 0) found.origin }
     requires told { OfFile S.PageSource source.old (λ file.
-        CanReadRow file (row_on reader.old.table leaf.now found.origin) room.old.left) }
+        CanReadRow file (row_on room.old.reader.table room.old.walk.child found.origin) found.pages) }
     ensures puts { OfFile S.PageSource source.old (λ file. (row_values : List Value)
-        → ReadsRow file (row_on reader.old.table leaf.now found.origin) row_values
-        → Writes result (O.written sink.old) (O.written sink.new) (line_of reader.old.table row_values)) }
-    ensures some { OnOk result (GrowsByRows reader.old.table (O.written sink.old) (O.written sink.new) 1) }
+        → ReadsRow file (row_on room.old.reader.table room.old.walk.child found.origin) row_values
+        → Writes result (O.written sink.old) (O.written sink.new) (line_of room.old.reader.table row_values)) }
+    ensures some { OnOk result (GrowsByRows room.old.reader.table (O.written sink.old) (O.written sink.new) 1) }
     ensures broken { (fault : Fault) → result ≡ Err (WriteStop.Broken fault)
-        → BreaksRow (row_found reader.old.table leaf.now found) fault }
-    ensures cost { steps.new + room.new.left ≡ steps.old + room.old.left }
+        → BreaksRow (row_found room.old.reader.table room.old.walk.child found) fault }
+    ensures cost { steps.new ≤ steps.old + found.pages }
     ensures over { WritesOver S.PageSource O.ByteSink source.old source.new sink.old sink.new
         steps.old steps.new result }
 {
-    reader.read(leaf, found.number, found.origin)?;
-    let row = reader.row(leaf, found.number);
-    put_row(source, sink, &row, room, steps)
+    let Room {
+        walk,
+        reader,
+        chains,
+        ..
+    } = room;
+    chains.left = found.pages;
+    reader.read(&walk.child, found.number, found.origin)?;
+    let row = reader.row(&walk.child, found.number);
+    put_row(source, sink, &row, chains, steps)
 }
 
-/// Finds the row with a key, and writes its line.
+/// Finds the row with a key, and writes its line. The room is the caller's, so that it is given back at one place.
 pub(crate) fn get_by_key<S: PageSource, O: ByteSink, L: Ledger>(
     alloc: Global,
     source: &mut S,
     schema: &Schema,
     key: &SearchKey,
+    room: &mut Room,
     sink: &mut O,
     steps: &mut Steps<L>,
 ) -> Result<(), GetStop>
+    requires room { IsRoomOf schema.now room.old }
+    requires table { IsTable schema.now }
     requires same { length key.now ≡ (leaf_fields schema.now 0).keys }
     ensures told { OfFile S.PageSource source.old (λ file.
         GetsByKey O.ByteSink file schema.now key.now result sink.old sink.new) }
@@ -78,37 +88,11 @@ pub(crate) fn get_by_key<S: PageSource, O: ByteSink, L: Ledger>(
         steps.new ≤ steps.old + steps_for file schema.now key.now) }
     ensures steps { TakesSteps S.PageSource source.old get_steps steps.old steps.new }
 {
-    let Room {
-        leaf,
-        node,
-        mut walk,
-        mut reader,
-        mut chains,
-    } = Room::new(alloc, schema)?;
-    let found = find_in_file(
-        alloc,
-        source,
-        schema,
-        &mut walk,
-        &leaf,
-        &node,
-        key,
-        &mut chains.page,
-        steps,
-    )?;
+    let found = find_in_file(alloc, source, schema, room, key, steps)?;
     let Some(found) = found else {
         return Err(GetStop::Absent);
     };
-    chains.left = found.pages;
-    write_row(
-        source,
-        sink,
-        &mut reader,
-        &walk.child,
-        found,
-        &mut chains,
-        steps,
-    )?;
+    write_row(source, sink, room, found, steps)?;
     Ok(())
 }
 
@@ -140,5 +124,6 @@ pub fn get<S: PageSource, O: ByteSink, L: Ledger>(
     schema_is_table(schema);
     text_spells_one_key();
     let sought = search_key(alloc, schema, key)?;
-    get_by_key(alloc, source, schema, &sought, sink, steps)
+    let mut room = Room::new(alloc, schema)?;
+    get_by_key(alloc, source, schema, &sought, &mut room, sink, steps)
 }

@@ -1,10 +1,8 @@
 //! The memory of a look-up.
 
-ghost use Rattle.std.specs.Prelude.{◌≡◌, IfOk};
-ghost use Rattle.column_values.specs.Types.{AreFields};
+ghost use Rattle.std.specs.Prelude.{IfOk};
 ghost use Rattle.schema_text.specs.Grammar.{IsTable};
-ghost use Rattle.schema_text.specs.IndexFields.{leaf_fields, node_fields};
-ghost use Rattle.tree_walk.specs.Room.{CanWalk};
+ghost use Rattle.key_lookup.specs.Room.{IsRoomOf};
 
 use column_values::FieldList;
 use page_source::NoMemory;
@@ -29,11 +27,7 @@ pub(crate) struct Room<'a> {
 impl<'a> Room<'a> {
     /// The room for a table.
     pub fn new(alloc: Global, schema: &'a Schema) -> Result<Room<'a>, NoMemory>
-        ensures leaf { IfOk result (λ room. room.leaf ≡ leaf_fields schema.now 0) }
-        ensures node { IfOk result (λ room. room.node ≡ node_fields schema.now 0) }
-        ensures fields { IfOk result (λ room. AreFields room.leaf) }
-        ensures walk { IfOk result (λ room. CanWalk room.walk room.leaf room.node) }
-        ensures reader { IfOk result (λ room. room.reader.table ≡ schema.now) }
+        ensures room { IfOk result (λ room. IsRoomOf schema.now room) }
         ensures table { IsTable schema.now }
     {
         lists_are_of_one_index();
@@ -41,12 +35,13 @@ impl<'a> Room<'a> {
         let leaf = schema.fields(alloc, 0, true)?;
         let node = schema.fields(alloc, 0, false)?;
         let _few = (leaf.fields().len(), node.fields().len(), indexes);
+        // what has most parts comes last, since at each `?` all that is in hand is given back
         Ok(Room {
             leaf,
             node,
-            walk: Walk::new(alloc, MOST_FIELDS)?,
             reader: RowReader::new(alloc, schema)?,
             chains: ChainRoom::new(alloc, 0)?,
+            walk: Walk::new(alloc, MOST_FIELDS)?,
         })
     }
 }

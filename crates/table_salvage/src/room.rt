@@ -72,11 +72,12 @@ impl<'a> Room<'a> {
             room.saved ≡ record { rows = 0; partial = 0; leaves = 0; lost = 0 }) }
         ensures heard { IfOk result (λ room. room.unheard ≡ false) }
     {
-        let records = record_room(alloc, schema)?;
-        let met = page_room(alloc, pages)?;
-        let lines = line_room(alloc, schema)?;
+        // what has most parts comes last, since at each `?` all that is in hand is given back
         let page = Page::zeroed(alloc)?;
+        let lines = line_room(alloc, schema)?;
         let chains = ChainRoom::new(alloc, 0)?;
+        let met = page_room(alloc, pages)?;
+        let records = record_room(alloc, schema)?;
         let (scratch, reader) = records;
         let (descriptors, marks) = met;
         let (buffer, losses) = lines;

@@ -1,4 +1,4 @@
-use Rattle.std.proofs.Common.{◌≤◌, ◌+◌, List, Err, refl, sym, ap, ◌∙◌, subst, arith}
+use Rattle.std.proofs.Common.{◌≤◌, ◌+◌, List, Err, refl, sym, ap, subst, arith}
 use Rattle.std.proofs.lemmas.Result.{err_from_is_err_and}
 use Rattle.page_source.specs.Objects.{GrowsBy}
 use Rattle.page_source.proofs.Told.{if_told, map_told, map_told2, map_told3}
@@ -15,27 +15,23 @@ use Rattle.key_lookup.proofs.GetSteps.{stopped, readable, written, cut_off, take
 use Rattle.key_lookup.proofs.GetSteps.{not_refused, write_refused, over_stop, over_absent, over_cut, over_done}
 use Rattle.key_lookup.proofs.by_key.get_by_key.Goals as goal
 
-pub returns-in_err-leaf-clause-few : goal.returns-in_err-leaf-clause-few
-returns-in_err-leaf-clause-few g c =
-    if_told (g.S.PageSource.content c.args.source.now) (λ file. omega arith)
-
 pub returns-in_err-found-clause-told : goal.returns-in_err-found-clause-told
 returns-in_err-found-clause-told g c =
-    let r = err_from_is_err_and c.from_residual-in_err-found.result c.from_residual-in_err-found.ensures.1 in
+    let r = err_from_is_err_and c.from_residual.result c.from_residual.ensures.1 in
     rw (r.1, r.2) (map_told (g.S.PageSource.content c.args.source.now)
     (λ file x. stopped g.O.ByteSink file c.args.schema.now c.args.key.now c.in_err-found.field-0.0 c.args.sink.now x)
     c.in_err-found.ensures.exact)
 
 pub returns-in_err-found-clause-over : goal.returns-in_err-found-clause-over
 returns-in_err-found-clause-over g c =
-    let r = err_from_is_err_and c.from_residual-in_err-found.result c.from_residual-in_err-found.ensures.1 in
+    let r = err_from_is_err_and c.from_residual.result c.from_residual.ensures.1 in
     rw (r.1, r.2) (over_stop g.S.PageSource g.O.ByteSink c.args.source.now c.find_in_file.new.source
     c.find_in_file.new.source
     c.args.sink.now c.args.sink.now c.in_err-found.field-0.0 c.in_err-found.ensures.over)
 
 pub returns-in_err-found-clause-knows : goal.returns-in_err-found-clause-knows
 returns-in_err-found-clause-knows g c =
-    let r = err_from_is_err_and c.from_residual-in_err-found.result c.from_residual-in_err-found.ensures.1 in
+    let r = err_from_is_err_and c.from_residual.result c.from_residual.ensures.1 in
     rw (r.1, r.2) (not_refused c.in_err-found.field-0.0)
 
 pub returns-in_err-found-clause-few : goal.returns-in_err-found-clause-few
@@ -69,17 +65,17 @@ returns-in_default-clause-steps g c = c.in_ok-found.ensures.cost
 pub write_row-requires-clause-record : goal.write_row-requires-clause-record
 write_row-requires-clause-record g c =
     let is = rw c.in-Some.is at c.in_ok-found.ensures.readable in
-    subst (λ (f : Fields). IsRecord c.find_in_file.new.walk.child f c.in-Some.found.origin)
-    (c.in_ok-leaf.ensures.leaf ∙ ap (λ (t : TableDef). leaf_fields t 0) (sym c.in_ok-leaf.ensures.reader)) is
+    subst (λ (f : Fields). IsRecord c.find_in_file.new.room.walk.child f c.in-Some.found.origin)
+    (ap (λ (t : TableDef). leaf_fields t 0) (sym c.in_ok-found.ensures.reader)) is
 
 pub write_row-requires-clause-told : goal.write_row-requires-clause-told
 write_row-requires-clause-told g c =
     let found = rw c.in-Some.is at c.in_ok-found.ensures.found in
     rw c.in_ok-found.ensures.over.same (map_told2 (g.S.PageSource.content c.args.source.now)
     (λ file good at. subst (λ (t : TableDef). CanReadRow file
-    (row_on t c.find_in_file.new.walk.child c.in-Some.found.origin)
-    c.in-Some.found.pages) (sym c.in_ok-leaf.ensures.reader)
-    (readable file c.args.schema.now c.args.key.now c.in_ok-leaf.ensures.table good c.find_in_file.new.walk.child
+    (row_on t c.find_in_file.new.room.walk.child c.in-Some.found.origin)
+    c.in-Some.found.pages) (sym c.in_ok-found.ensures.reader)
+    (readable file c.args.schema.now c.args.key.now c.requires.table good c.find_in_file.new.room.walk.child
     c.in-Some.found at)) c.in_ok-found.ensures.exact found)
 
 pub returns-in_err-write_row-clause-told : goal.returns-in_err-write_row-clause-told
@@ -88,13 +84,13 @@ returns-in_err-write_row-clause-told g c =
     let found = rw c.in-Some.is at c.in_ok-found.ensures.found in
     let puts = rw c.in_ok-found.ensures.over.same at c.in_err-write_row.ensures.puts in
     rw (r.1, r.2) (map_told3 (g.S.PageSource.content c.args.source.now)
-    (λ file good at puts. cut_off file c.args.schema.now c.args.key.now c.in_ok-leaf.ensures.table good
-    c.find_in_file.new.walk.child c.in-Some.found at g.O.ByteSink c.args.sink.now c.write_row.new.sink
+    (λ file good at puts. cut_off file c.args.schema.now c.args.key.now c.requires.table good
+    c.find_in_file.new.room.walk.child c.in-Some.found at g.O.ByteSink c.args.sink.now c.write_row.new.sink
     c.in_err-write_row.field-0.0
     (subst (λ (t : TableDef). (row_values : List Value)
-    → ReadsRow file (row_on t c.find_in_file.new.walk.child c.in-Some.found.origin) row_values
+    → ReadsRow file (row_on t c.find_in_file.new.room.walk.child c.in-Some.found.origin) row_values
     → Writes {A = Unit {0}} (Err c.in_err-write_row.field-0.0) (g.O.ByteSink.written c.args.sink.now)
-    (g.O.ByteSink.written c.write_row.new.sink) (line_of t row_values)) c.in_ok-leaf.ensures.reader puts))
+    (g.O.ByteSink.written c.write_row.new.sink) (line_of t row_values)) c.in_ok-found.ensures.reader puts))
     c.in_ok-found.ensures.exact found puts)
 
 pub returns-in_err-write_row-clause-over : goal.returns-in_err-write_row-clause-over
@@ -129,18 +125,18 @@ returns-clause-told g c =
     let found = rw c.in-Some.is at c.in_ok-found.ensures.found in
     let puts = rw c.in_ok-found.ensures.over.same at c.in_ok-write_row.ensures.puts in
     map_told3 (g.S.PageSource.content c.args.source.now)
-    (λ file good at puts. written file c.args.schema.now c.args.key.now c.in_ok-leaf.ensures.table good
-    c.find_in_file.new.walk.child c.in-Some.found at g.O.ByteSink c.args.sink.now c.write_row.new.sink
+    (λ file good at puts. written file c.args.schema.now c.args.key.now c.requires.table good
+    c.find_in_file.new.room.walk.child c.in-Some.found at g.O.ByteSink c.args.sink.now c.write_row.new.sink
     (subst (λ (t : TableDef). (row_values : List Value)
-    → ReadsRow file (row_on t c.find_in_file.new.walk.child c.in-Some.found.origin) row_values
+    → ReadsRow file (row_on t c.find_in_file.new.room.walk.child c.in-Some.found.origin) row_values
     → GrowsBy (g.O.ByteSink.written c.args.sink.now)
-    (g.O.ByteSink.written c.write_row.new.sink) (line_of t row_values)) c.in_ok-leaf.ensures.reader puts) tt)
+    (g.O.ByteSink.written c.write_row.new.sink) (line_of t row_values)) c.in_ok-found.ensures.reader puts) tt)
     c.in_ok-found.ensures.exact found puts
 
 pub returns-clause-some : goal.returns-clause-some
 returns-clause-some g c =
     subst (λ (t : TableDef). GrowsByRows t (g.O.ByteSink.written c.args.sink.now)
-    (g.O.ByteSink.written c.write_row.new.sink) 1) c.in_ok-leaf.ensures.reader c.in_ok-write_row.ensures.some
+    (g.O.ByteSink.written c.write_row.new.sink) 1) c.in_ok-found.ensures.reader c.in_ok-write_row.ensures.some
 
 pub returns-clause-over : goal.returns-clause-over
 returns-clause-over g c =

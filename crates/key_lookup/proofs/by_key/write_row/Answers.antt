@@ -15,7 +15,8 @@ returns-clause-broken g c =
     λ fault is.
     subst (λ (on : RowOnLeaf). BreaksRow on fault)
     (c.row-row.ensures
-    ∙ ap₂ (row_with c.args.leaf.now c.args.found.number) c.in_ok-read.ensures.table c.in_ok-read.ensures.read)
+    ∙ ap₂ (row_with c.args.room.now.walk.child c.args.found.number) c.in_ok-read.ensures.table
+    c.in_ok-read.ensures.read)
     (c.put_row.ensures.broken fault is)
 
 pub returns-clause-some : goal.returns-clause-some

@@ -23,9 +23,9 @@ returns-in_err-find_and_check-clause-exact g c =
     rw (r.1, r.2)
     (map_told2 (g.S.PageSource.content c.args.source.now)
     (λ file head at. in_look_up file c.args.schema.now c.args.key.now c.flags.result c.flags.ensures
-    (index_of file c.root_of.result c.args.leaf.now c.args.node.now)
-    (index_same file c.args.schema.now c.root_of.result c.args.leaf.now c.args.node.now c.root_of.ensures
-    c.requires.leaf c.requires.node) head c.in_err-find_and_check.field-0.0 at)
+    (index_of file c.root_of.result c.args.room.now.leaf c.args.room.now.node)
+    (index_same file c.args.schema.now c.root_of.result c.args.room.now.leaf c.args.room.now.node c.root_of.ensures
+    c.requires.room.leaf c.requires.room.node) head c.in_err-find_and_check.field-0.0 at)
     c.in_ok-header.ensures.exact at)
 
 pub returns-clause-exact : goal.returns-clause-exact
@@ -33,9 +33,9 @@ returns-clause-exact g c =
     let at = rw c.in_ok-header.ensures.over.same at c.in_ok-find_and_check.ensures.exact in
     map_told2 (g.S.PageSource.content c.args.source.now)
     (λ file head at. holds file c.args.schema.now c.args.key.now c.flags.result c.flags.ensures
-    (index_of file c.root_of.result c.args.leaf.now c.args.node.now)
-    (index_same file c.args.schema.now c.root_of.result c.args.leaf.now c.args.node.now c.root_of.ensures
-    c.requires.leaf c.requires.node) head at)
+    (index_of file c.root_of.result c.args.room.now.leaf c.args.room.now.node)
+    (index_same file c.args.schema.now c.root_of.result c.args.room.now.leaf c.args.room.now.node c.root_of.ensures
+    c.requires.room.leaf c.requires.room.node) head at)
     c.in_ok-header.ensures.exact at
 
 pub returns-clause-found : goal.returns-clause-found
@@ -44,8 +44,8 @@ returns-clause-found g c =
     map_told (g.S.PageSource.content c.args.source.now)
     (λ file found. subst (λ (i : Index). IsFound i c.args.key.now c.find_and_check.new.walk.child
     c.in_ok-find_and_check.field-0)
-    (index_same file c.args.schema.now c.root_of.result c.args.leaf.now c.args.node.now c.root_of.ensures
-    c.requires.leaf c.requires.node) found)
+    (index_same file c.args.schema.now c.root_of.result c.args.room.now.leaf c.args.room.now.node c.root_of.ensures
+    c.requires.room.leaf c.requires.room.node) found)
     at
 
 pub returns-in_err-header-clause-steps_if_told : goal.returns-in_err-header-clause-steps_if_told
@@ -61,10 +61,10 @@ returns-in_err-find_and_check-clause-steps_if_told g c =
     let few = rw c.in_ok-header.ensures.over.same at c.find_and_check.ensures.steps_if_told in
     map_told (g.S.PageSource.content c.args.source.now)
     (λ file few. all_steps file c.args.schema.now c.args.key.now
-    (index_of file c.root_of.result c.args.leaf.now c.args.node.now) c.args.steps.now c.check_head.new.steps
+    (index_of file c.root_of.result c.args.room.now.leaf c.args.room.now.node) c.args.steps.now c.check_head.new.steps
     c.find_and_check.new.steps
-    (index_same file c.args.schema.now c.root_of.result c.args.leaf.now c.args.node.now c.root_of.ensures
-    c.requires.leaf c.requires.node) c.check_head.ensures.cost few)
+    (index_same file c.args.schema.now c.root_of.result c.args.room.now.leaf c.args.room.now.node c.root_of.ensures
+    c.requires.room.leaf c.requires.room.node) c.check_head.ensures.cost few)
     few
 
 pub returns-clause-steps_if_told : goal.returns-clause-steps_if_told
@@ -72,8 +72,8 @@ returns-clause-steps_if_told g c =
     let few = rw c.in_ok-header.ensures.over.same at c.find_and_check.ensures.steps_if_told in
     map_told (g.S.PageSource.content c.args.source.now)
     (λ file few. all_steps file c.args.schema.now c.args.key.now
-    (index_of file c.root_of.result c.args.leaf.now c.args.node.now) c.args.steps.now c.check_head.new.steps
+    (index_of file c.root_of.result c.args.room.now.leaf c.args.room.now.node) c.args.steps.now c.check_head.new.steps
     c.find_and_check.new.steps
-    (index_same file c.args.schema.now c.root_of.result c.args.leaf.now c.args.node.now c.root_of.ensures
-    c.requires.leaf c.requires.node) c.check_head.ensures.cost few)
+    (index_same file c.args.schema.now c.root_of.result c.args.room.now.leaf c.args.room.now.node c.root_of.ensures
+    c.requires.room.leaf c.requires.room.node) c.check_head.ensures.cost few)
     few
