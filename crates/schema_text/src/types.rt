@@ -16,13 +16,16 @@ use column_values::ColumnType;
 fn int_width(word: &[u8]) -> Option<u8>
     ensures { Parses (λ width. IsWidth width × (word.now ≡ int_word width)) result }
 {
-    match word {
-        b"tinyint" => Some(1),
-        b"smallint" => Some(2),
-        b"mediumint" => Some(3),
-        b"int" => Some(4),
-        b"bigint" => Some(8),
-        _ => None,
+    if is(word, b"tinyint") {
+        Some(1)
+    } else if is(word, b"smallint") {
+        Some(2)
+    } else if is(word, b"mediumint") {
+        Some(3)
+    } else if is(word, b"int") {
+        Some(4)
+    } else {
+        is(word, b"bigint").then_some(8)
     }
 }
 
@@ -30,12 +33,14 @@ fn int_width(word: &[u8]) -> Option<u8>
 fn text_length(word: &[u8]) -> Option<u32>
     ensures { Parses (λ n. IsLongLength n × (word.now ≡ long_prefix n ++ codes "text")) result }
 {
-    match word {
-        b"tinytext" => Some(255),
-        b"text" => Some(65535),
-        b"mediumtext" => Some(16777215),
-        b"longtext" => Some(4294967295),
-        _ => None,
+    if is(word, b"tinytext") {
+        Some(255)
+    } else if is(word, b"text") {
+        Some(65535)
+    } else if is(word, b"mediumtext") {
+        Some(16777215)
+    } else {
+        is(word, b"longtext").then_some(4294967295)
     }
 }
 
@@ -43,12 +48,14 @@ fn text_length(word: &[u8]) -> Option<u32>
 fn blob_length(word: &[u8]) -> Option<u32>
     ensures { Parses (λ n. IsLongLength n × (word.now ≡ long_prefix n ++ codes "blob")) result }
 {
-    match word {
-        b"tinyblob" => Some(255),
-        b"blob" => Some(65535),
-        b"mediumblob" => Some(16777215),
-        b"longblob" => Some(4294967295),
-        _ => None,
+    if is(word, b"tinyblob") {
+        Some(255)
+    } else if is(word, b"blob") {
+        Some(65535)
+    } else if is(word, b"mediumblob") {
+        Some(16777215)
+    } else {
+        is(word, b"longblob").then_some(4294967295)
     }
 }
 
@@ -68,10 +75,10 @@ fn plain_type(word: &[u8]) -> Option<ColumnType>
     if let Some(n) = blob_length(word) {
         return Some(ColumnType::Blob { n });
     }
-    match word {
-        b"date" => Some(ColumnType::Date),
-        b"year" => Some(ColumnType::Year),
-        _ => None,
+    if is(word, b"date") {
+        Some(ColumnType::Date)
+    } else {
+        is(word, b"year").then_some(ColumnType::Year)
     }
 }
 
@@ -81,26 +88,20 @@ fn sized_type(word: &[u8], n: u32) -> Option<ColumnType>
     ensures only { (kind : ColumnType) → IsColumnType kind → IsSizedType word.now n kind
         → result ≡ Some kind }
 {
-    match word {
-        b"char" => (1 <= n && n <= 255).then_some(ColumnType::Char { n }),
-        b"varchar" => (1 <= n && n <= 65535).then_some(ColumnType::Varchar { n }),
-        b"binary" => (1 <= n && n <= 255).then_some(ColumnType::Binary { n }),
-        b"varbinary" => (1 <= n && n <= 65535).then_some(ColumnType::Varbinary { n }),
-        b"datetime" => {
-            if n <= 6 {
-                Some(ColumnType::DateTime { f: n as u8 })
-            } else {
-                None
-            }
-        }
-        b"timestamp" => {
-            if n <= 6 {
-                Some(ColumnType::Timestamp { f: n as u8 })
-            } else {
-                None
-            }
-        }
-        _ => None,
+    if is(word, b"char") {
+        (1 <= n && n <= 255).then_some(ColumnType::Char { n })
+    } else if is(word, b"varchar") {
+        (1 <= n && n <= 65535).then_some(ColumnType::Varchar { n })
+    } else if is(word, b"binary") {
+        (1 <= n && n <= 255).then_some(ColumnType::Binary { n })
+    } else if is(word, b"varbinary") {
+        (1 <= n && n <= 65535).then_some(ColumnType::Varbinary { n })
+    } else if is(word, b"datetime") && n <= 6 {
+        Some(ColumnType::DateTime { f: n as u8 })
+    } else if is(word, b"timestamp") && n <= 6 {
+        Some(ColumnType::Timestamp { f: n as u8 })
+    } else {
+        None
     }
 }
 

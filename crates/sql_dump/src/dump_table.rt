@@ -47,10 +47,11 @@ pub fn dump<S: PageSource, O: ByteSink, L: Ledger>(
     checked_can_be_read();
     checks_are_validity();
     let table = check_table(alloc, source, schema, steps)?;
-    let mut reader = RowReader::new(alloc, schema)?;
+    // what has most parts comes last, since at each `?` all that is in hand is given back
+    let mut room = ChainRoom::new(alloc, table.chain_pages)?;
     let mut buffer = Buffer::new(alloc)?;
     let mut rows = LiveRows::start(alloc, &table.clustered)?;
-    let mut room = ChainRoom::new(alloc, table.chain_pages)?;
+    let mut reader = RowReader::new(alloc, schema)?;
     put_rows(
         source,
         sink,

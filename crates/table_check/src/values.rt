@@ -146,8 +146,9 @@ pub(crate) fn check_values<S: PageSource, L: Ledger>(
         segment: clustered.leaf_segment,
         fields: &fields,
     };
-    let mut rows = LiveRows::start(alloc, clustered)?;
     let mut located = Located::with_room(alloc, fields.fields().len() as u32)?;
+    // what has most parts comes last, since at each `?` all that is in hand is given back
+    let mut rows = LiveRows::start(alloc, clustered)?;
     Ok(check_rows(
         source,
         &leaves,

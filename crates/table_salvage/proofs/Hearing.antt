@@ -1,7 +1,7 @@
 -- What the report got, piece by piece.
-use Rattle.std.proofs.Common.{◌≡◌, ℕ, Bool, true, false, List, [], ◌++◌, Option, refl, sym, subst}
+use Rattle.std.proofs.Common.{ℕ, Bool, true, false, List, [], ◌++◌, Option, refl, sym, subst}
 use Rattle.std.proofs.lemmas.List.{append-nil}
-use Rattle.page_source.specs.Objects.{GrowsBy, GrowsByPart}
+use Rattle.page_source.specs.Objects.{GrowsByPart}
 use Rattle.page_source.proofs.Texts.{grows_on, grows_part}
 use Rattle.sql_dump.proofs.SomeValues.{grows_none}
 use Rattle.sql_dump.proofs.Written.{grown_part, part_more}

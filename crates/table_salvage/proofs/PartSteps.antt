@@ -1,15 +1,15 @@
 -- Parts of a salvage one after another.
-use Rattle.std.proofs.Common.{◌≡◌, ℕ, ◌≤◌, Bool, Result, Ok, Err, length, refl, sym, ◌∙◌, arith, inl, inr}
+use Rattle.std.proofs.Common.{◌≡◌, ℕ, ◌≤◌, Bool, Result, Ok, Err, refl, sym, ◌∙◌, arith, inl, inr}
 use Rattle.std.proofs.lemmas.Bool.{false≢true, cases_Bool}
 use Rattle.page_source.specs.declared.objects.PageSource.{Ghosts as FileOf}
 use Rattle.page_source.specs.declared.objects.ByteSink.{Ghosts as SinkOf}
 use Rattle.page_source.specs.Calls.{AsksNoMore}
-use Rattle.page_source.proofs.Told.{if_told, map_told, map_told2}
+use Rattle.page_source.proofs.Told.{map_told, map_told2}
 use Rattle.salvage_model.specs.declared.stop.SalvageStop.{SalvageStop}
 use Rattle.salvage_model.specs.declared.stop.SalvageStop.TheVariants.{Root, Source, Sink, Losses, Memory, Changed}
 use Rattle.table_salvage.specs.declared.search.Search.{Search}
 use Rattle.table_salvage.specs.declared.room.Room.{Room}
-use Rattle.table_salvage.specs.Ready.{IsReady, IsInHand}
+use Rattle.table_salvage.specs.Ready.{IsInHand}
 use Rattle.table_salvage.specs.Work.{Stage, Goes, GoesOn}
 use Rattle.table_salvage.specs.Over.{PartOver}
 

@@ -2,17 +2,16 @@
 use Rattle.std.proofs.Common.{◌≡◌, ◌≢◌, ℕ, ◌+◌, ◌<◌, ◌≤◌, Bool, true, false, cond, if◌then◌else◌, List, [], ◌∷◌}
 use Rattle.std.proofs.Common.{◌++◌, length, Option, Some, None, IfSome, Result, Ok, Err, OnOk, OnErr, is_err, refl, sym}
 use Rattle.std.proofs.Common.{ap, ◌∙◌}
-use Rattle.std.proofs.Common.{subst, arith, inl, inr, append_assoc}
+use Rattle.std.proofs.Common.{subst, arith}
 use Rattle.std.proofs.lemmas.List.{append-nil}
 use Rattle.std.proofs.lemmas.Bool.{false≢true}
-use Rattle.page_source.specs.declared.rule.Fault.{Fault}
 use Rattle.page_source.specs.Pages.{page_of}
 use Rattle.page_source.specs.Objects.{GrowsByPart}
 use Rattle.column_values.specs.declared.value.Value.{Value}
 use Rattle.space_audit.specs.Marks.{is_in, is_set, seen, Marked}
 use Rattle.tree_walk.proofs.Levels.{is_in-append}
 use Rattle.schema_text.specs.TableDef.{TableDef}
-use Rattle.sql_dump.specs.Cells.{RowOnLeaf, BreaksRow, row_on}
+use Rattle.sql_dump.specs.Cells.{RowOnLeaf, row_on}
 use Rattle.sql_dump.specs.Buffer.{IsSent, Moves}
 use Rattle.sql_dump.proofs.Sends.{moves_end}
 use Rattle.sql_dump.specs.declared.stop.WriteStop.{WriteStop}
@@ -20,7 +19,6 @@ use Rattle.sql_dump.specs.declared.stop.WriteStop.TheVariants.{Broken, Source, S
 use Rattle.compact_record.specs.declared.places.Place.{Place}
 use Rattle.compact_record.specs.Reading.{places_of}
 use Rattle.schema_text.specs.IndexFields.{leaf_fields}
-use Rattle.salvage_model.specs.declared.stop.SalvageStop.{SalvageStop}
 use Rattle.salvage_model.specs.Stops.{salvage_stop_of}
 use Rattle.leaf_salvage.specs.Standing.{reach_of}
 use Rattle.salvage_model.specs.declared.loss.Loss.{Loss}

@@ -1,5 +1,5 @@
 -- The first page, and what stands after the last one.
-use Rattle.std.proofs.Common.{◌≡◌, ℕ, ◌≤◌, ◌+◌, ◌++◌, Bool, true, false, List, [], replicate, Option, Result, Ok, Err}
+use Rattle.std.proofs.Common.{◌≡◌, ℕ, ◌≤◌, ◌+◌, Bool, true, false, List, [], replicate, Option, Result, Ok, Err}
 use Rattle.std.proofs.Common.{IfSome, refl, sym, ap, ◌∙◌, subst, arith, inl, inr}
 use Rattle.std.proofs.lemmas.List.{append-nil, get_or-replicate, get_or_past, length-replicate}
 use Rattle.std.proofs.lemmas.Bool.{false≢true, cases_Bool, cases_lt}
@@ -8,6 +8,7 @@ use Rattle.page_source.specs.declared.objects.ByteSink.{Ghosts as SinkOf}
 use Rattle.page_source.specs.declared.rule.Fault.{Fault}
 use Rattle.page_source.specs.Faults.{Rose}
 use Rattle.page_source.specs.Objects.{GrowsBy, GrowsByPart}
+use Rattle.page_source.specs.Calls.{AsksNoMore}
 use Rattle.page_source.proofs.Told.{if_told, map_told}
 use Rattle.page_source.proofs.Texts.{grows_whole}
 use Rattle.schema_text.specs.TableDef.{TableDef}
@@ -16,7 +17,6 @@ use Rattle.sql_dump.proofs.Sends.{all_sent, sent_cut, sent_part}
 use Rattle.leaf_salvage.specs.Known.{Knows}
 use Rattle.leaf_salvage.specs.Standing.{reach_of}
 use Rattle.space_audit.specs.Marks.{is_set}
-use Rattle.salvage_model.specs.declared.kind.RecordKind.{RecordKind}
 use Rattle.salvage_model.specs.declared.saved.Saved.{Saved}
 use Rattle.salvage_model.specs.declared.stop.SalvageStop.{SalvageStop}
 use Rattle.salvage_model.specs.declared.stop.SalvageStop.TheVariants.{Root, Source, Sink, Losses, Memory, Changed}
@@ -88,13 +88,6 @@ begins {work = work} {start = start} {now = now} pages knows least marks held sa
 abbrev pub wanted_work : List ℕ → Wanted → ℕ → Work
 wanted_work file wanted id = record { file = file; table = wanted.table; kind = wanted.kind; id = id }
 
-pub is_wanted : (file : List ℕ) (wanted : Wanted) (id : ℕ) (table : TableDef) (kind : RecordKind)
-    → table ≡ wanted.table → kind ≡ wanted.kind
-    → record { file = file; table = table; kind = kind; id = id } ≡ wanted_work file wanted id
-is_wanted file wanted id table kind table_is kind_is =
-    ap (λ (t : TableDef). record { file = file; table = t; kind = kind; id = id }) table_is
-    ∙ ap (λ (k : RecordKind). record { file = file; table = wanted.table; kind = k; id = id }) kind_is
-
 -- what the report got is what is said of it
 first_says : (heeds unheard : Bool) (table : TableDef) (old new : Written) (before now : ℕ)
     → (unheard ≡ true → Rose before now) → (outcomes : List Outcome)
@@ -121,93 +114,80 @@ ended_says true table old new before now heeds outcomes part = part
 ended_says false table old new before now heeds outcomes part = absurd (false≢true heeds)
 
 -- of some first pages a prefix was written
-begun : {file : List ℕ} {wanted : Wanted} {id : ℕ} {work : Work} {start : Start} {now : Progress}
+begun : {file : List ℕ} {wanted : Wanted} {id : ℕ} {start : Start} {now : Progress}
     (Report : List Outcome → Type 0) → ((outcomes : List Outcome)
     → HasGot now.unheard start.written.losses now.written.losses (losses_of wanted.table outcomes) → Report outcomes)
-    → work ≡ wanted_work file wanted id → IsId file wanted.table wanted.given id → Broke work start now
+    → IsId file wanted.table wanted.given id → Broke (wanted_work file wanted id) start now
     → HasBegun file wanted start.faults now.faults start.written.sink now.written.sink Report
-begun {file = file} {wanted = wanted} {id = id} {start = start} {now = now} Report says is found off =
-    let b : Broke (wanted_work file wanted id) start now = subst (λ (w : Work). Broke w start now) is off in
-    record {
-      id = id;
-      is_id = found;
-      missed = b.missed;
-      cause = b.cause;
-      outcomes = b.outcomes;
-      are_first = b.are_first;
-      text = b.text;
-      report = says b.outcomes b.report;
-    }
+begun {id = id} Report says found b = record {
+  id = id;
+  is_id = found;
+  missed = b.missed;
+  cause = b.cause;
+  outcomes = b.outcomes;
+  are_first = b.are_first;
+  text = b.text;
+  report = says b.outcomes b.report;
+}
 
 -- an object that failed ended it
-pub has_begun : {file : List ℕ} {wanted : Wanted} {id : ℕ} {work : Work} {start : Start} {now : Progress}
+pub has_begun : {file : List ℕ} {wanted : Wanted} {id : ℕ} {start : Start} {now : Progress}
     (heeds : Bool) (before after : ℕ) → (now.unheard ≡ true → Rose before after)
-    → work ≡ wanted_work file wanted id → IsId file wanted.table wanted.given id → Broke work start now
+    → IsId file wanted.table wanted.given id → Broke (wanted_work file wanted id) start now
     → HasBegun file wanted start.faults now.faults start.written.sink now.written.sink
     (told_of heeds wanted.table start.written now.written before after).first
-has_begun {wanted = wanted} {start = start} {now = now} heeds before after rose is found off =
-    begun {now = now} _ (first_says heeds now.unheard wanted.table start.written now.written before after rose) is found
+has_begun {wanted = wanted} {start = start} {now = now} heeds before after rose found off =
+    begun {now = now} _ (first_says heeds now.unheard wanted.table start.written now.written before after rose) found
     off
 
 -- the source did, in the line of a long row
-has_begun_long : {file : List ℕ} {wanted : Wanted} {id : ℕ} {work : Work} {start : Start} {now : Progress}
+has_begun_long : {file : List ℕ} {wanted : Wanted} {id : ℕ} {start : Start} {now : Progress}
     (heeds : Bool) (before after : ℕ) → (now.unheard ≡ true → Rose before after)
-    → work ≡ wanted_work file wanted id → IsId file wanted.table wanted.given id → BrokeInRow work start now
+    → IsId file wanted.table wanted.given id → BrokeInRow (wanted_work file wanted id) start now
     → HasBegunLongRow file wanted start.faults now.faults start.written.sink now.written.sink
     (told_of heeds wanted.table start.written now.written before after).first
-has_begun_long {file = file} {wanted = wanted} {id = id} {start = start} {now =
-    now} heeds before after rose is found off =
-    let b : BrokeInRow (wanted_work file wanted id) start now = subst (λ (w : Work). BrokeInRow w start now) is off in
-    record {
-      begun = record {
-        id = id;
-        is_id = found;
-        missed = b.broke.missed;
-        cause = b.broke.cause;
-        outcomes = b.broke.outcomes;
-        are_first = b.broke.are_first;
-        text = b.broke.text;
-        report = first_says heeds now.unheard wanted.table start.written now.written before after rose b.broke.outcomes
-            b.broke.report;
-      };
-      ends = b.ends;
-    }
+unfolding has_begun begun
+has_begun_long heeds before after rose found off = record {
+  begun = has_begun heeds before after rose found off.broke;
+  ends = off.ends;
+}
 
 -- in a page
-pub page_stops : {file : List ℕ} {id : ℕ} {work : Work} (wanted : Wanted) (start : Start) (now : Progress)
+pub page_stops : (file : List ℕ) (id : ℕ) (wanted : Wanted) (start : Start) (now : Progress)
     (Next : Type 0) (heeds : Bool) (before after asked asked_now : ℕ) (stop : SalvageStop)
-    → (now.unheard ≡ true → Rose before after)
-    → work ≡ wanted_work file wanted id → IsId file wanted.table wanted.given id
-    → GoesOn {A = Unit {0}} (Err stop) Next (Broke work start now) (BrokeInRow work start now)
+    → (now.unheard ≡ true → Rose before after) → IsId file wanted.table wanted.given id
+    → GoesOn {A = Unit {0}} (Err stop) Next (Broke (wanted_work file wanted id) start now)
+    (BrokeInRow (wanted_work file wanted id) start now)
     → SalvagesBy (told_of heeds wanted.table start.written now.written before after) file wanted
     (record { faults = start.faults; fetches = asked }) (record { faults = now.faults; fetches = asked_now })
     (Err stop) start.written now.written
-page_stops wanted start now Next heeds before after asked asked_now Root rose is found goes = absurd goes
-page_stops wanted start now Next heeds before after asked asked_now Source rose is found goes =
-    inr (has_begun_long heeds before after rose is found goes)
-page_stops wanted start now Next heeds before after asked asked_now Sink rose is found goes =
-    has_begun heeds before after rose is found goes
-page_stops wanted start now Next heeds before after asked asked_now Losses rose is found goes = absurd goes
-page_stops wanted start now Next heeds before after asked asked_now Memory rose is found goes = absurd goes
-page_stops wanted start now Next heeds before after asked asked_now (Changed fault) rose is found goes = absurd goes
+page_stops file id wanted start now Next heeds before after asked asked_now Root rose found goes = absurd goes
+page_stops file id wanted start now Next heeds before after asked asked_now Source rose found goes =
+    inr (has_begun_long heeds before after rose found goes)
+page_stops file id wanted start now Next heeds before after asked asked_now Sink rose found goes =
+    has_begun heeds before after rose found goes
+page_stops file id wanted start now Next heeds before after asked asked_now Losses rose found goes = absurd goes
+page_stops file id wanted start now Next heeds before after asked asked_now Memory rose found goes = absurd goes
+page_stops file id wanted start now Next heeds before after asked asked_now (Changed fault) rose found goes =
+    absurd goes
 
 -- the report did, after a page
-pub report_stops : {file : List ℕ} {wanted : Wanted} {id n : ℕ} {work : Work} {start : Start} {now : Progress}
-    (heeds : Bool) (before after : ℕ) → heeds ≡ true → work ≡ wanted_work file wanted id
-    → IsId file wanted.table wanted.given id → PagesDone n work start now
+pub report_stops : {file : List ℕ} {wanted : Wanted} {id n : ℕ} {start : Start} {now : Progress}
+    (heeds : Bool) (before after : ℕ) → heeds ≡ true
+    → IsId file wanted.table wanted.given id → PagesDone n (wanted_work file wanted id) start now
     → HasBegun file wanted start.faults now.faults start.written.sink now.written.sink
     (told_of heeds wanted.table start.written now.written before after).ended
-report_stops {wanted = wanted} {work = work} {start = start} {now = now} heeds before after heeded is found met =
+report_stops {wanted = wanted} {start = start} {now = now} heeds before after heeded found met =
     begun {now = now} _ (λ outcomes got. ended_says heeds wanted.table start.written now.written before
     after heeded outcomes
     (got_part now.unheard start.written.losses now.written.losses (losses_of wanted.table outcomes)
-    (numbers_line (numbers_of outcomes)) got)) is found
+    (numbers_line (numbers_of outcomes)) got)) found
     (broke (met_on (omega arith) refl (λ pages parts at. record {
       outcomes = at.outcomes;
       first = at.pages.first;
       text = subst (λ (t : List ℕ). GrowsByPart start.written.sink now.written.sink t)
-          (append-nil (text_of work.table at.outcomes))
-          (sent_part start.written.sink now.written.sink (text_of work.table at.outcomes) now.held [] at.kept.text);
+          (append-nil (text_of wanted.table at.outcomes))
+          (sent_part start.written.sink now.written.sink (text_of wanted.table at.outcomes) now.held [] at.kept.text);
       report = at.kept.report;
     }) met))
 
@@ -250,17 +230,15 @@ reported {start = start} {now = now} {job = job} new unheard next at =
     (numbers_line (numbers_of at.outcomes)) at.kept.report line
 
 -- the report failed there
-pub numbers_stop : {file : List ℕ} {wanted : Wanted} {id n : ℕ} {work : Work} {start : Start} {now : Progress}
-    (new : Written) (heeds unheard : Bool) (before after : ℕ) → PagesDone n work start now → heeds ≡ true
-    → work ≡ wanted_work file wanted id → IsId file wanted.table wanted.given id
+pub numbers_stop : {file : List ℕ} {wanted : Wanted} {id n : ℕ} {start : Start} {now : Progress}
+    (new : Written) (heeds unheard : Bool) (before after : ℕ) → PagesDone n (wanted_work file wanted id) start now
+    → heeds ≡ true → IsId file wanted.table wanted.given id
     → GrowsBy now.written.sink new.sink now.held
     → GetsNext now.unheard unheard now.written.losses new.losses (numbers_line now.saved)
     → HasBegun file wanted start.faults now.faults start.written.sink new.sink
     (told_of heeds wanted.table start.written new before after).ended
-numbers_stop {file = file} {wanted = wanted} {id = id} {n = n} {start = start} {now = now} new heeds unheard before
-    after made heeded is found sent next =
-    let met : PagesDone n (wanted_work file wanted id) start now =
-    subst (λ (w : Work). PagesDone n w start now) is made in
+numbers_stop {wanted = wanted} {id = id} {start = start} {now = now} new heeds unheard before after met heeded found
+    sent next =
     let at = met_now met in
     record {
       id = id;
@@ -280,17 +258,15 @@ numbers_stop {file = file} {wanted = wanted} {id = id} {n = n} {start = start} {
     }
 
 -- all was written
-pub all_saved : {file : List ℕ} {wanted : Wanted} {id n : ℕ} {work : Work} {start : Start} {now : Progress}
-    (new : Written) (heeds unheard : Bool) (before after : ℕ) → PagesDone n work start now
-    → (unheard ≡ true → Rose before after) → (heeds ≡ true → unheard ≡ false) → work ≡ wanted_work file wanted id
+pub all_saved : {file : List ℕ} {wanted : Wanted} {id n : ℕ} {start : Start} {now : Progress}
+    (new : Written) (heeds unheard : Bool) (before after : ℕ) → PagesDone n (wanted_work file wanted id) start now
+    → (unheard ≡ true → Rose before after) → (heeds ≡ true → unheard ≡ false)
     → IsId file wanted.table wanted.given id → n ≡ reach_of file → GrowsBy now.written.sink new.sink now.held
     → GetsNext now.unheard unheard now.written.losses new.losses (numbers_line now.saved)
     → HasSaved file wanted start.faults now.faults now.saved start.written.sink new.sink
     (told_of heeds wanted.table start.written new before after).all
-all_saved {file = file} {wanted = wanted} {id = id} {n = n} {start = start} {now = now} new heeds unheard before after
-    made rose heard is found all sent next =
-    let met : PagesDone n (wanted_work file wanted id) start now =
-    subst (λ (w : Work). PagesDone n w start now) is made in
+all_saved {wanted = wanted} {id = id} {start = start} {now = now} new heeds unheard before after met rose heard found
+    all sent next =
     let at = met_now met in
     record {
       id = id;
@@ -355,6 +331,26 @@ module _ {S O E : Type 0} (g : FileOf S) (o : SinkOf O) (e : SinkOf E) where
     unwritten = λ is. absurd (over.memory (same_err Saved (Unit {0}) stop Memory is));
     changed = λ fault is. over.changed fault (same_err Saved (Unit {0}) stop (Changed fault) is);
     asked = over.asked;
+  }
+
+  -- where the source alone was asked before
+  pub over_since : {old middle new : S} {sink sink_now : O} {losses losses_now : E} {first steps last : ℕ}
+      {result : Result Saved SalvageStop} → g.content middle ≡ g.content old → g.faults old ≤ g.faults middle
+      → AsksNoMore g old middle first steps
+      → SalvagesOver g o e middle new sink sink_now losses losses_now steps last result
+      → SalvagesOver g o e old new sink sink_now losses losses_now first last result
+  over_since same later asked over = record {
+    same = over.same ∙ same;
+    source_later = omega (arith, later, over.source_later);
+    sink_later = over.sink_later;
+    losses_later = over.losses_later;
+    source_rose = λ is. let rose = over.source_rose is in omega (arith, rose, later);
+    sink_rose = over.sink_rose;
+    losses_rose = over.losses_rose;
+    rootless = over.rootless;
+    unwritten = over.unwritten;
+    changed = over.changed;
+    asked = omega (arith, asked, over.asked);
   }
 
   -- what was held back wasn't put

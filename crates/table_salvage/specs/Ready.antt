@@ -1,10 +1,11 @@
 -- What has to fit together before a part of a salvage: the source, what is looked for, the room and the page in hand.
-use Rattle.std.specs.Prelude.{◌≡◌, ◌+◌, ◌*◌, ◌<◌, ◌≤◌, ℕ, true, List, length}
+use Rattle.std.specs.Prelude.{◌≡◌, ◌+◌, ◌*◌, ◌<◌, ◌≤◌, ℕ, Bool, true, false, List, [], length, replicate}
 use Rattle.page_source.specs.declared.objects.PageSource.{Ghosts as FileOf}
 use Rattle.page_source.specs.Pages.{page_of}
 use Rattle.page_source.specs.Calls.{OfFile}
 use Rattle.compact_record.specs.Reading.{IsHeapOrigin, IsSpelled, record_end}
 use Rattle.schema_text.specs.IndexFields.{leaf_fields}
+use Rattle.leaf_salvage.specs.Known.{Knows}
 use Rattle.salvage_model.specs.declared.kind.RecordKind.{RecordKind}
 use Rattle.salvage_model.specs.declared.saved.Saved.{Saved}
 use Rattle.salvage_model.specs.Records.{first_place, list_length, origin_of, is_of}
@@ -22,6 +23,14 @@ pub record IsReady {S : Type 0} (g : FileOf S) (source : S) (search : Search) (r
   pub fields : search.fields ≡ leaf_fields search.schema.now 0
   pub keys : search.fields.keys ≤ length search.fields.fields
   pub scratch : length search.fields.fields ≤ room.scratch
+
+-- nothing was done yet in the room, which has a mark for each of so many pages
+pub record IsNew (pages : ℕ) (room : Room) : Type 0 where
+  pub knows : (file : List ℕ) (missed : ℕ → Bool) → Knows file missed 0 room.descriptors
+  pub marks : room.marks ≡ replicate pages false
+  pub held : room.buffer.bytes ≡ []
+  pub saved : room.saved ≡ record { rows = 0; partial = 0; leaves = 0; lost = 0 }
+  pub heard : room.unheard ≡ false
 
 -- the page in hand is page n of the file
 pub record IsInHand {S : Type 0} (g : FileOf S) (source : S) (search : Search) (room : Room) (n : ℕ) : Type 0 where

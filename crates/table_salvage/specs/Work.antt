@@ -2,7 +2,7 @@
 -- weren't
 -- asked for: all holds of each job whose missed pages are those that were met.
 use Rattle.std.specs.Prelude.{◌≡◌, ◌+◌, ◌-◌, ◌<◌, ◌≤◌, ℕ, Bool, true, List, [], ◌∷◌, ◌++◌, length, map, filter}
-use Rattle.std.specs.Prelude.{slice_index_or, Result, Ok, Err}
+use Rattle.std.specs.Prelude.{slice_index_or, Option, Result, Ok, Err}
 use Rattle.std.specs.List.{range_with_len}
 use Rattle.page_source.specs.declared.objects.PageSource.{Ghosts as FileOf}
 use Rattle.page_source.specs.declared.objects.ByteSink.{Ghosts as SinkOf}
@@ -24,7 +24,7 @@ use Rattle.salvage_model.specs.Outcome.{AreSavedRows}
 use Rattle.salvage_model.specs.Saved.{AreFirst, text_of, numbers_of}
 use Rattle.salvage_model.specs.LongRow.{EndsInLongRow}
 use Rattle.salvage_model.specs.Report.{losses_of}
-use Rattle.salvage_model.specs.Salvage.{Missed, Written, HaveCause}
+use Rattle.salvage_model.specs.Salvage.{Wanted, Missed, Written, HaveCause}
 use Rattle.table_salvage.specs.Heard.{HasGot}
 use Rattle.table_salvage.specs.declared.search.Search.{Search}
 use Rattle.table_salvage.specs.declared.room.Room.{Room}
@@ -158,6 +158,10 @@ GoesOn (Err (Changed fault)) Next Off InRow = ⊥
 abbrev pub work_of : List ℕ → Search → Work
 work_of file search =
     record { file = file; table = search.schema.now; kind = search.kind; id = search.id }
+
+-- what a search looks for, with the id that was given, if one was
+abbrev pub wanted_of : Search → Option ℕ → Wanted
+wanted_of search given = record { table = search.schema.now; kind = search.kind; given = given }
 
 -- how far the objects and the room have come
 abbrev pub progress_of : {S O E : Type 0} → FileOf S → SinkOf O → SinkOf E → S × O × E → Room → Progress

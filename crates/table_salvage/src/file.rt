@@ -1,14 +1,17 @@
 //! The records of a whole file.
 
-ghost use Rattle.std.specs.Prelude.{◌≡◌, ◌≢◌, true, false, Err};
+ghost use Rattle.std.specs.Prelude.{◌≡◌, ◌≢◌, ◌+◌, ◌*◌, ◌≤◌, true, false, Err};
 ghost use Rattle.std.specs.Bool.{MatchBool};
 ghost use Rattle.page_source.specs.Calls.{OfFile};
 ghost use Rattle.table_check.specs.First.{TakesSteps, AsksAtMost};
 ghost use Rattle.salvage_model.specs.declared.stop.SalvageStop.{SalvageStop};
-ghost use Rattle.salvage_model.specs.Causes.{counts_of};
-ghost use Rattle.salvage_model.specs.Salvage.{Written, Salvages, SalvagesRegardless, SalvagesBy, SalvagesOver};
+ghost use Rattle.salvage_model.specs.Causes.{Counts, counts_of};
+ghost use Rattle.salvage_model.specs.IndexId.{IsId};
+ghost use Rattle.salvage_model.specs.Salvage.{Salvages, SalvagesRegardless, SalvagesOver};
 ghost use Rattle.salvage_model.specs.Salvage.{salvage_steps};
-ghost use Rattle.table_salvage.specs.Heard.{told_of};
+ghost use Rattle.table_salvage.specs.Heard.{SalvagesHeeding};
+ghost use Rattle.table_salvage.specs.Ready.{IsReady, IsNew};
+ghost use Rattle.table_salvage.specs.Work.{wanted_of};
 
 use crate::index_id::clustered_id;
 use crate::page::save_page;
@@ -16,7 +19,7 @@ use crate::report::report_numbers;
 use crate::room::Room;
 use crate::search::Search;
 use leaf_salvage::MOST_PAGES;
-use page_source::{ByteSink, PageSource, Steps};
+use page_source::{ByteSink, Page, PageSource, Steps};
 use salvage_model::{RecordKind, SalvageStop, Saved};
 use schema_text::Schema;
 use std::alloc::Global;
@@ -107,11 +110,10 @@ fn save_file<S: PageSource, O: ByteSink, E: ByteSink, L: Ledger>(
     steps: &mut Steps<L>,
 ) -> Result<Saved, SalvageStop>
     ensures told { OfFile S.PageSource source.old (λ file.
-        let old : Written = record { sink = O.written sink.old; losses = E.written losses.old } in
-        let new : Written = record { sink = O.written sink.new; losses = E.written losses.new } in
-        SalvagesBy (told_of wish.heeds schema.now old new (E.faults losses.old) (E.faults losses.new)) file
+        SalvagesHeeding O.ByteSink E.ByteSink wish.heeds file
         (record { table = schema.now; kind = wish.kind; given = wish.index })
-        (counts_of S.PageSource source.old) (counts_of S.PageSource source.new) result old new) }
+        (counts_of S.PageSource source.old) (counts_of S.PageSource source.new) result
+        (sink.old, losses.old) (sink.new, losses.new)) }
     ensures over { SalvagesOver S.PageSource O.ByteSink E.ByteSink source.old source.new sink.old sink.new
         losses.old losses.new steps.old steps.new result }
     ensures heeded { result ≡ Err SalvageStop.Losses → wish.heeds ≡ true }
@@ -122,11 +124,38 @@ fn save_file<S: PageSource, O: ByteSink, E: ByteSink, L: Ledger>(
         return Err(SalvageStop::Source);
     };
     let pages = count.min(MOST_PAGES);
-    let mut room = Room::new(alloc, schema, pages)?;
-    let id = clustered_id(source, schema, pages, wish.index, &mut room.page, steps)?;
+    let mut page = Page::zeroed(alloc)?;
+    let id = clustered_id(source, schema, pages, wish.index, &mut page, steps)?;
     let search = Search::new(alloc, schema, wish.kind, id, pages)?;
-    for n in 0..pages {
-        save_page(&mut room, &search, source, sink, losses, n, steps)?;
+    let mut room = Room::new(alloc, schema, page, pages)?;
+    save_pages(&mut room, &search, source, wish, sink, losses, steps)
+}
+
+/// Goes through the file in a room in which nothing was done yet. The room is lent, since it has many parts, and at
+/// each end of a function all that it owns is given back.
+fn save_pages<S: PageSource, O: ByteSink, E: ByteSink, L: Ledger>(
+    room: &mut Room,
+    search: &Search,
+    source: &mut S,
+    wish: Wish,
+    sink: &mut O,
+    losses: &mut E,
+    steps: &mut Steps<L>,
+) -> Result<Saved, SalvageStop>
+    requires ready { IsReady S.PageSource source.old search.now room.old }
+    requires new { IsNew search.now.pages room.old }
+    requires found { OfFile S.PageSource source.old (λ file.
+        IsId file search.now.schema.now wish.index search.now.id) }
+    ensures told { OfFile S.PageSource source.old (λ file. (before : Counts) → before.faults ≤ S.faults source.old
+        → SalvagesHeeding O.ByteSink E.ByteSink wish.heeds file (wanted_of search.now wish.index) before
+        (counts_of S.PageSource source.new) result (sink.old, losses.old) (sink.new, losses.new)) }
+    ensures over { SalvagesOver S.PageSource O.ByteSink E.ByteSink source.old source.new sink.old sink.new
+        losses.old losses.new steps.old steps.new result }
+    ensures heeded { result ≡ Err SalvageStop.Losses → wish.heeds ≡ true }
+    ensures cost { steps.new ≤ steps.old + 3 * search.now.pages }
+{
+    for n in 0..search.pages {
+        save_page(room, search, source, sink, losses, n, steps)?;
         if ends(wish.heeds, room.unheard) {
             return Err(SalvageStop::Losses);
         }

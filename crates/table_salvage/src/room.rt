@@ -2,6 +2,7 @@
 
 ghost use Rattle.std.specs.Prelude.{◌≡◌, ℕ, Bool, List, [], false, replicate, length, IfOk};
 ghost use Rattle.leaf_salvage.specs.Known.{Knows};
+ghost use Rattle.table_salvage.specs.Ready.{IsNew};
 
 use index_page::Scratch;
 use leaf_salvage::Descriptors;
@@ -59,21 +60,19 @@ fn line_room(alloc: Global, schema: &Schema) -> Result<(Buffer, ColumnLosses), N
 }
 
 impl<'a> Room<'a> {
-    /// The room for a table, in a file of which so many pages are looked at.
-    pub fn new(alloc: Global, schema: &'a Schema, pages: u32) -> Result<Room<'a>, NoMemory>
-        ensures knows { IfOk result (λ room. (file : List ℕ) (missed : ℕ → Bool)
-            → Knows file missed 0 room.descriptors) }
+    /// The room for a table, in a file of which so many pages are looked at, with a page to read them into.
+    pub fn new(
+        alloc: Global,
+        schema: &'a Schema,
+        page: Page,
+        pages: u32,
+    ) -> Result<Room<'a>, NoMemory>
+        ensures new { IfOk result (λ room. IsNew pages room) }
         ensures reader { IfOk result (λ room. room.reader.table ≡ schema.now) }
         ensures scratch { IfOk result (λ room. room.scratch ≡ 128) }
-        ensures marks { IfOk result (λ room. room.marks ≡ replicate pages false) }
-        ensures buffer { IfOk result (λ room. room.buffer.bytes ≡ []) }
         ensures losses { IfOk result (λ room. length room.losses ≡ length schema.now.columns) }
-        ensures saved { IfOk result (λ room.
-            room.saved ≡ record { rows = 0; partial = 0; leaves = 0; lost = 0 }) }
-        ensures heard { IfOk result (λ room. room.unheard ≡ false) }
     {
         // what has most parts comes last, since at each `?` all that is in hand is given back
-        let page = Page::zeroed(alloc)?;
         let lines = line_room(alloc, schema)?;
         let chains = ChainRoom::new(alloc, 0)?;
         let met = page_room(alloc, pages)?;
