@@ -4,7 +4,7 @@ use super::command::{Command, concat, expect};
 use super::failing::{DUMPED, Object, expect_part};
 use super::files::ALL;
 use itoa::Buffer;
-use page_source::{ByteList, NoMemory, PageSource};
+use page_source::{ByteList, NoMemory, PageSource, SparsePages};
 use std::alloc::Global;
 use std::process::Abort;
 use std::test::Fail;
@@ -29,19 +29,23 @@ fn expect_over<F: PageSource>(
     command: Command,
     want: &[u8],
 ) -> Result<(), Fail> {
-    let (status, outputs) = command.run_over(alloc, file)?;
-    let found = outputs.answer(alloc, status)?;
+    let found = command.answer_over(alloc, file)?;
     assert_eq!(rt; found.bytes(), want);
     Ok(())
+}
+
+/// The target of a build of these lines. Fails the test where the build answers something else.
+fn built(rt: &impl Abort, alloc: Global, lines: &[u8], want: &str) -> Result<SparsePages, Fail> {
+    let (status, outputs) = Command::build(lines).run(alloc)?;
+    let found = outputs.answer(alloc, status)?;
+    assert_eq!(rt; found.bytes(), want.as_bytes());
+    Ok(outputs.into_file(alloc)?)
 }
 
 #[test]
 fn builds_what_dumps_as_it_was(rt: HostRuntime) -> Result<(), Fail> {
     let alloc = rt.alloc();
-    let (status, outputs) = Command::build(DUMPED.as_bytes()).run(alloc)?;
-    let found = outputs.answer(alloc, status)?;
-    assert_eq!(rt; found.bytes(), ANSWERED.as_bytes());
-    let mut file = outputs.into_file(alloc)?;
+    let mut file = built(&rt, alloc, DUMPED.as_bytes(), ANSWERED)?;
     expect_over(
         &rt,
         alloc,
@@ -125,25 +129,27 @@ fn lines_up_to(alloc: Global, count: u32) -> Result<ByteList, NoMemory> {
     Ok(lines)
 }
 
-/// What a dump of these lines answers.
-fn dumped(alloc: Global, lines: &[u8]) -> Result<ByteList, NoMemory> {
-    concat(alloc, &[b"0|", lines, b"|"])
+/// Fails the test where a dump of the file answers other lines.
+fn expect_lines(
+    rt: &impl Abort,
+    alloc: Global,
+    file: &mut SparsePages,
+    lines: &[u8],
+) -> Result<(), Fail> {
+    let dump = Command {
+        room: 100_000,
+        ..Command::dump(b"")
+    };
+    let want = concat(alloc, &[b"0|", lines, b"|"])?;
+    expect_over(rt, alloc, file, dump, want.bytes())
 }
 
 #[test]
 fn builds_three_thousand_rows(rt: HostRuntime) -> Result<(), Fail> {
     let alloc = rt.alloc();
     let lines = lines_up_to(alloc, 3_000)?;
-    let (status, outputs) = Command::build(lines.bytes()).run(alloc)?;
-    let found = outputs.answer(alloc, status)?;
-    assert_eq!(rt; found.bytes(), "0|pages=64 rows=3000\n|".as_bytes());
-    let mut file = outputs.into_file(alloc)?;
+    let mut file = built(&rt, alloc, lines.bytes(), "0|pages=64 rows=3000\n|")?;
     let checked = b"0|pages=64 used=9 rows=3000 deleted=0 unreached=0\n|";
     expect_over(&rt, alloc, &mut file, Command::check(b""), checked)?;
-    let dump = Command {
-        room: 100_000,
-        ..Command::dump(b"")
-    };
-    let want = dumped(alloc, lines.bytes())?;
-    expect_over(&rt, alloc, &mut file, dump, want.bytes())
+    expect_lines(&rt, alloc, &mut file, lines.bytes())
 }

@@ -119,6 +119,16 @@ impl<'a> Command<'a> {
         outputs.answer(alloc, status)
     }
 
+    /// The same over a file of any kind, in the place of its own.
+    pub fn answer_over<F: PageSource>(
+        &self,
+        alloc: Global,
+        file: &mut F,
+    ) -> Result<ByteList, NoMemory> {
+        let (status, outputs) = self.run_over(alloc, file)?;
+        outputs.answer(alloc, status)
+    }
+
     fn texts(&self, alloc: Global) -> Result<Texts, NoMemory> {
         let schema = bytes_of(alloc, self.schema, self.schema_fails)?;
         let rows = bytes_of(alloc, self.rows, self.rows_fails)?;
